@@ -1,0 +1,52 @@
+//! Programs: inputs, and then statements.
+
+use crate::expression::Expression;
+use crate::statement::Statement;
+
+/// A name, and the place of its first byte.
+#[derive(Debug, Drop)]
+pub struct Name {
+    pub at: usize,
+    pub text: Vec<u8>,
+}
+
+/// `[ number ]`, with the number's place
+#[derive(Clone, Copy, Debug)]
+pub struct Dimension {
+    pub at: usize,
+    pub size: u32,
+}
+
+/// The dimensions of an input.
+#[derive(Clone, Copy, Debug)]
+pub enum Dimensions {
+    Scalar,
+    Vector(Dimension),
+    Matrix(Dimension, Dimension),
+}
+
+/// `input NAME ;`, with at most two dimensions before the `;`
+#[derive(Debug, Drop)]
+pub struct Input {
+    pub at: usize,
+    pub name: Name,
+    pub dimensions: Dimensions,
+}
+
+/// A statement of the top level, where outputs stand too.
+#[derive(Debug, Drop)]
+pub enum TopStatement {
+    /// `output e ;`, with the place of the word `output`
+    Output { at: usize, value: Expression },
+    /// Any other statement.
+    Inner(Statement),
+}
+
+/// The inputs, and then the statements of the top level.
+#[derive(Debug, Drop)]
+pub struct Program {
+    pub inputs: Vec<Input>,
+    pub statements: Vec<TopStatement>,
+    /// The length of the text.
+    pub end: usize,
+}

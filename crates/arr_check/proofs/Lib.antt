@@ -1,0 +1,8 @@
+pub mod Answered
+pub mod Entries
+pub mod ExpressionRows
+pub mod IndexRows
+pub mod InputNodes
+pub mod Inserted
+pub mod Places
+pub mod StatementRows

@@ -1,0 +1,12 @@
+pub mod Agrees
+pub mod Bounds
+pub mod Counting
+pub mod Element
+pub mod Entries
+pub mod Expression
+pub mod Index
+pub mod Places
+pub mod Program
+pub mod Scope
+pub mod Shape
+pub mod Statement

@@ -1,0 +1,13 @@
+//! Laws of the run over shapes, each a function that does nothing and ensures the law.
+ghost use Rattle.std.specs.Prelude.{◌≡◌, ℕ};
+ghost use Rattle.arr_ast.specs.ExpressionTree.{NameTree};
+ghost use Rattle.arr_ast.specs.IndexTree.{Sum};
+ghost use Rattle.arr_check.specs.Agrees.{Answer};
+ghost use Rattle.arr_check.specs.Statement.{counted_loop, loop_in_order};
+ghost use Rattle.arr_check.specs.declared.run.Run.{Run};
+
+/// A loop of LO..HI runs its body HI - LO times, with its variable at LO, LO + 1 and so on up to HI - 1, in this order.
+pub fn turns_in_order()
+    ensures { (at : ℕ) (name : NameTree) (low high : Sum) (body : Run → Answer Run) (run : Run) →
+        counted_loop at name low high body run ≡ loop_in_order at name low high body run }
+{}

@@ -1,0 +1,5 @@
+use Rattle.arr_eval.proofs.NumberLaws.{sum_of-append}
+use Rattle.arr_eval.proofs.laws.sum_in_parts.Goals as goal
+
+pub returns : goal.returns
+returns c = sum_of-append

@@ -1,0 +1,5 @@
+use Rattle.arr_eval.proofs.NumberLaws.{transpose_at}
+use Rattle.arr_eval.proofs.laws.transpose_element.Goals as goal
+
+pub returns : goal.returns
+returns c = transpose_at

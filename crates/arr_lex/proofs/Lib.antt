@@ -1,0 +1,4 @@
+pub mod Later
+pub mod Passed
+pub mod Runs
+pub mod Spaces

@@ -1,0 +1,4 @@
+pub mod Agrees
+pub mod Byte
+pub mod Lexing
+pub mod Moved

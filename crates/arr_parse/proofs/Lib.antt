@@ -1,0 +1,10 @@
+pub mod Due
+pub mod IndexRows
+pub mod Loop
+pub mod OneExpression
+pub mod OneProgram
+pub mod OneTree
+pub mod Rows
+pub mod StatementRows
+pub mod Symbols
+pub mod Unplaced

@@ -1,0 +1,38 @@
+//! Laws of the grammar's definitions, each a function that does nothing and ensures the law.
+ghost use Rattle.std.specs.Prelude.{◌≡◌, ℕ, List, map, is_some};
+ghost use Rattle.arr_ast.specs.IndexTree.{Sum};
+ghost use Rattle.arr_ast.specs.ProgramTree.{ProgramTree};
+ghost use Rattle.arr_lex.specs.declared.token.Token.{Token};
+ghost use Rattle.arr_parse.specs.Grammar.{Part};
+ghost use Rattle.arr_parse.specs.IndexSpelling.{sum_marks};
+ghost use Rattle.arr_parse.specs.Parsed.{IsTreeOf};
+ghost use Rattle.arr_parse.specs.ProgramSpelling.{program_marks};
+ghost use Rattle.arr_parse.specs.Reading.{refusal};
+ghost use Rattle.arr_parse.specs.Unplaced.{SameWords, unplaced};
+
+/// No two trees of index expressions have one spelling.
+pub fn one_index_tree()
+    ensures { (a b : Sum) → sum_marks a ≡ sum_marks b → a ≡ b }
+{}
+
+/// No two trees of programs have one spelling and one length.
+pub fn one_program_tree()
+    ensures { (a b : ProgramTree) → program_marks a ≡ program_marks b → a.end ≡ b.end → a ≡ b }
+{}
+
+/// A text's tokens have at most one tree.
+pub fn one_tree()
+    ensures { (text : List ℕ) (tokens : List Token) (a b : ProgramTree) → IsTreeOf text tokens a → IsTreeOf text tokens b → a ≡ b }
+{}
+
+/// Texts whose tokens are the same words in the same order have the same tree, but for places.
+pub fn one_tree_of_words()
+    ensures { (text other : List ℕ) (tokens others : List Token) (a b : ProgramTree) → SameWords text tokens other others →
+        IsTreeOf text tokens a → IsTreeOf other others b → unplaced a ≡ unplaced b }
+{}
+
+/// Whether a text is refused is decided by its tokens' symbols, wherever they stand.
+pub fn refused_by_symbols()
+    ensures { (end other_end : ℕ) (due : List Part) (tokens others : List Token) → map (λ token. token.symbol) tokens ≡ map (λ token. token.symbol) others →
+        is_some (refusal end due tokens) ≡ is_some (refusal other_end due others) }
+{}

@@ -1,0 +1,27 @@
+//! From the tokens of a program to its tree, for the array language.
+//!
+//! The grammar is predictive: the next token decides which row of the part that is due is taken. `*` binds tighter than `+` and
+//! `-`, and both join from the left. An open bracket and a unary `-` whose operand isn't ended are one level each; more than 64
+//! levels are refused, so no call here, and no drop of a tree, recurses deeper than a small multiple of that.
+//! The tree is the only one whose spelling is the tokens, and the first refusal is the one that reading from the left gives:
+//! `specs/Reading.antt` says how, `laws` says that a text has at most one tree, which depends on places in nothing but places.
+//!
+//! `output 1 + 2 * 3;` is an output of a sum whose second term is a product.
+#![tactic(auto)]
+
+mod expression;
+mod index;
+mod indices;
+mod input;
+pub mod laws;
+mod levels;
+mod name;
+mod program;
+mod refused;
+mod signs;
+mod statement;
+#[cfg(test)]
+mod tests;
+
+pub use program::parse;
+pub use refused::ParseRefused;

@@ -1,0 +1,197 @@
+//! Statements, and the blocks of loops.
+
+ghost use Rattle.std.specs.Prelude.{◌≡◌, ℕ, ◌≤◌, List, [], ◌∷◌, ◌++◌, length, IfOk, flat_map};
+ghost use Rattle.arr_lex.specs.declared.token.Symbol.TheVariants.{In, Range, Equals, Semicolon, OpenCurly, CloseCurly, For as ForWord};
+ghost use Rattle.arr_parse.specs.Mark.{Separator};
+ghost use Rattle.arr_parse.specs.IndexSpelling.{name_spelling, maybe_indices_spelling};
+ghost use Rattle.arr_parse.specs.Spelling.{expression_spelling};
+ghost use Rattle.arr_parse.specs.ProgramSpelling.{statement_spelling};
+ghost use Rattle.arr_parse.specs.Grammar.{Part, The, AName, AnExpression, AnIndex, AStatement, Statements, Block};
+ghost use Rattle.arr_parse.specs.Reading.{levels as levels_of, refusal};
+ghost use Rattle.arr_parse.specs.Parsed.{IsSpelled, IsSpelledUpTo, Agrees};
+
+use crate::expression::expression;
+use crate::index::index_expression;
+use crate::indices::maybe_indices;
+use crate::levels::level_behind;
+use crate::name::{declared_name, name_of};
+use crate::refused::ParseRefused;
+use crate::signs::{begins_statement, behind};
+use arr_ast::{Expression, Indices, Name, Statement};
+use arr_lex::{Symbol, Token};
+use std::alloc::Global;
+
+/// The statement that the tokens begin with, and the tokens behind it.
+#[cycle(statement)]
+#[tactic(auto, using(crate::proofs::StatementRows::of_statements))]
+pub fn statement<'t>(
+    alloc: Global,
+    text: &[u8],
+    tokens: &'t [Token],
+    levels: usize,
+) -> Result<(Statement, &'t [Token]), ParseRefused>
+    requires { levels ≤ 64 }
+    ensures spelled { IfOk result (λ found. IsSpelled text.now tokens.now (statement_spelling found.0) found.1.now) }
+    ensures exact { (due : List Part) → levels_of due ≡ levels →
+        Agrees (λ found. refusal (length text.now) due found.1.now) result (refusal (length text.now) (AStatement ∷ due) tokens.now) }
+{
+    let Some((token, rest)) = tokens.split_first() else {
+        return Err(ParseRefused::Syntax { at: text.len() });
+    };
+    let at = token.start;
+    match token.symbol {
+        Symbol::Let => {
+            let (name, rest) = declared_name(alloc, text, rest)?;
+            let (value, rest) = assigned_value(alloc, text, rest, levels)?;
+            Ok((Statement::Let { at, name, value }, rest))
+        }
+        Symbol::Name => {
+            let name = name_of(alloc, text, token)?;
+            let (indices, rest) = maybe_indices(alloc, text, rest, levels)?;
+            let (value, rest) = assigned_value(alloc, text, rest, levels)?;
+            Ok((assignment(name, indices, value), rest))
+        }
+        Symbol::For => counted_loop(alloc, text, token, rest, levels),
+        _ => Err(ParseRefused::Syntax { at }),
+    }
+}
+
+// An assignment to a name, or to its element at the indices.
+fn assignment(name: Name, indices: Option<Indices>, value: Expression) -> Statement
+    ensures { statement_spelling result ≡ name_spelling name ++ (maybe_indices_spelling indices
+        ++ (Separator Equals ∷ (expression_spelling value ++ Separator Semicolon ∷ []))) }
+{
+    match indices {
+        None => Statement::Set { name, value },
+        Some(indices) => Statement::SetElement {
+            name,
+            indices,
+            value,
+        },
+    }
+}
+
+// `= e ;`
+fn assigned_value<'t>(
+    alloc: Global,
+    text: &[u8],
+    tokens: &'t [Token],
+    levels: usize,
+) -> Result<(Expression, &'t [Token]), ParseRefused>
+    requires { levels ≤ 64 }
+    ensures spelled { IfOk result (λ found. IsSpelled text.now tokens.now
+        (Separator Equals ∷ (expression_spelling found.0 ++ Separator Semicolon ∷ [])) found.1.now) }
+    ensures exact { (due : List Part) → levels_of due ≡ levels →
+        Agrees (λ found. refusal (length text.now) due found.1.now) result
+        (refusal (length text.now) (The Equals ∷ AnExpression ∷ The Semicolon ∷ due) tokens.now) }
+{
+    let rest = behind(text, tokens, Symbol::Equals)?;
+    ended_value(alloc, text, rest, levels)
+}
+
+/// `e ;`
+#[tactic(auto, using(crate::proofs::Rows::of_expressions))]
+pub fn ended_value<'t>(
+    alloc: Global,
+    text: &[u8],
+    tokens: &'t [Token],
+    levels: usize,
+) -> Result<(Expression, &'t [Token]), ParseRefused>
+    requires { levels ≤ 64 }
+    ensures spelled { IfOk result (λ found. IsSpelled text.now tokens.now
+        (expression_spelling found.0 ++ Separator Semicolon ∷ []) found.1.now) }
+    ensures exact { (due : List Part) → levels_of due ≡ levels →
+        Agrees (λ found. refusal (length text.now) due found.1.now) result
+        (refusal (length text.now) (AnExpression ∷ The Semicolon ∷ due) tokens.now) }
+{
+    let (value, rest) = expression(alloc, text, tokens, levels)?;
+    let rest = behind(text, rest, Symbol::Semicolon)?;
+    Ok((value, rest))
+}
+
+// A loop, behind its word.
+#[cycle(statement)]
+#[tactic(auto, using(crate::proofs::StatementRows::of_statements))]
+fn counted_loop<'t>(
+    alloc: Global,
+    text: &[u8],
+    word: &Token,
+    tokens: &'t [Token],
+    levels: usize,
+) -> Result<(Statement, &'t [Token]), ParseRefused>
+    requires word { word.now.symbol ≡ ForWord }
+    requires within { levels ≤ 64 }
+    ensures spelled { IfOk result (λ found. IsSpelled text.now (word.now ∷ tokens.now) (statement_spelling found.0) found.1.now) }
+    ensures exact { (due : List Part) → levels_of due ≡ levels →
+        Agrees (λ found. refusal (length text.now) due found.1.now) result
+        (refusal (length text.now) (AName ∷ The In ∷ AnIndex ∷ The Range ∷ AnIndex ∷ Block ∷ due) tokens.now) }
+{
+    let at = word.start;
+    let (name, rest) = declared_name(alloc, text, tokens)?;
+    let rest = behind(text, rest, Symbol::In)?;
+    let (low, rest) = index_expression(alloc, text, rest, levels)?;
+    let rest = behind(text, rest, Symbol::Range)?;
+    let (high, rest) = index_expression(alloc, text, rest, levels)?;
+    let (body, rest) = block(alloc, text, rest, levels)?;
+    let counted = Statement::For {
+        at,
+        name,
+        low,
+        high,
+        body,
+    };
+    Ok((counted, rest))
+}
+
+// The statements of a block, with its brackets.
+#[cycle(statement)]
+#[tactic(auto, using(crate::proofs::StatementRows::of_statements))]
+fn block<'t>(
+    alloc: Global,
+    text: &[u8],
+    tokens: &'t [Token],
+    levels: usize,
+) -> Result<(Vec<Statement>, &'t [Token]), ParseRefused>
+    requires { levels ≤ 64 }
+    ensures spelled { IfOk result (λ found. IsSpelled text.now tokens.now
+        (Separator OpenCurly ∷ (flat_map statement_spelling found.0.items ++ Separator CloseCurly ∷ [])) found.1.now) }
+    ensures exact { (due : List Part) → levels_of due ≡ levels →
+        Agrees (λ found. refusal (length text.now) due found.1.now) result (refusal (length text.now) (Block ∷ due) tokens.now) }
+{
+    let Some((token, rest)) = tokens.split_first() else {
+        return Err(ParseRefused::Syntax { at: text.len() });
+    };
+    match token.symbol {
+        Symbol::OpenCurly => {
+            let levels = level_behind(token, levels)?;
+            let (body, rest) = statements(alloc, text, rest, levels)?;
+            let rest = behind(text, rest, Symbol::CloseCurly)?;
+            Ok((body, rest))
+        }
+        _ => Err(ParseRefused::Syntax { at: token.start }),
+    }
+}
+
+// As many statements as there are.
+#[cycle(statement)]
+#[tactic(auto, using(crate::proofs::StatementRows::of_statements))]
+fn statements<'t>(
+    alloc: Global,
+    text: &[u8],
+    tokens: &'t [Token],
+    levels: usize,
+) -> Result<(Vec<Statement>, &'t [Token]), ParseRefused>
+    requires { levels ≤ 64 }
+    ensures spelled { IfOk result (λ found. IsSpelledUpTo text.now tokens.now (flat_map statement_spelling found.0.items) found.1.now) }
+    ensures exact { (due : List Part) → levels_of due ≡ levels →
+        Agrees (λ found. refusal (length text.now) due found.1.now) result (refusal (length text.now) (Statements ∷ due) tokens.now) }
+{
+    let mut statements = Vec::new(alloc);
+    let mut rest = tokens;
+    'each: while begins_statement(rest) {
+        let (next, behind) = statement(alloc, text, rest, levels)?;
+        statements.push(next)?;
+        rest = behind;
+    }
+    Ok((statements, rest))
+}

@@ -1,0 +1,3 @@
+mod PlacesForgotten
+mod TokensWithin
+mod WhiteSpace

@@ -1,0 +1,48 @@
+-- Taking items one after the other, as a loop does.
+use Rattle.std.proofs.Common.{◌≡◌, ℕ, suc, ◌-◌, ◌+◌, ◌≤◌, ◌<◌, List, [], ◌∷◌, ◌++◌, Ok, Err, refl, sym, ap, ◌∙◌, append_assoc, arith}
+use Rattle.std.proofs.lemmas.List.{append-nil}
+use Rattle.case_text.specs.declared.stop.ReadError.{ReadError}
+use Rattle.case_text.specs.declared.stop.ReadError.TheVariants as errors
+use Rattle.case_text.specs.Due.{Taking, ◌>>=◌, each_at}
+use Rattle.case_text.specs.Reading.{Fails}
+
+-- what was taken before, and what is still taken
+abbrev pub with_front : {A : Type 0} → List A → Taking (List A) → Taking (List A)
+with_front front taking = taking >>= λ x. Ok (front ++ x.0, x.1)
+
+pub regroup : {A : Type 0} (front : List A) (a : A) (taking : Taking (List A)) → with_front front (taking >>= λ x. Ok (a ∷ x.0, x.1)) ≡ with_front (front ++ a ∷ []) taking
+regroup {A} front a (Ok x) = ap (λ (xs : List A). Ok (xs, x.1)) (simp append_assoc)
+regroup front a (Err s) = refl
+
+pub goes_on : {A : Type 0} (item : ℕ → List ℕ → Taking A) (front : List A) (count i : ℕ) (bytes : List ℕ) (a : A) (after : List ℕ) (total : Taking (List A)) → i < count → item (count - i - 1) bytes ≡ Ok (a, after)
+    → with_front front (each_at item (count - i) bytes) ≡ total → with_front (front ++ a ∷ []) (each_at item (count - (i + 1)) after) ≡ total
+unfolding each_at
+goes_on item front count i bytes a after total lt h so_far =
+    let k : count - i ≡ suc (count - (i + 1)) = omega arith in
+    let j : count - i - 1 ≡ count - (i + 1) = omega arith in
+    let h' : item (count - (i + 1)) bytes ≡ Ok (a, after) = rw (← j) h in
+    let one : with_front front (each_at item (count - i) bytes) ≡ with_front (front ++ a ∷ []) (each_at item (count - (i + 1)) after) = rw (k, h') (regroup front a (each_at item (count - (i + 1)) after)) in
+    sym one ∙ so_far
+
+pub ends : {A : Type 0} (item : ℕ → List ℕ → Taking A) (e : ReadError) (front : List A) (count i : ℕ) (bytes : List ℕ) (total : Taking (List A)) → i < count → Fails e (item (count - i - 1) bytes)
+    → with_front front (each_at item (count - i) bytes) ≡ total → Fails e total
+unfolding each_at
+ends item errors.Memory front count i bytes total lt h so_far = tt
+ends item (errors.Stopped s) front count i bytes total lt h so_far =
+    let k : count - i ≡ suc (count - (i + 1)) = omega arith in
+    let j : count - i - 1 ≡ count - (i + 1) = omega arith in
+    let h' : item (count - (i + 1)) bytes ≡ Err s = rw (← j) h in
+    let one : with_front front (each_at item (count - i) bytes) ≡ Err s = rw (k, h') refl in
+    sym so_far ∙ one
+
+pub is_done : {A : Type 0} (item : ℕ → List ℕ → Taking A) (front : List A) (count i : ℕ) (bytes : List ℕ) (total : Taking (List A)) → count ≤ i → with_front front (each_at item (count - i) bytes) ≡ total → total ≡ Ok (front, bytes)
+unfolding each_at
+is_done {A} item front count i bytes total le so_far =
+    let k : count - i ≡ 0 = omega arith in
+    let one : with_front front (each_at item (count - i) bytes) ≡ Ok (front, bytes) = rw k (ap (λ (xs : List A). Ok (xs, bytes)) (append-nil front)) in
+    sym so_far ∙ one
+
+-- where a part fails, so do those behind it
+pub fails_on : {A B : Type 0} (e : ReadError) (r : Taking A) (f : A × List ℕ → Taking B) → Fails e r → Fails e (r >>= f)
+fails_on errors.Memory r f h = tt
+fails_on {A} (errors.Stopped s) r f h = ap (λ (t : Taking A). t >>= f) h

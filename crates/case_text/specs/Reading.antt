@@ -1,0 +1,93 @@
+-- Reading a case: its parts in order, and the place of the first byte that isn't due.
+use Rattle.std.specs.Prelude.{◌≡◌, ℕ, ◌-◌, List, [], ◌∷◌, length, codes, Result, Ok, Err}
+use Rattle.field_ext.specs.Field.{F, of}
+use Rattle.case_text.specs.declared.refusal.Kind.TheVariants.{Header, Section, Hex, Rest}
+use Rattle.case_text.specs.declared.refusal.BadCase.{BadCase}
+use Rattle.case_text.specs.declared.refusal.CaseRefused.{CaseRefused}
+use Rattle.case_text.specs.declared.refusal.CaseRefused.TheVariants as refusals
+use Rattle.case_text.specs.declared.stop.Stop.{Stop}
+use Rattle.case_text.specs.declared.stop.ReadError.{ReadError}
+use Rattle.case_text.specs.declared.stop.ReadError.TheVariants as errors
+use Rattle.case_text.specs.declared.form.Form.{Form}
+use Rattle.case_text.specs.Rules.{text_length, value_count, value_rule, proof_length}
+use Rattle.case_text.specs.Content.{Content}
+use Rattle.case_text.specs.Spelling.{header, last_line}
+use Rattle.case_text.specs.Due.{Taking, ◌>>=◌, stopped, word_at, decimal_at, bytes_at, each_at, in_order, hex_byte_at, line_at}
+
+unfoldable pub program_at : List ℕ → Taking (List ℕ)
+program_at bytes = do
+  name ← word_at Section (codes "program ") bytes
+  len ← decimal_at text_length name.1
+  program ← bytes_at len.0 len.1
+  close ← word_at Section (10 ∷ []) program.1
+  Ok (program.0, close.1)
+
+-- a value that this many follow
+abbrev pub value_at : ℕ → List ℕ → Taking F
+value_at following = in_order (decimal_at (value_rule following)) (λ n bytes. Ok (of n, bytes))
+
+abbrev pub values_at : ℕ → List ℕ → Taking (List F)
+values_at = each_at value_at
+
+unfoldable pub counted_at : List ℕ → Taking (List F)
+counted_at bytes = do
+  count ← decimal_at value_count bytes
+  values_at count.0 count.1
+
+unfoldable pub outputs_at : List ℕ → Taking (List F)
+outputs_at bytes = do
+  name ← word_at Section (codes "output ") bytes
+  counted_at name.1
+
+unfoldable pub proof_at : List ℕ → Taking (List ℕ)
+proof_at bytes = do
+  name ← word_at Section (codes "proof ") bytes
+  len ← decimal_at proof_length name.1
+  proof ← each_at hex_byte_at len.0 len.1
+  close ← word_at Hex (10 ∷ []) proof.1
+  Ok (proof.0, close.1)
+
+unfoldable pub case_at : Form → List ℕ → Taking Content
+case_at form bytes = do
+  first ← word_at Header header bytes
+  program ← program_at first.1
+  name ← word_at Section (codes "input ") program.1
+  inputs ← counted_at name.1
+  outputs ← line_at form 111 outputs_at inputs.1
+  proof ← line_at form 112 proof_at outputs.1
+  last ← word_at Section last_line proof.1
+  Ok (record { program = program.0; inputs = inputs.0; outputs = outputs.0; proof = proof.0 }, last.1)
+
+-- nothing follows
+abbrev pub at_end : {A : Type 0} → Taking A → Result A Stop
+at_end (Ok (a, [])) = Ok a
+at_end (Ok (a, b ∷ bytes)) = Err (stopped Rest (b ∷ bytes))
+at_end (Err s) = Err s
+
+-- the case that all of the bytes spell
+abbrev pub case_in : Form → List ℕ → Result Content Stop
+case_in form bytes = at_end (case_at form bytes)
+
+-- The refusal of so many bytes: how many of them the due parts take, and what was due there.
+abbrev pub refused : {A : Type 0} → ℕ → Result A Stop → Result A BadCase
+refused len (Ok a) = Ok a
+refused len (Err s) = Err (record { at = len - s.left; kind = s.kind })
+
+-- The case that bytes spell, or their refusal.
+abbrev pub reading : Form → List ℕ → Result Content BadCase
+reading form bytes = refused (length bytes) (case_in form bytes)
+
+-- What a function returned, seen by view, is what taking gives, unless memory ran out.
+abbrev pub Fails : {Y : Type 0} → ReadError → Result Y Stop → Type 0
+Fails errors.Memory taking = Unit {0}
+Fails (errors.Stopped s) taking = taking ≡ Err s
+
+abbrev pub Gives : {X Y : Type 0} → (X → Y) → Result X ReadError → Result Y Stop → Type 0
+Gives view (Ok x) taking = taking ≡ Ok (view x)
+Gives view (Err e) taking = Fails e taking
+
+-- What a call answered is what reading gives, unless memory ran out.
+abbrev pub Answers : {A : Type 0} → Result A CaseRefused → Result A BadCase → Type 0
+Answers (Ok a) given = given ≡ Ok a
+Answers (Err refusals.Memory) given = Unit {0}
+Answers (Err (refusals.Bad bad)) given = given ≡ Err bad

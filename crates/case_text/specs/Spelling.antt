@@ -1,0 +1,59 @@
+-- The text of a case.
+use Rattle.std.specs.Prelude.{◌≡◌, ℕ, List, [], ◌∷◌, ◌++◌, length, codes, decimal, Option, Some, None, IfSome}
+use Rattle.std.specs.List.{concat}
+use Rattle.field_ext.specs.Field.{F}
+use Rattle.case_text.specs.Rules.{behind_value}
+use Rattle.case_text.specs.declared.form.Form.{Form}
+use Rattle.case_text.specs.Hex.{IsHexOf}
+use Rattle.case_text.specs.Forms.{Allows}
+use Rattle.case_text.specs.Content.{Content, Fits}
+
+abbrev pub header : List ℕ
+header = codes "gkr case 1" ++ 10 ∷ []
+
+-- a decimal, and the byte behind it
+abbrev pub number : ℕ → ℕ → List ℕ
+number n close = decimal n ++ close ∷ []
+
+-- the program behind its length, each on lines of its own
+abbrev pub program_text : List ℕ → List ℕ
+program_text program = concat (codes "program " ∷ number (length program) 10 ∷ program ∷ (10 ∷ []) ∷ [])
+
+-- values, a space behind each but the last
+abbrev pub values_text : List F → List ℕ
+values_text [] = []
+values_text (v ∷ vs) = number v.value (behind_value (length vs)) ++ values_text vs
+
+-- values behind their count
+abbrev pub counted_text : List F → List ℕ
+counted_text vs = number (length vs) (behind_value (length vs)) ++ values_text vs
+
+abbrev pub last_line : List ℕ
+last_line = codes "end" ++ 10 ∷ []
+
+abbrev pub outputs_text : Option (List F) → List ℕ
+outputs_text None = []
+outputs_text (Some vs) = codes "output " ++ counted_text vs
+
+-- a proof by its hex digits, behind the count of its bytes
+abbrev pub proof_text : Option (List ℕ) → List ℕ → List ℕ
+proof_text None digits = []
+proof_text (Some proof) digits = concat (codes "proof " ∷ number (length proof) 10 ∷ digits ∷ (10 ∷ []) ∷ [])
+
+-- A text of the proof was put at the end, where there is one.
+pub record AppendsProof (old new : List ℕ) (proof : Option (List ℕ)) : Type 0 where
+  pub digits : List ℕ
+  pub hex : IfSome proof (λ bytes. IsHexOf bytes digits)
+  pub text : new ≡ old ++ proof_text proof digits
+
+abbrev pub case_text : Content → List ℕ → List ℕ
+case_text c digits = concat (header ∷ program_text c.program ∷ codes "input " ∷ counted_text c.inputs ∷ outputs_text c.outputs ∷ proof_text c.proof digits ∷ last_line ∷ [])
+
+-- These bytes are a text of the case, of this form. Only the case of the hex digits is open.
+pub record Spells (form : Form) (bytes : List ℕ) (c : Content) : Type 0 where
+  pub fits : Fits c
+  pub outputs : Allows form c.outputs
+  pub proof : Allows form c.proof
+  pub digits : List ℕ
+  pub hex : IfSome c.proof (λ proof. IsHexOf proof digits)
+  pub text : bytes ≡ case_text c digits

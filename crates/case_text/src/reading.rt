@@ -1,0 +1,189 @@
+ghost use Rattle.std.specs.Prelude.{◌≡◌, ◌≤◌, IfOk, Ok};
+ghost use Rattle.case_text.specs.Rules.{behind};
+ghost use Rattle.case_text.specs.Content.{Content, Fits};
+ghost use Rattle.case_text.specs.Spelling.{Spells};
+ghost use Rattle.case_text.specs.Due.{each_at, hex_byte_at, line_at};
+ghost use Rattle.std.specs.Option.{option_map};
+ghost use Rattle.case_text.specs.Reading.{outputs_at, proof_at, Gives, Answers, program_at, values_at, counted_at, case_at, case_in, reading};
+
+use crate::case::Case;
+use crate::form::Form;
+use crate::parts::{decimal, hex_byte, some_bytes, word};
+use crate::refusal::{BadCase, CaseRefused, Kind};
+use crate::rule::Rule;
+use crate::stop::{ReadError, stop_at};
+use field_ext::Fp;
+use std::alloc::Global;
+
+/// Takes the lines of a program.
+#[tactic(auto, unfolding(crate::specs::Reading::program_at))]
+fn program(bytes: &[u8]) -> Result<(&[u8], &[u8]), ReadError>
+    ensures { Gives (λ x. (x.0.now, x.1.now)) result (program_at bytes.now) }
+{
+    let rest = word(Kind::Section, b"program ", bytes)?;
+    let (len, rest) = decimal(Rule::text_length(), rest)?;
+    let (program, rest) = some_bytes(len, rest)?;
+    let rest = word(Kind::Section, b"\n", rest)?;
+    Ok((program, rest))
+}
+
+/// Takes this many values.
+fn values(alloc: Global, count: u32, bytes: &[u8]) -> Result<(Vec<Fp>, &[u8]), ReadError>
+    ensures { Gives (λ x. (x.0.items, x.1.now)) result (values_at count bytes.now) }
+{
+    let mut values = Vec::new(alloc);
+    let mut rest = bytes;
+    for index in 0..count {
+        let (number, after) = decimal(Rule::value(count - index - 1), rest)?;
+        values.push(Fp::reduce(u64::from(number)))?;
+        rest = after;
+    }
+    Ok((values, rest))
+}
+
+/// Takes a count and as many values.
+#[tactic(auto, unfolding(crate::specs::Reading::counted_at))]
+fn counted(alloc: Global, bytes: &[u8]) -> Result<(Vec<Fp>, &[u8]), ReadError>
+    ensures { Gives (λ x. (x.0.items, x.1.now)) result (counted_at bytes.now) }
+{
+    let (count, rest) = decimal(Rule::value_count(), bytes)?;
+    values(alloc, count, rest)
+}
+
+/// Takes the line of the outputs.
+#[tactic(auto, unfolding(crate::specs::Reading::outputs_at))]
+fn outputs(alloc: Global, bytes: &[u8]) -> Result<(Vec<Fp>, &[u8]), ReadError>
+    ensures { Gives (λ x. (x.0.items, x.1.now)) result (outputs_at bytes.now) }
+{
+    let rest = word(Kind::Section, b"output ", bytes)?;
+    counted(alloc, rest)
+}
+
+/// Takes this many bytes in hex digits.
+fn hex_bytes(alloc: Global, count: u32, bytes: &[u8]) -> Result<(Vec<u8>, &[u8]), ReadError>
+    ensures { Gives (λ x. (x.0.items, x.1.now)) result (each_at hex_byte_at count bytes.now) }
+{
+    let mut values = Vec::new(alloc);
+    let mut rest = bytes;
+    for index in 0..count {
+        let (value, after) = hex_byte(rest)?;
+        values.push(value)?;
+        rest = after;
+    }
+    Ok((values, rest))
+}
+
+/// Takes the lines of a proof.
+#[tactic(auto, unfolding(crate::specs::Reading::proof_at))]
+fn proof(alloc: Global, bytes: &[u8]) -> Result<(Vec<u8>, &[u8]), ReadError>
+    ensures { Gives (λ x. (x.0.items, x.1.now)) result (proof_at bytes.now) }
+{
+    let rest = word(Kind::Section, b"proof ", bytes)?;
+    let (len, rest) = decimal(Rule::proof_length(), rest)?;
+    let (proof, rest) = hex_bytes(alloc, len, rest)?;
+    let rest = word(Kind::Hex, b"\n", rest)?;
+    Ok((proof, rest))
+}
+
+/// Takes the line of the outputs, where it is due.
+#[tactic(auto, unfolding(crate::specs::Due::line_at, crate::specs::Due::choice_at))]
+fn outputs_of(
+    alloc: Global,
+    form: Form,
+    bytes: &[u8],
+) -> Result<(Option<Vec<Fp>>, &[u8]), ReadError>
+    ensures { Gives (λ x. (option_map (λ v. v.items) x.0, x.1.now)) result (line_at form 111 outputs_at bytes.now) }
+{
+    match (form, bytes) {
+        (Form::Plain, _) => return Ok((None, bytes)),
+        (Form::Full, _) => {}
+        (Form::Any, []) => return Err(stop_at(bytes, Kind::End)),
+        (Form::Any, [first, ..]) => {
+            if *first != b'o' {
+                return Ok((None, bytes));
+            }
+        }
+    }
+    let (outputs, rest) = outputs(alloc, bytes)?;
+    Ok((Some(outputs), rest))
+}
+
+/// Takes the lines of the proof, where they are due.
+#[tactic(auto, unfolding(crate::specs::Due::line_at, crate::specs::Due::choice_at))]
+fn proof_of(alloc: Global, form: Form, bytes: &[u8]) -> Result<(Option<Vec<u8>>, &[u8]), ReadError>
+    ensures { Gives (λ x. (option_map (λ v. v.items) x.0, x.1.now)) result (line_at form 112 proof_at bytes.now) }
+{
+    match form {
+        Form::Plain => Ok((None, bytes)),
+        Form::Full => {
+            let (proof, rest) = proof(alloc, bytes)?;
+            Ok((Some(proof), rest))
+        }
+        Form::Any => match bytes {
+            [] => Err(stop_at(bytes, Kind::End)),
+            [b'p', ..] => {
+                let (proof, rest) = proof(alloc, bytes)?;
+                Ok((Some(proof), rest))
+            }
+            _ => Ok((None, bytes)),
+        },
+    }
+}
+
+/// Takes a case.
+#[tactic(auto, unfolding(crate::specs::Reading::case_at))]
+pub fn case_of(alloc: Global, form: Form, bytes: &[u8]) -> Result<(Case, &[u8]), ReadError>
+    ensures { Gives (λ x. (x.0, x.1.now)) result (case_at form bytes.now) }
+{
+    let rest = word(Kind::Header, b"gkr case 1\n", bytes)?;
+    let (program, rest) = program(rest)?;
+    let rest = word(Kind::Section, b"input ", rest)?;
+    let (inputs, rest) = counted(alloc, rest)?;
+    let (outputs, rest) = outputs_of(alloc, form, rest)?;
+    let (proof, rest) = proof_of(alloc, form, rest)?;
+    let rest = word(Kind::Section, b"end\n", rest)?;
+    let program = Vec::from_slice(alloc, program)?;
+    Ok((Case::new(program, inputs, outputs, proof), rest))
+}
+
+/// Takes a case, behind which nothing stands.
+#[tactic(auto, using(crate::proofs::Whole::rest_follows))]
+fn whole(alloc: Global, form: Form, bytes: &[u8]) -> Result<Case, ReadError>
+    ensures { Gives (λ c. c) result (case_in form bytes.now) }
+{
+    let (case, rest) = case_of(alloc, form, bytes)?;
+    if !rest.is_empty() {
+        return Err(stop_at(rest, Kind::Rest));
+    }
+    Ok(case)
+}
+
+/// Takes a case, and tells a refusal by its place.
+fn placed(alloc: Global, form: Form, bytes: &[u8]) -> Result<Case, CaseRefused>
+    ensures { Answers result (reading form bytes.now) }
+{
+    match whole(alloc, form, bytes) {
+        Ok(case) => Ok(case),
+        Err(ReadError::Memory) => Err(CaseRefused::Memory),
+        Err(ReadError::Stopped(stop)) => Err(CaseRefused::Bad(BadCase {
+            at: bytes.len() - stop.left,
+            kind: stop.kind,
+        })),
+    }
+}
+
+/// The case of a form that all of the bytes spell, read in one pass.
+///
+/// `Bad` comes where they spell none, with the place of the first byte that isn't taken and what was due there.
+/// `Memory` comes where memory for its lists runs out.
+#[tactic(auto, using(crate::proofs::Readings::case_found, crate::proofs::Readings::case_only))]
+pub fn read_case(alloc: Global, bytes: &[u8], form: Form) -> Result<Case, CaseRefused>
+    // What is read is spelled so.
+    ensures found { IfOk result (λ c. Spells form bytes.now c) }
+    // What is spelled so is read, unless memory runs out.
+    ensures only { (c : Content) → Spells form bytes.now c → Answers result (Ok c) }
+    // Which refusal it is.
+    ensures exact { Answers result (reading form bytes.now) }
+{
+    placed(alloc, form, bytes)
+}

@@ -1,0 +1,9 @@
+pub mod Prime
+pub mod Inverse
+pub mod Elements
+pub mod Words
+pub mod KLaws
+pub mod Embedding
+pub mod ElementBytes
+pub mod Rings
+pub mod Solve

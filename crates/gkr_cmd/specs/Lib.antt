@@ -1,0 +1,4 @@
+pub mod Commands
+pub mod Reached
+pub mod Replies
+pub mod Runs

@@ -1,0 +1,51 @@
+-- What a run does with its reply.
+use Rattle.std.specs.Prelude.{◌≡◌, ℕ, List, [], Some, None, ⊤, Option, length}
+use Rattle.io_edge.specs.Written.{Grows}
+use Rattle.arr_ast.specs.ProgramTree.{ProgramTree}
+use Rattle.arr_check.specs.Program.{input_count}
+use Rattle.arr_compile.specs.Programs.{IsAccepted}
+use Rattle.case_text.specs.Content.{Content}
+use Rattle.case_text.specs.Replies.{reply_text}
+use Rattle.case_text.specs.declared.reply.Reply.{Reply}
+use Rattle.gkr_cmd.specs.declared.words.Command.{Command}
+use Rattle.gkr_cmd.specs.declared.status.Status.{Status}
+use Rattle.gkr_cmd.specs.declared.status.Status.TheVariants as statuses
+use Rattle.gkr_cmd.specs.Replies.{IsReply, status_of}
+use Rattle.gkr_cmd.specs.Reached.{WritesFront}
+
+-- What a command reads is told by the source. Words that are no command read nothing, so any input is theirs.
+abbrev pub IsInput : Option Command → Option (List ℕ) → List ℕ → Type 0
+IsInput None left input = ⊤
+IsInput (Some command) left input = left ≡ Some input
+
+-- A run that wrote its reply whole.
+abbrev pub IsReplied : Status → Type 0
+IsReplied statuses.ReadFault = ⊥
+IsReplied statuses.WriteFault = ⊥
+IsReplied statuses.Memory = ⊥
+IsReplied status = ⊤
+
+-- The run ended with the status of the reply to its words and input, and wrote that reply's text.
+pub record EndsWithReply (words : List (List ℕ)) (input : List ℕ) (ended : Status) (before after : Option (List ℕ)) : Type 0 where
+  pub reply : Reply
+  pub is_reply : IsReply words input reply
+  pub status : ended ≡ status_of reply
+  pub written : Grows before after (reply_text reply)
+
+-- The run wrote a front of the text of the reply to its words and input.
+pub record WritesReplyFront (words : List (List ℕ)) (input : List ℕ) (before after : Option (List ℕ)) : Type 0 where
+  pub reply : Reply
+  pub is_reply : IsReply words input reply
+  pub front : WritesFront before after (reply_text reply)
+
+-- What a run wrote: nothing where it has no reply, and else a front of the reply to its words and input.
+abbrev pub WritesNoMore : Status → List (List ℕ) → List ℕ → Option (List ℕ) → Option (List ℕ) → Type 0
+WritesNoMore statuses.ReadFault words input before after = Grows before after []
+WritesNoMore statuses.Memory words input before after = Grows before after []
+WritesNoMore status words input before after = WritesReplyFront words input before after
+
+-- A case whose program is accepted and which has as many inputs.
+pub record IsEvaluable (c : Content) : Type 0 where
+  pub tree : ProgramTree
+  pub accepted : IsAccepted c.program tree
+  pub counted : length c.inputs ≡ input_count tree.inputs

@@ -1,0 +1,23 @@
+//! The commands of the program: one function from the words and the input to the status and the reply.
+//!
+//! `gkr_run` reads the whole input, makes the whole reply, and then writes it. Its contract is the theorem of the
+//! program: status and bytes are the reply that the definitions give, and each other ending has its cause.
+//!
+//! ```text
+//! gkr_run(&rt, alloc, &words, &mut source, &mut sink, &OpenGate)      // Status::Done
+//! ```
+#![tactic(auto)]
+
+mod evaluation;
+mod input;
+pub mod laws;
+mod output;
+mod reply_error;
+mod replying;
+mod run;
+mod status;
+mod words;
+
+pub use run::gkr_run;
+pub use status::Status;
+pub use words::Command;

@@ -1,0 +1,60 @@
+//! Making the whole reply.
+
+ghost use Rattle.std.specs.Prelude.{◌≡◌, ◌≢◌, ◌↔◌, ◌+◌, List, ℕ, map, IsSome, IfOk, OnOk, IsErrOf, None, Some, Ok, Err, string_bytes};
+ghost use Rattle.io_edge.specs.Causes.{Rose};
+ghost use Rattle.gkr_cmd.specs.Commands.{command_of};
+ghost use Rattle.gkr_cmd.specs.Reached.{IsReadUpTo};
+ghost use Rattle.gkr_cmd.specs.Replies.{case_limit, IsCommandReply, IsReply, status_of};
+ghost use Rattle.gkr_cmd.specs.Runs.{IsInput};
+
+use crate::evaluation::evaluate;
+use crate::input::read_input;
+use crate::reply_error::ReplyError;
+use crate::status::Status;
+use crate::words::{Command, named_command};
+use case_text::Reply;
+use io_edge::Source;
+use std::alloc::Global;
+
+/// The most bytes of a case.
+const CASE_LIMIT: u32 = 4_194_304;
+
+/// The reply of a command to what it reads.
+#[tactic(auto, using(crate::proofs::Replied::too_long))]
+fn run_command<S: Source>(
+    alloc: Global,
+    command: Command,
+    source: &mut S,
+) -> Result<Reply, ReplyError>
+    ensures reply { IfOk result (λ reply. (input : List ℕ) → S.left source.old ≡ Some input → IsCommandReply (Some command) input reply) }
+    ensures named { IfOk result (λ reply. status_of reply ≢ Status.Usage) }
+    ensures read { OnOk result (IsReadUpTo (case_limit + 1) (S.left source.old) (S.left source.new)) }
+    ensures fault { IsErrOf result ReplyError.ReadFault → Rose (S.faults source.old) (S.faults source.new) }
+    ensures no_fault { result ≢ Err ReplyError.ReadFault → S.faults source.new ≡ S.faults source.old }
+{
+    let input = read_input(alloc, source, CASE_LIMIT as usize)?;
+    if input.len() > CASE_LIMIT as usize {
+        return Ok(Reply::TooLong(CASE_LIMIT));
+    }
+    match command {
+        Command::Eval => evaluate(alloc, &input),
+    }
+}
+
+/// The reply to the words, and to what their command reads.
+pub fn make_reply<S: Source>(
+    alloc: Global,
+    words: &[String],
+    source: &mut S,
+) -> Result<Reply, ReplyError>
+    ensures reply { IfOk result (λ reply. (input : List ℕ) → IsInput (command_of (map string_bytes words.now)) (S.left source.old) input → IsReply (map string_bytes words.now) input reply) }
+    ensures usage { IfOk result (λ reply. (status_of reply ≡ Status.Usage) ↔ (command_of (map string_bytes words.now) ≡ None)) }
+    ensures read { IsSome (command_of (map string_bytes words.now)) → OnOk result (IsReadUpTo (case_limit + 1) (S.left source.old) (S.left source.new)) }
+    ensures fault { IsErrOf result ReplyError.ReadFault → Rose (S.faults source.old) (S.faults source.new) }
+    ensures no_fault { result ≢ Err ReplyError.ReadFault → S.faults source.new ≡ S.faults source.old }
+{
+    match named_command(words) {
+        None => Ok(Reply::Usage),
+        Some(command) => run_command(alloc, command, source),
+    }
+}

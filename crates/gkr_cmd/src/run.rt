@@ -1,0 +1,73 @@
+//! The whole program.
+
+ghost use Rattle.std.specs.Prelude.{◌≡◌, ◌≢◌, ◌<◌, ◌↔◌, ◌+◌, List, ℕ, [], map, IsSome, Some, None, string_bytes};
+ghost use Rattle.io_edge.specs.Causes.{Rose};
+ghost use Rattle.io_edge.specs.Written.{Grows};
+ghost use Rattle.gkr_cmd.specs.Commands.{command_of};
+ghost use Rattle.gkr_cmd.specs.Reached.{IsReadUpTo};
+ghost use Rattle.gkr_cmd.specs.Replies.{case_limit, IsOfCase};
+ghost use Rattle.gkr_cmd.specs.Runs.{EndsWithReply, IsEvaluable, IsInput, IsReplied, WritesNoMore};
+
+use crate::laws::evaluable_is_done;
+use crate::output::write_output;
+use crate::reply_error::ReplyError;
+use crate::replying::make_reply;
+use crate::status::Status;
+use crate::words::Command;
+use case_text::{Form, write_reply};
+use io_edge::{Failed, Gate, Sink, Source};
+use std::alloc::Global;
+use std::sync::Wait;
+use std::thread::Threads;
+
+/// Runs the command that the words name: reads the whole input, makes the whole reply, and writes it.
+#[tactic(auto, using(crate::proofs::Replied::replied))]
+pub fn gkr_run<R: Threads + Wait, S: Source, K: Sink, G: Gate>(
+    _rt: &R,
+    alloc: Global,
+    words: &[String],
+    source: &mut S,
+    sink: &mut K,
+    _gate: &G,
+) -> Status
+    // The run ends with the status of the reply to the words and the input, and writes its text.
+    ensures answer { (input : List ℕ) → IsInput (command_of (map string_bytes words.now)) (S.left source.old) input → IsReplied result
+        → EndsWithReply (map string_bytes words.now) input result (K.written sink.old) (K.written sink.new) }
+    // Whatever happens, no more than a front of that reply was written.
+    ensures front { (input : List ℕ) → IsInput (command_of (map string_bytes words.now)) (S.left source.old) input
+        → WritesNoMore result (map string_bytes words.now) input (K.written sink.old) (K.written sink.new) }
+    // The words are refused exactly where they are no command.
+    ensures usage { IsReplied result → (result ≡ Status.Usage) ↔ (command_of (map string_bytes words.now) ≡ None) }
+    // Where a command is named, its input was read to the end or one byte past the limit.
+    ensures read { IsSome (command_of (map string_bytes words.now)) → result ≢ Status.ReadFault → result ≢ Status.Memory
+        → IsReadUpTo (case_limit + 1) (S.left source.old) (S.left source.new) }
+    // A failure of the source, only where it failed and always there.
+    ensures read_fault { result ≡ Status.ReadFault → Rose (S.faults source.old) (S.faults source.new) }
+    ensures read_failed { S.faults source.old < S.faults source.new → result ≡ Status.ReadFault }
+    ensures read_fault_unwritten { result ≡ Status.ReadFault → Grows (K.written sink.old) (K.written sink.new) [] }
+    // A failure of the sink, only where it failed and always there.
+    ensures write_fault { result ≡ Status.WriteFault → Rose (K.faults sink.old) (K.faults sink.new) }
+    ensures write_failed { K.faults sink.old < K.faults sink.new → result ≡ Status.WriteFault }
+    // Where nothing failed and memory was found, the run replied.
+    ensures complete { ¬ Rose (S.faults source.old) (S.faults source.new) → ¬ Rose (K.faults sink.old) (K.faults sink.new)
+        → result ≢ Status.Memory → IsReplied result }
+    // A case with an accepted program and as many inputs as the program needs is evaluated.
+    ensures done { (input : List ℕ) → command_of (map string_bytes words.now) ≡ Some Command.Eval → S.left source.old ≡ Some input
+        → IsOfCase Form.Plain input IsEvaluable → IsReplied result → result ≡ Status.Done }
+    // Want of memory comes before the first byte is written.
+    ensures memory_unwritten { result ≡ Status.Memory → Grows (K.written sink.old) (K.written sink.new) [] }
+{
+    evaluable_is_done();
+    let reply = match make_reply(alloc, words, source) {
+        Ok(reply) => reply,
+        Err(ReplyError::ReadFault) => return Status::ReadFault,
+        Err(ReplyError::Memory) => return Status::Memory,
+    };
+    let Ok(text) = write_reply(alloc, &reply) else {
+        return Status::Memory;
+    };
+    match write_output(sink, &text) {
+        Ok(()) => Status::of(&reply),
+        Err(Failed) => Status::WriteFault,
+    }
+}

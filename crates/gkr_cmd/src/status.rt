@@ -1,0 +1,43 @@
+//! How a run ends.
+
+ghost use Rattle.std.specs.Prelude.{◌≡◌};
+ghost use Rattle.gkr_cmd.specs.Replies.{status_of, code_of};
+
+use case_text::Reply;
+
+/// The status that a run ends with.
+#[derive(Clone, Copy, Debug, PartialEq, Eq)]
+pub enum Status {
+    Done = 0,
+    Usage = 2,
+    BadCase = 3,
+    BadProgram = 4,
+    BadCount = 5,
+    ReadFault = 7,
+    WriteFault = 8,
+    Memory = 9,
+    TooLong = 10,
+}
+
+impl Status {
+    /// The status of a reply.
+    pub fn of(reply: &Reply) -> Status
+        ensures { result ≡ status_of reply.now }
+    {
+        match reply {
+            Reply::Outputs(_) => Status::Done,
+            Reply::Usage => Status::Usage,
+            Reply::TooLong(_) => Status::TooLong,
+            Reply::Case(_) => Status::BadCase,
+            Reply::Program { .. } => Status::BadProgram,
+            Reply::InputCount { .. } => Status::BadCount,
+        }
+    }
+
+    /// As a number.
+    pub fn code(self) -> u8
+        ensures { result ≡ code_of self }
+    {
+        self as u8
+    }
+}

@@ -1,0 +1,67 @@
+ghost use Rattle.std.specs.Prelude.{◌≡◌, ◌<◌, ◌≤◌, vec_len};
+
+use crate::copying::copy_front;
+use crate::schedule::Schedule;
+use crate::{Failed, Source};
+use std::alloc::{AllocError, Global};
+
+/// A source over bytes in memory. It gives at most `piece` of them a call, and fails at the calls that it was told.
+#[derive(Drop)]
+pub struct MemorySource {
+    bytes: Vec<u8>,
+    taken: usize,
+    piece: usize,
+    schedule: Schedule,
+    ghost within: { taken ≤ vec_len bytes },
+    ghost some: { 0 < piece },
+}
+
+impl MemorySource {
+    ghost use Rattle.std.specs.Prelude.{IfOk};
+    ghost use Rattle.io_edge.specs.MemoryEnds.{unread, IsFresh};
+
+    /// A source of a copy of `bytes`. The numbers in `fails` count calls from 1. An error where no memory is left.
+    pub fn new(alloc: Global, bytes: &[u8], piece: usize, fails: &[u64]) -> Result<Self, AllocError>
+        requires { 0 < piece }
+        ensures bytes { IfOk result (λ made. unread made ≡ bytes.now) }
+        ensures piece { IfOk result (λ made. made.piece ≡ piece) }
+        ensures fails { IfOk result (λ made. IsFresh made.schedule fails.now) }
+    {
+        Ok(MemorySource {
+            bytes: Vec::from_slice(alloc, bytes)?,
+            taken: 0,
+            piece,
+            schedule: Schedule::new(alloc, fails)?,
+        })
+    }
+}
+
+impl Source for MemorySource {
+    ghost use Rattle.std.specs.Prelude.{◌↔◌, ◌-◌, length, min, drop, Some, IfOk, IsErr};
+    ghost use Rattle.std.specs.Io.{ReadsAtMost};
+    ghost use Rattle.std.specs.Io.KnownBytes.{ReadConsumes};
+    ghost use Rattle.io_edge.specs.Causes.{HasCause};
+    ghost use Rattle.io_edge.specs.MemoryEnds.{unread, FailsNow, IsNextCall};
+
+    ghost left = { λ s. Some (drop s.taken s.bytes.items) };
+
+    ghost faults = { λ s. s.schedule.faults };
+
+    fn read(&mut self, room: &mut [u8]) -> Result<usize, Failed>
+        ensures bound { ReadsAtMost result room.new }
+        ensures bytes { ReadConsumes (Some (unread self.old)) (Some (unread self.new)) result room.new }
+        ensures cause { HasCause self.old.schedule.faults self.new.schedule.faults result }
+        // It fails at the calls that it was told, and at no other.
+        ensures fails { IsErr result ↔ FailsNow self.new.schedule }
+        ensures next { IsNextCall self.old.schedule self.new.schedule }
+        ensures count { IfOk result (λ n. n ≡ min (min (length (unread self.old)) (length room.old)) self.old.piece) }
+        ensures piece { self.new.piece ≡ self.old.piece }
+    {
+        if self.schedule.next_fails() {
+            return Err(self.schedule.fault());
+        }
+        let count = copy_front(&self.bytes[self.taken..], room, self.piece);
+        self.taken += count;
+        Ok(count)
+    }
+}

@@ -1,0 +1,57 @@
+ghost use Rattle.std.specs.Prelude.{◌≡◌, ◌<◌, ◌≤◌, vec_len};
+
+use crate::copying::copy_front;
+use crate::{Failed, Source};
+use std::alloc::{AllocError, Global};
+
+/// A source over bytes in memory that never fails. It gives at most `piece` of them a call.
+#[derive(Drop)]
+pub struct SteadySource {
+    bytes: Vec<u8>,
+    taken: usize,
+    piece: usize,
+    ghost within: { taken ≤ vec_len bytes },
+    ghost some: { 0 < piece },
+}
+
+impl SteadySource {
+    ghost use Rattle.std.specs.Prelude.{IfOk};
+    ghost use Rattle.io_edge.specs.MemoryEnds.{steady_unread};
+
+    /// A source of a copy of `bytes`. An error where no memory is left.
+    pub fn new(alloc: Global, bytes: &[u8], piece: usize) -> Result<Self, AllocError>
+        requires { 0 < piece }
+        ensures bytes { IfOk result (λ made. steady_unread made ≡ bytes.now) }
+        ensures piece { IfOk result (λ made. made.piece ≡ piece) }
+    {
+        Ok(SteadySource {
+            bytes: Vec::from_slice(alloc, bytes)?,
+            taken: 0,
+            piece,
+        })
+    }
+}
+
+impl Source for SteadySource {
+    ghost use Rattle.std.specs.Prelude.{length, min, drop, Some, Ok};
+    ghost use Rattle.std.specs.Io.{ReadsAtMost};
+    ghost use Rattle.std.specs.Io.KnownBytes.{ReadConsumes};
+    ghost use Rattle.io_edge.specs.Causes.{HasCause};
+    ghost use Rattle.io_edge.specs.MemoryEnds.{steady_unread};
+
+    ghost left = { λ s. Some (drop s.taken s.bytes.items) };
+
+    ghost faults = { λ _. 0 };
+
+    fn read(&mut self, room: &mut [u8]) -> Result<usize, Failed>
+        ensures bound { ReadsAtMost result room.new }
+        ensures bytes { ReadConsumes (Some (steady_unread self.old)) (Some (steady_unread self.new)) result room.new }
+        ensures cause { HasCause 0 0 result }
+        ensures count { result ≡ Ok (min (min (length (steady_unread self.old)) (length room.old)) self.old.piece) }
+        ensures piece { self.new.piece ≡ self.old.piece }
+    {
+        let count = copy_front(&self.bytes[self.taken..], room, self.piece);
+        self.taken += count;
+        Ok(count)
+    }
+}

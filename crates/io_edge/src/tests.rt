@@ -1,0 +1,113 @@
+use super::*;
+use std::io;
+use std::io::{Read, Write};
+use std::test::Fail;
+
+/// Reads and writes in memory, at most three bytes a call. The second call fails, and the third write takes nothing.
+#[derive(Drop)]
+struct Halting<'a> {
+    left: &'a [u8],
+    held: Vec<u8>,
+    calls: u8,
+}
+
+impl Read for Halting<'_> {
+    fn read(&mut self, room: &mut [u8]) -> io::Result<usize> {
+        self.calls = self.calls.saturating_add(1);
+        if self.calls == 2 {
+            return Err(io::Error::from(io::ErrorKind::WouldBlock));
+        }
+        let most = room.len().min(3);
+        self.left.read(&mut room[..most])
+    }
+}
+
+impl Write for Halting<'_> {
+    fn write(&mut self, piece: &[u8]) -> io::Result<usize> {
+        self.calls = self.calls.saturating_add(1);
+        if self.calls == 2 {
+            return Err(io::Error::from(io::ErrorKind::WouldBlock));
+        }
+        let most = if self.calls == 3 {
+            0
+        } else {
+            piece.len().min(3)
+        };
+        self.held.write(&piece[..most])
+    }
+
+    fn flush(&mut self) -> io::Result<()> {
+        Ok(())
+    }
+}
+
+#[test]
+fn reads_through_std(rt: HostRuntime) {
+    let mut source = StdSource::new(Halting {
+        left: b"abcd",
+        held: Vec::new(rt.alloc()),
+        calls: 0,
+    });
+    for (want, bytes) in [
+        (Ok(3), b"abc."),
+        (Err(Failed), b"...."),
+        (Ok(1), b"d..."),
+        (Ok(0), b"...."),
+    ] {
+        let mut room = *b"....";
+        assert_eq!(rt; source.read(&mut room), want);
+        assert_eq!(rt; &room, bytes);
+    }
+}
+
+#[test]
+fn writes_through_std(rt: HostRuntime) {
+    let mut sink = StdSink::new(Halting {
+        left: b"",
+        held: Vec::new(rt.alloc()),
+        calls: 0,
+    });
+    for (piece, want) in [
+        ("abcd", Ok(3)),
+        ("d", Err(Failed)),
+        ("d", Err(Failed)),
+        ("", Ok(0)),
+        ("d", Ok(1)),
+    ] {
+        assert_eq!(rt; sink.write(piece.as_bytes()), want);
+    }
+}
+
+#[test]
+fn moves_in_memory(rt: HostRuntime) -> Result<(), Fail> {
+    let mut source = MemorySource::new(rt.alloc(), b"abcde", 2, &[2])?;
+    let mut steady_source = SteadySource::new(rt.alloc(), b"abcde", 2)?;
+    for (want, steady) in [
+        (Ok(2), Ok(2)),
+        (Err(Failed), Ok(2)),
+        (Ok(2), Ok(1)),
+        (Ok(1), Ok(0)),
+        (Ok(0), Ok(0)),
+    ] {
+        let mut room = [0; 3];
+        assert_eq!(rt; source.read(&mut room), want);
+        assert_eq!(rt; steady_source.read(&mut room), steady);
+    }
+
+    let mut sink = MemorySink::new(rt.alloc(), 4, 3, &[2])?;
+    let mut steady_sink = SteadySink::new(rt.alloc(), 4)?;
+    for (piece, want, tells) in [
+        ("abcd", Ok(3), true),
+        ("d", Err(Failed), false),
+        ("de", Ok(1), false),
+        ("e", Err(Failed), false),
+    ] {
+        assert_eq!(rt; sink.write(piece.as_bytes()), want);
+        assert_eq!(rt; steady_sink.write(piece.as_bytes()), Ok(piece.len()));
+        assert_eq!(rt; steady_sink.tells(), tells);
+    }
+    assert_eq!(rt; sink.bytes(), b"abcd".as_slice());
+    assert_eq!(rt; steady_sink.bytes(), b"abcd".as_slice());
+    OpenGate.enter(0, 0);
+    Ok(())
+}
