@@ -1,0 +1,132 @@
+//! Circuits.
+
+ghost use Rattle.std.specs.Prelude.{◌≡◌, ◌<◌, ◌≤◌, ◌+◌, IsTrue, is_none, length, slice_index_or, [], All, IfOk, IfErr};
+ghost use Rattle.circuit_core.specs.Parts.{height, width_of, gate_of, IsOver};
+ghost use Rattle.circuit_core.specs.Faults.{fault_of, IsLeafWithin};
+ghost use Rattle.circuit_core.specs.Sound.{exponents, greatest, leaf_at};
+
+use crate::fault::CircuitRefused;
+use crate::gate::{CircuitGate, Layer, Leaf};
+use crate::lists::Lists;
+use crate::shape::Shape;
+use std::alloc::Global;
+use std::marker::Model;
+
+/// A layered circuit with no fault.
+#[derive(Drop)]
+pub struct Circuit {
+    lists: Lists,
+    shape: Shape,
+    ghost faultless: { IsTrue (is_none (fault_of greatest lists)) },
+    ghost has_output: { 1 ≤ lists.outputs },
+    ghost shaped: { shape.ks ≡ exponents lists },
+}
+
+impl Model for Circuit {
+    ghost use Rattle.circuit_core.specs.Sound.{SoundCircuit};
+
+    ghost Value = { SoundCircuit };
+
+    ghost view = { λ c. record { parts = c.lists; faultless = c.faultless; has_output = c.has_output } };
+}
+
+impl Circuit {
+    ghost use Rattle.circuit_core.specs.Faults.{IsCauseOf};
+
+    /// A circuit of layers, the output layer first, over a padded input layer of leaves.
+    pub fn of(
+        alloc: Global,
+        layers: Vec<Layer>,
+        input_width: u32,
+        leaves: Vec<Leaf>,
+        inputs: u32,
+        outputs: u32,
+    ) -> Result<Circuit, CircuitRefused>
+        requires { 1 ≤ outputs }
+        ensures made { IfOk result (λ c. c.parts ≡ record { layers = layers.items; input_width = input_width; leaves = leaves.items; inputs = inputs; outputs = outputs }) }
+        ensures refused { IfErr result (IsCauseOf greatest (record { layers = layers.items; input_width = input_width; leaves = leaves.items; inputs = inputs; outputs = outputs })) }
+    {
+        let lists = Lists {
+            layers,
+            input_width,
+            leaves,
+            inputs,
+            outputs,
+        };
+        if let Some(bad) = lists.fault() {
+            return Err(CircuitRefused::Bad(bad));
+        }
+        let shape = lists.shape(alloc)?;
+        Ok(Circuit { lists, shape })
+    }
+
+    pub fn shape(&self) -> &Shape
+        ensures { result.now.ks ≡ exponents self.now.parts }
+    {
+        &self.shape
+    }
+
+    pub fn height(&self) -> usize
+        ensures { result ≡ height self.now.parts }
+    {
+        self.lists.height()
+    }
+
+    pub fn width(&self, layer: usize) -> usize
+        requires { layer ≤ height self.now.parts }
+        ensures { result ≡ width_of self.now.parts layer }
+    {
+        self.lists.width(layer)
+    }
+
+    pub fn gate_at(&self, layer: usize, gate: usize) -> CircuitGate
+        requires layer_in { layer < height self.now.parts }
+        requires gate_in { gate < width_of self.now.parts layer }
+        ensures value { result ≡ gate_of self.now.parts layer gate }
+        ensures left { result.left < width_of self.now.parts (layer + 1) }
+        ensures right { result.right < width_of self.now.parts (layer + 1) }
+    {
+        self.lists.gate(layer, gate)
+    }
+
+    /// The gates of a layer.
+    pub fn gates(&self, layer: usize) -> &[CircuitGate]
+        requires { layer < height self.now.parts }
+        ensures value { result.now ≡ slice_index_or self.now.parts.layers layer [] }
+        ensures operands { All (IsOver (width_of self.now.parts (layer + 1))) result.now }
+    {
+        self.lists.gates(layer)
+    }
+
+    /// The leaves, which stand from position 1 on.
+    pub fn leaves(&self) -> &[Leaf]
+        ensures value { result.now ≡ self.now.parts.leaves }
+        ensures inputs { All (IsLeafWithin self.now.parts.inputs) result.now }
+        ensures room { 1 + length result.now ≤ width_of self.now.parts (height self.now.parts) }
+    {
+        self.lists.leaves()
+    }
+
+    /// What stands at a position of the input layer: nothing at 0 and in the padding.
+    pub fn leaf_at(&self, position: usize) -> Option<Leaf>
+        ensures { result ≡ leaf_at self.now.parts position }
+    {
+        if position == 0 {
+            return None;
+        }
+        self.lists.leaves.get(position - 1).copied()
+    }
+
+    pub fn inputs(&self) -> u32
+        ensures { result ≡ self.now.parts.inputs }
+    {
+        self.lists.inputs
+    }
+
+    pub fn outputs(&self) -> u32
+        ensures value { result ≡ self.now.parts.outputs }
+        ensures some { 1 ≤ result }
+    {
+        self.lists.outputs
+    }
+}

@@ -1,0 +1,7 @@
+pub mod SumLaws
+pub mod Fold
+pub mod Points
+pub mod Steps
+pub mod EqualitySteps
+pub mod Powers
+pub mod AtField

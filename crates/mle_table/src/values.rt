@@ -1,0 +1,45 @@
+// Folding of lists of values.
+
+ghost use Rattle.std.specs.Prelude.{◌≡◌, ◌≤◌, ◌*◌, ◌<◌, ◌^◌, ◌+◌, ℕ, length, vec_len};
+ghost use Rattle.field_ext.specs.Field.{k_ops};
+ghost use Rattle.field_ext.specs.Multilinear.{folded, extension_at};
+
+use field_ext::Ext;
+
+// Binds the first coordinate of a table to r.
+pub(crate) fn fold_values(values: &mut Vec<Ext>, r: Ext)
+    requires { (half : ℕ) × (vec_len values.old ≡ half * 2) }
+    ensures folded { values.new.items ≡ folded k_ops values.old.items r }
+    ensures size { vec_len values.new * 2 ≡ vec_len values.old }
+{
+    let half = values.len() / 2;
+    for j in 0..half {
+        let low = values[2 * j];
+        let high = values[2 * j + 1];
+        values[j] = low.add(r.mul(high.sub(low)));
+    }
+    values.truncate(half);
+}
+
+// Writes the table with its first coordinate bound to r.
+pub(crate) fn fold_slice(values: &[Ext], r: Ext, room: &mut [Ext])
+    requires { length values.now ≡ length room.old * 2 }
+    ensures { room.new ≡ folded k_ops values.now r }
+{
+    for j in 0..room.len() {
+        let low = values[2 * j];
+        let high = values[2 * j + 1];
+        room[j] = low.add(r.mul(high.sub(low)));
+    }
+}
+
+// The value of a table's extension at a point; the table is used up.
+pub(crate) fn eval_values(mut values: Vec<Ext>, point: &[Ext]) -> Ext
+    requires { vec_len values ≡ 2 ^ length point.now }
+    ensures { result ≡ extension_at k_ops k_ops (λ x. x) values.items point.now }
+{
+    for r in point {
+        fold_values(&mut values, *r);
+    }
+    values[0]
+}

@@ -1,0 +1,4 @@
+pub mod Roots
+pub mod Values
+pub mod Coefficients
+pub mod AtField
