@@ -1,0 +1,70 @@
+use super::*;
+use field_ext::{Ext, Fp};
+use sha2::{Digest, Sha256};
+use std::test::Fail;
+
+const TEXT: &[u8] = b"input a; output a;";
+
+/// The 38 bytes that tell of the program `input a; output a;` with input 5 and output 5.
+const STATEMENT: &[u8] = b"\x12\0\0\0input a; output a;\x01\0\0\0\x05\0\0\0\x01\0\0\0\x05\0\0\0";
+
+fn element(real: u64, imaginary: u64) -> Ext {
+    Ext::of(Fp::reduce(real), Fp::reduce(imaginary))
+}
+
+/// The hash of two pieces, one behind the other.
+fn hash(first: &[u8], second: &[u8]) -> [u8; 32] {
+    let mut hasher = Sha256::new();
+    hasher.update(first);
+    hasher.update(second);
+    hasher.finalize()
+}
+
+/// What the first 16 bytes of a hash say, as two numbers of 8 bytes modulo the prime.
+fn halves(hash: &[u8; 32]) -> Ext {
+    let mut numbers = [0u64; 2];
+    for i in 0..16 {
+        let byte = hash[15 - i] as u64;
+        let half = if i < 8 { 1 } else { 0 };
+        numbers[half] = numbers[half] % (1 << 56) * 256 + byte;
+    }
+    element(numbers[0] % 2_147_483_647, numbers[1] % 2_147_483_647)
+}
+
+#[test]
+fn hashes_all_that_came_before(rt: HostRuntime) {
+    let five = [Fp::reduce(5)];
+    let mut transcript = Transcript::start(&Statement::of(TEXT, &five, &five));
+    let mut state = hash(b"gkr-transcript-1\n", STATEMENT);
+
+    let messages: [(&[Ext], &[u8]); 3] = [
+        (
+            &[element(1, 2), element(2_147_483_646, 0)],
+            b"\x01\x01\0\0\0\x02\0\0\0\xfe\xff\xff\x7f\0\0\0\0",
+        ),
+        (&[], b"\x01"),
+        (&[element(0, 65_536)], b"\x01\0\0\0\0\0\0\x01\0"),
+    ];
+    for (message, bytes) in messages {
+        assert!(rt; transcript.has(1_000_000));
+        state = hash(&state, b"\x02");
+        assert_eq!(rt; transcript.challenge(), halves(&state));
+        transcript.absorb(message);
+        state = hash(&state, bytes);
+    }
+    state = hash(&state, b"\x02");
+    assert_eq!(rt; transcript.challenge(), halves(&state));
+}
+
+#[test]
+fn hands_out_a_list(rt: HostRuntime) -> Result<(), Fail> {
+    let (first, second) = (element(2, 0), element(3, 1));
+    let mut given = Given::of(Vec::from_slice(rt.alloc(), &[first, second])?);
+    assert!(rt; given.has(2) && !given.has(3));
+    assert_eq!(rt; given.challenge(), first);
+    given.absorb(&[second, second]);
+    assert!(rt; given.has(1));
+    assert_eq!(rt; given.challenge(), second);
+    assert!(rt; given.has(0) && !given.has(1));
+    Ok(())
+}

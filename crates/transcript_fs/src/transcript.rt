@@ -1,0 +1,56 @@
+ghost use Rattle.std.specs.Prelude.{◌≡◌};
+ghost use Rattle.transcript_fs.specs.Transcript.{start_state, transcript};
+
+use crate::challenges::Challenges;
+use crate::drawing::leading_element;
+use crate::feeding::{feed_elements, feed_statement};
+use crate::statement::Statement;
+use field_ext::Ext;
+use sha2::{Digest, Sha256};
+
+/// The Fiat-Shamir transcript: challenges that are hashes of the statement and of all messages before them. It has
+/// always more of them.
+#[derive(Clone, Copy)]
+pub struct Transcript {
+    state: [u8; 32],
+}
+
+impl Transcript {
+    /// The transcript that has taken in the statement alone.
+    pub fn start(statement: &Statement) -> Transcript
+        ensures { result.state ≡ start_state statement.now.text.now statement.now.inputs.now statement.now.outputs.now }
+    {
+        let mut hasher = Sha256::new();
+        hasher.update(b"gkr-transcript-1\n".as_slice());
+        feed_statement(&mut hasher, statement);
+        Transcript {
+            state: hasher.finalize(),
+        }
+    }
+}
+
+impl Challenges for Transcript {
+    ghost source = { transcript };
+
+    ghost state = { λ t. t.state };
+
+    fn absorb(&mut self, message: &[Ext]) {
+        let mut hasher = Sha256::new();
+        hasher.update(self.state.as_slice());
+        hasher.update([1u8].as_slice());
+        feed_elements(&mut hasher, message);
+        self.state = hasher.finalize();
+    }
+
+    fn challenge(&mut self) -> Ext {
+        let mut hasher = Sha256::new();
+        hasher.update(self.state.as_slice());
+        hasher.update([2u8].as_slice());
+        self.state = hasher.finalize();
+        leading_element(&self.state)
+    }
+
+    fn has(&self, _n: usize) -> bool {
+        true
+    }
+}
