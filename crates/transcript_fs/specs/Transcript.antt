@@ -4,16 +4,13 @@ use Rattle.std.specs.List.{concat, flat_map}
 use Rattle.std.specs.Int.{w32, w64, to_le_bytes, from_le_bytes}
 use Rattle.std.proofs.Common.{refl}
 use Rattle.sha2.specs.Sha256.{sha256}
+use Rattle.field_ext.specs.Bytes.{bytes_of}
 use Rattle.field_ext.specs.Field.{F, K, of}
 use Rattle.transcript_fs.specs.Source.{Source}
 
 -- a number below p as 4 bytes
 abbrev pub number_bytes : F → List ℕ
 number_bytes x = to_le_bytes w32 x.value
-
--- an element as 8 bytes: its real part, and its imaginary part
-abbrev pub element_bytes : K → List ℕ
-element_bytes x = number_bytes x.re ++ number_bytes x.im
 
 -- a count as 4 bytes, and what it counts
 abbrev pub counted_bytes : ℕ → List ℕ → List ℕ
@@ -33,7 +30,7 @@ start_state text inputs outputs = sha256 (concat (codes "gkr-transcript-1" ∷ (
 
 -- the state after a message: the hash of the state, the byte 1 and the elements
 abbrev pub absorbed_state : List ℕ → List K → List ℕ
-absorbed_state state message = sha256 (concat (state ∷ (1 ∷ []) ∷ flat_map element_bytes message ∷ []))
+absorbed_state state message = sha256 (concat (state ∷ (1 ∷ []) ∷ flat_map bytes_of message ∷ []))
 
 -- the state after a challenge: the hash of the state and the byte 2
 abbrev pub drawn_state : List ℕ → List ℕ

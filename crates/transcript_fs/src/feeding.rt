@@ -1,7 +1,8 @@
 ghost use Rattle.std.specs.Prelude.{◌<◌, ◌^◌, ◌++◌, ℕ, List, length};
 ghost use Rattle.std.specs.List.{flat_map};
 ghost use Rattle.sha2.specs.Hashers.{Holds256};
-ghost use Rattle.transcript_fs.specs.Transcript.{number_bytes, element_bytes, counted_bytes, statement_bytes};
+ghost use Rattle.field_ext.specs.Bytes.{bytes_of};
+ghost use Rattle.transcript_fs.specs.Transcript.{number_bytes, counted_bytes, statement_bytes};
 
 use crate::statement::Statement;
 use field_ext::{Ext, Fp};
@@ -9,7 +10,7 @@ use sha2::{Digest, Sha256};
 
 /// Adds elements to a hasher's message.
 pub fn feed_elements(hasher: &mut Sha256, elements: &[Ext])
-    ensures { (m : List ℕ) → Holds256 hasher.old m → Holds256 hasher.new (m ++ flat_map element_bytes elements.now) }
+    ensures { (m : List ℕ) → Holds256 hasher.old m → Holds256 hasher.new (m ++ flat_map bytes_of elements.now) }
 {
     for element in elements {
         hasher.update(element.re().value().to_le_bytes().as_slice());

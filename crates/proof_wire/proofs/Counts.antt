@@ -1,0 +1,14 @@
+-- How many coefficients there are behind one more layer.
+use Rattle.std.proofs.Common.{◌≡◌, ℕ, ◌+◌, ◌*◌, ◌<◌, List, [], ◌∷◌, length, get_or, take, sym, ◌∙◌, ap, ◌++◌, arith}
+use Rattle.std.proofs.lemmas.List.{take_more}
+use Rattle.std.proofs.lemmas.List.Sums.{sum_by-append}
+use Rattle.proof_wire.specs.Spelling.{coefficient_count}
+
+one_count : (k : ℕ) → coefficient_count (k ∷ []) ≡ 7 * k + 1
+one_count k = omega arith
+
+count_push : (xs : List ℕ) (k : ℕ) → coefficient_count (xs ++ k ∷ []) ≡ coefficient_count xs + (7 * k + 1)
+count_push xs k = sum_by-append (λ k. 7 * k + 1) xs (k ∷ []) ∙ ap (λ n. coefficient_count xs + n) (one_count k)
+
+pub count_more : (xs : List ℕ) (i : ℕ) → i < length xs → coefficient_count (take i xs) + (7 * get_or xs i 0 + 1) ≡ coefficient_count (take (i + 1) xs)
+count_more xs i h = sym (ap coefficient_count (take_more xs i 0 h) ∙ count_push (take i xs) (get_or xs i 0))

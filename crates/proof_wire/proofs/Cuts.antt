@@ -1,0 +1,38 @@
+-- The coefficients up to the next layer, and the messages with that layer.
+use Rattle.std.specs.Prelude.{map}
+use Rattle.std.proofs.Common.{◌≡◌, ℕ, ◌+◌, ◌*◌, ◌-◌, ◌<◌, ◌≤◌, List, [], ◌∷◌, ◌++◌, length, get_or, take, drop, sym, ◌∙◌, ap, arith, length-drop, append-nil}
+use Rattle.std.proofs.Math.Seq.{take-add}
+use Rattle.std.proofs.lemmas.Grind.{flat_map-append}
+use Rattle.std.proofs.lemmas.List.{take_more, get_or-drop, map-append}
+use Rattle.std.proofs.lemmas.List.Sums.{sum_by-take-le}
+use Rattle.field_ext.specs.Field.{K}
+use Rattle.proof_wire.specs.declared.messages.LayerMessages.{LayerMessages}
+use Rattle.proof_wire.specs.Spelling.{all_coefficients, coefficient_count, layer_coefficients}
+use Rattle.proof_wire.proofs.Counts.{count_more}
+
+lower : (ks : List ℕ) (j k : ℕ) → k ≡ get_or ks (j + 1) 0 → k ≡ get_or (drop 1 ks) j 0
+lower ks j k e = grind (arith, e, get_or-drop)
+
+within : (ks : List ℕ) (j : ℕ) → j < length ks - 1 → j < length (drop 1 ks)
+within ks j h = omega (arith, h, length-drop 1 ks)
+
+pub next_count : (ks : List ℕ) (j k from : ℕ) → j < length ks - 1 → k ≡ get_or ks (j + 1) 0 → from ≡ coefficient_count (take j (drop 1 ks)) → from + (7 * k + 1) ≡ coefficient_count (take (j + 1) (drop 1 ks))
+next_count ks j k from h e f = ap (λ n. n + (7 * k + 1)) f ∙ ap (λ n. coefficient_count (take j (drop 1 ks)) + (7 * n + 1)) (lower ks j k e) ∙ count_more (drop 1 ks) j (within ks j h)
+
+pub next_within : (ks : List ℕ) (j k from n : ℕ) → j < length ks - 1 → k ≡ get_or ks (j + 1) 0 → from ≡ coefficient_count (take j (drop 1 ks)) → n ≡ coefficient_count (drop 1 ks) → from + (7 * k + 1) ≤ n
+next_within ks j k from n h e f g = omega (arith, next_count ks j k from h e f, g, sum_by-take-le (λ k. 7 * k + 1) (drop 1 ks) (j + 1))
+
+pub next_map : (f : ℕ → ℕ) (g : LayerMessages → ℕ) (ks : List ℕ) (j k : ℕ) (layers : List LayerMessages) (layer : LayerMessages) → j < length ks - 1 → k ≡ get_or ks (j + 1) 0 → g layer ≡ f k → map g layers ≡ map f (take j (drop 1 ks)) → map g (layers ++ layer ∷ []) ≡ map f (take (j + 1) (drop 1 ks))
+next_map f g ks j k layers layer h e s t =
+    map-append g layers (layer ∷ [])
+    ∙ ap (λ ns. ns ++ g layer ∷ []) t
+    ∙ ap (λ n. map f (take j (drop 1 ks)) ++ n ∷ []) (s ∙ ap f (lower ks j k e))
+    ∙ sym (map-append f (take j (drop 1 ks)) (get_or (drop 1 ks) j 0 ∷ []))
+    ∙ ap (map f) (sym (take_more (drop 1 ks) j 0 (within ks j h)))
+
+pub next_part : (from size : ℕ) (elements : List K) (layers : List LayerMessages) (layer : LayerMessages) → layer_coefficients layer ≡ take size (drop from elements) → all_coefficients layers ≡ take from elements → all_coefficients (layers ++ layer ∷ []) ≡ take (from + size) elements
+next_part from size elements layers layer e f =
+    flat_map-append layer_coefficients layers (layer ∷ [])
+    ∙ ap (λ xs. all_coefficients layers ++ xs) (append-nil (layer_coefficients layer) ∙ e)
+    ∙ ap (λ xs. xs ++ take size (drop from elements)) f
+    ∙ sym (take-add from size elements)

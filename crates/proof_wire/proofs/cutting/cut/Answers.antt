@@ -1,0 +1,25 @@
+use Rattle.std.specs.Prelude.{map}
+use Rattle.std.proofs.Common.{◌≡◌, ◌<◌, length, ◌*◌, ◌+◌, ◌-◌, ◌∙◌, arith, ap, take, drop}
+use Rattle.proof_wire.specs.Spelling.{all_coefficients, layer_coefficients}
+use Rattle.proof_wire.proofs.Cuts.{next_count, next_within, next_map, next_part}
+use Rattle.proof_wire.proofs.cutting.cut.Goals as goal
+
+pub slice_bounds-cut_layer-end : goal.slice_bounds-cut_layer-end
+slice_bounds-cut_layer-end c = next_within c.args.shape.now.ks c.loop-layer.layer c.k-k.result c.loop-layer.from (length c.args.elements.now) (omega (arith, c.loop-layer-test.true)) c.k-k.ensures c.loop-layer.invariant.0 c.requires
+
+pub loop-layer-preserved : goal.loop-layer-preserved
+loop-layer-preserved c =
+    let ks = c.args.shape.now.ks in
+    let j = c.loop-layer.layer in
+    let k = c.k-k.result in
+    let from = c.loop-layer.from in
+    let here = c.loop-layer.invariant in
+    let h : j < length ks - 1 = omega (arith, c.loop-layer-test.true) in
+    let grown = c.in_ok-push.ensures.items in
+    let cut_here : layer_coefficients c.in_ok-cut_layer.field-0 ≡ take (7 * k + 1) (drop from c.args.elements.now) =
+    c.in_ok-cut_layer.ensures.all ∙ ap (λ n. take n (drop from c.args.elements.now)) (omega arith) in (
+      next_count ks j k from h c.k-k.ensures here.0,
+      ap all_coefficients grown ∙ next_part from (7 * k + 1) c.args.elements.now c.loop-layer.layers.items c.in_ok-cut_layer.field-0 cut_here here.1,
+      ap (map (λ layer. length layer.rounds.items)) grown ∙ next_map (λ k. 2 * k) (λ layer. length layer.rounds.items) ks j k c.loop-layer.layers.items c.in_ok-cut_layer.field-0 h c.k-k.ensures c.in_ok-cut_layer.ensures.rounds here.2,
+      ap (map (λ layer. length layer.line.items)) grown ∙ next_map (λ k. k + 1) (λ layer. length layer.line.items) ks j k c.loop-layer.layers.items c.in_ok-cut_layer.field-0 h c.k-k.ensures c.in_ok-cut_layer.ensures.line here.3,
+    )

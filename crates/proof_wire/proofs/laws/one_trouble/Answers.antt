@@ -1,0 +1,5 @@
+use Rattle.proof_wire.proofs.OneTrouble.{one_trouble}
+use Rattle.proof_wire.proofs.laws.one_trouble.Goals as goal
+
+pub returns : goal.returns
+returns c = one_trouble

@@ -1,0 +1,50 @@
+ghost use Rattle.std.specs.Prelude.{◌≡◌, ◌+◌, ◌*◌, IfOk, length, drop};
+ghost use Rattle.std.specs.List.{flat_map};
+ghost use Rattle.proof_wire.specs.Spelling.{AreOf, all_coefficients, coefficient_count, coefficients_of, layer_coefficients};
+
+use crate::messages::{LayerMessages, Messages, Round};
+use circuit_core::Shape;
+use field_ext::Ext;
+use std::alloc::{AllocError, Global};
+
+/// The messages with these coefficients, for a circuit of this shape.
+pub fn cut(alloc: Global, elements: &[Ext], shape: &Shape) -> Result<Messages, AllocError>
+    requires { length elements.now ≡ coefficient_count (drop 1 shape.now.ks) }
+    ensures of { IfOk result (λ messages. AreOf shape.now.ks messages) }
+    ensures all { IfOk result (λ messages. all_coefficients messages.layers.items ≡ elements.now) }
+{
+    let mut layers = Vec::with_capacity(alloc, shape.layers() - 1)?;
+    let mut from = 0;
+    for layer in 0..shape.layers() - 1 {
+        let k = shape.k(layer + 1) as usize;
+        let next = from + (7 * k + 1);
+        layers.push(cut_layer(alloc, &elements[from..next], k)?)?;
+        from = next;
+    }
+    Ok(Messages { layers })
+}
+
+fn cut_layer(alloc: Global, elements: &[Ext], k: usize) -> Result<LayerMessages, AllocError>
+    requires { length elements.now ≡ 7 * k + 1 }
+    ensures rounds { IfOk result (λ layer. length layer.rounds.items ≡ 2 * k) }
+    ensures line { IfOk result (λ layer. length layer.line.items ≡ k + 1) }
+    ensures all { IfOk result (λ layer. layer_coefficients layer ≡ elements.now) }
+{
+    let (of_rounds, of_line) = elements.split_at(6 * k);
+    Ok(LayerMessages {
+        rounds: cut_rounds(alloc, of_rounds, 2 * k)?,
+        line: Vec::from_slice(alloc, of_line)?,
+    })
+}
+
+fn cut_rounds(alloc: Global, elements: &[Ext], count: usize) -> Result<Vec<Round>, AllocError>
+    requires { length elements.now ≡ 3 * count }
+    ensures count { IfOk result (λ rounds. length rounds.items ≡ count) }
+    ensures all { IfOk result (λ rounds. flat_map coefficients_of rounds.items ≡ elements.now) }
+{
+    let mut rounds = Vec::with_capacity(alloc, count)?;
+    for i in 0..count {
+        rounds.push(Round::of([elements[3 * i], elements[3 * i + 1], elements[3 * i + 2]]))?;
+    }
+    Ok(rounds)
+}
