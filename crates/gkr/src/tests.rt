@@ -1,5 +1,7 @@
 //! The whole program over inputs in memory, by status and bytes.
 
+ghost use Rattle.std.specs.Prelude.{◌<◌};
+
 use gkr_cmd::{Status, gkr_run};
 use io_edge::{MemorySink, MemorySource, OpenGate};
 use std::alloc::{AllocError, Global};
@@ -24,6 +26,7 @@ struct Ends<'a> {
     piece: usize,
     failing_reads: &'a [u64],
     failing_writes: &'a [u64],
+    ghost some: { 0 < piece },
 }
 
 impl<'a> Ends<'a> {
