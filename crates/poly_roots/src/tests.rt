@@ -40,3 +40,35 @@ fn adds_and_multiplies_by_hand(rt: HostRuntime) -> Result<(), AllocError> {
     assert!(rt; nothing.coefficients().len() == 0);
     Ok(())
 }
+
+// The element `re + im i` of numbers modulo the prime.
+fn element(re: u64, im: u64) -> Ext {
+    Ext::of(Fp::reduce(re), Fp::reduce(im))
+}
+
+#[test]
+fn multiplies_constants_at_the_edges(rt: HostRuntime) -> Result<(), AllocError> {
+    // All pairs of 0, 1, p - 1 and i, by the rule i i = -1.
+    let rows = [
+        ((0, 0), (0, 0), (0, 0)),
+        ((0, 0), (1, 0), (0, 0)),
+        ((0, 0), (P - 1, 0), (0, 0)),
+        ((0, 0), (0, 1), (0, 0)),
+        ((1, 0), (1, 0), (1, 0)),
+        ((1, 0), (P - 1, 0), (P - 1, 0)),
+        ((1, 0), (0, 1), (0, 1)),
+        ((P - 1, 0), (P - 1, 0), (1, 0)),
+        ((P - 1, 0), (0, 1), (0, P - 1)),
+        ((0, 1), (0, 1), (P - 1, 0)),
+    ];
+    let alloc = rt.alloc();
+    for ((a, b), (c, d), (re, im)) in rows {
+        let (x, y) = (element(a, b), element(c, d));
+        assert!(rt; x.mul(y) == element(re, im) && y.mul(x) == element(re, im));
+        let left = Poly::of_coeffs(Vec::from_slice(alloc, &[x])?);
+        let right = Poly::of_coeffs(Vec::from_slice(alloc, &[y])?);
+        let product = left.mul(alloc, &right)?;
+        assert!(rt; product.coefficients() == [element(re, im)].as_slice());
+    }
+    Ok(())
+}
