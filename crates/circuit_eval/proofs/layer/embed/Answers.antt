@@ -1,0 +1,11 @@
+-- All values are passed
+use Rattle.std.proofs.Common.{arith}
+use Rattle.field_ext.specs.Field.{embed_k, zero_k}
+use Rattle.circuit_core.specs.Parts.{zero_f}
+use Rattle.circuit_eval.proofs.LayerTables.{written}
+use Rattle.circuit_eval.proofs.layer.embed.Goals as goal
+
+pub returns : goal.returns
+returns c =
+    written embed_k c.args.values.now c.loop-i.items zero_f zero_k (omega (arith, c.requires, c.loop-i.auto.items))
+    (λ k l. c.loop-i.invariant k (omega (arith, l, c.loop-i-test.false)))

@@ -1,0 +1,109 @@
+//! The values of one layer.
+
+ghost use Rattle.std.specs.Prelude.{◌≡◌, ◌<◌, ◌+◌, ◌^◌, ℕ, length, slice_index_or, map, All, IfOk};
+ghost use Rattle.field_ext.specs.Field.{embed_k};
+ghost use Rattle.circuit_core.specs.Parts.{IsOver, zero_gate, gate_value, leaf_value, padded_values, width_of, height};
+
+use circuit_core::{Circuit, CircuitGate, gate_value, leaf_value};
+use field_ext::{Ext, Fp};
+use mle_table::Table;
+use rayon::prelude::*;
+use std::alloc::{AllocError, Global};
+use std::marker::Sync;
+use std::thread::Threads;
+
+// From this many gates on, threads save more than it takes to start them.
+const MANY: usize = 1 << 15;
+
+/// The values of the input layer: 0, the leaves, and padding.
+pub fn input_values(alloc: Global, circuit: &Circuit, inputs: &[Fp]) -> Result<Vec<Fp>, AllocError>
+    requires { length inputs.now ≡ circuit.now.parts.inputs }
+    ensures { IfOk result (λ v. v.items ≡ padded_values circuit.now.parts.input_width (map (leaf_value inputs.now) circuit.now.parts.leaves)) }
+{
+    let width = circuit.width(circuit.height());
+    let mut values = Vec::with_capacity(alloc, width)?;
+    values.push(Fp::zero())?;
+    for leaf in circuit.leaves() {
+        values.push(leaf_value(inputs, *leaf))?;
+    }
+    for _ in values.len()..width {
+        values.push(Fp::zero())?;
+    }
+    Ok(values)
+}
+
+/// The values of a layer's gates, from those of the layer below, side by side where there are many.
+pub fn gate_values<R: Threads + Sync>(
+    rt: &R,
+    alloc: Global,
+    gates: &[CircuitGate],
+    below: &[Fp],
+) -> Result<Vec<Fp>, AllocError>
+    requires { All (IsOver (length below.now)) gates.now }
+    ensures { IfOk result (λ v. v.items ≡ map (gate_value below.now) gates.now) }
+{
+    let mut values = vec![in alloc; Fp::zero(); gates.len()]?;
+    if gates.len() < MANY {
+        evaluate(gates, below, &mut values);
+    } else {
+        evaluate_side_by_side(rt, gates, below, &mut values);
+    }
+    Ok(values)
+}
+
+// Writes the value of each gate.
+fn evaluate(gates: &[CircuitGate], below: &[Fp], values: &mut [Fp])
+    requires room { length values.old ≡ length gates.now }
+    requires operands { All (IsOver (length below.now)) gates.now }
+    ensures { values.new ≡ map (gate_value below.now) gates.now }
+{
+    for g in 0..gates.len() {
+        values[g] = gate_value(below, &gates[g]);
+    }
+}
+
+// Writes the value of each gate, in as many threads as there are processors.
+fn evaluate_side_by_side<R: Threads + Sync>(
+    rt: &R,
+    gates: &[CircuitGate],
+    below: &[Fp],
+    values: &mut [Fp],
+)
+    requires room { length values.old ≡ length gates.now }
+    requires operands { All (IsOver (length below.now)) gates.now }
+    ensures { values.new ≡ map (gate_value below.now) gates.now }
+{
+    par_for_each_mut(
+        rt,
+        values,
+        |g: usize, value: &mut Fp|
+            requires inside { g < length gates.now }
+            requires operands { IsOver (length below.now) (slice_index_or gates.now g zero_gate) }
+            ensures { value.new ≡ gate_value below.entry.now (slice_index_or gates.entry.now g zero_gate) }
+        {
+            *value = gate_value(below, &gates[g]);
+        },
+    );
+}
+
+/// The table of a layer's values, of which there is a power of two.
+pub fn embedded(alloc: Global, values: &[Fp]) -> Result<Table, AllocError>
+    requires { (k : ℕ) × (length values.now ≡ 2 ^ k) }
+    ensures { IfOk result (λ t. t.items ≡ map embed_k values.now) }
+{
+    let mut items = vec![in alloc; Ext::zero(); values.len()]?;
+    embed(values, &mut items);
+    match Table::of_values(items) {
+        Ok(table) => Ok(table),
+        Err(_) => unreachable!(),
+    }
+}
+
+fn embed(values: &[Fp], items: &mut [Ext])
+    requires { length items.old ≡ length values.now }
+    ensures { items.new ≡ map embed_k values.now }
+{
+    for i in 0..values.len() {
+        items[i] = Ext::embed(values[i]);
+    }
+}

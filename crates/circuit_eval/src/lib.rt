@@ -1,0 +1,19 @@
+//! The values of a circuit's layers, as tables of elements of K.
+//!
+//! The value of a leaf is its input or constant, and the value of a gate the sum or product of its operands' values in the
+//! layer below; position 0 and padding hold 0. Layers are evaluated from the leaves up, and their tables stay as they are.
+//! Source: Thaler, "Proofs, Arguments, and Zero-Knowledge", 4.6.1 (the functions V_i).
+//!
+//! ```text
+//! let values = layer_values(&rt, alloc, &circuit, &inputs)?;
+//! values.table(0).at(1)      // the first output
+//! ```
+#![tactic(auto)]
+
+pub mod laws;
+mod layer;
+#[cfg(test)]
+mod tests;
+mod values;
+
+pub use values::{Values, layer_values};

@@ -1,0 +1,59 @@
+//! The values of all layers.
+
+ghost use Rattle.std.specs.Prelude.{◌≡◌, ◌<◌, length, slice_index_or, [], IfOk};
+ghost use Rattle.circuit_eval.specs.Tables.{AreTables};
+
+use crate::layer::{embedded, gate_values, input_values};
+use circuit_core::Circuit;
+use field_ext::Fp;
+use mle_table::Table;
+use std::alloc::{AllocError, Global};
+use std::marker::{Model, Sync};
+use std::thread::Threads;
+
+/// The tables of a circuit's layers, that of the outputs first.
+#[derive(Drop)]
+pub struct Values {
+    tables: Vec<Table>,
+}
+
+impl Model for Values {
+    ghost use Rattle.std.specs.Prelude.{List, map};
+    ghost use Rattle.field_ext.specs.Field.{K};
+
+    ghost Value = { List (List K) };
+
+    ghost view = { λ v. map (λ t. t.items) v.tables.items };
+}
+
+impl Values {
+    /// The table of a layer: its values by position.
+    pub fn table(&self, layer: usize) -> &Table
+        requires { layer < length self.now }
+        ensures { result.now.items ≡ slice_index_or self.now layer [] }
+    {
+        &self.tables[layer]
+    }
+}
+
+/// The values of every layer, for inputs of the right count.
+pub fn layer_values<R: Threads + Sync>(
+    rt: &R,
+    alloc: Global,
+    circuit: &Circuit,
+    inputs: &[Fp],
+) -> Result<Values, AllocError>
+    requires { length inputs.now ≡ circuit.now.parts.inputs }
+    ensures { IfOk result (AreTables circuit.now.parts inputs.now) }
+{
+    let mut below = input_values(alloc, circuit, inputs)?;
+    let mut tables: Vec<Table> = Vec::with_capacity(alloc, circuit.height() + 1)?;
+    tables.push(embedded(alloc, &below)?)?;
+    for layer in (0..circuit.height()).rev() {
+        let values = gate_values(rt, alloc, circuit.gates(layer), &below)?;
+        tables.push(embedded(alloc, &values)?)?;
+        below = values;
+    }
+    tables.reverse();
+    Ok(Values { tables })
+}

@@ -1,0 +1,13 @@
+pub mod UsedAbove
+pub mod LevelsOf
+pub mod Places
+pub mod Lists
+pub mod Standing
+pub mod RowValues
+pub mod NoFault
+pub mod UsesOf
+pub mod InRows
+pub mod Next
+pub mod Merging
+pub mod PlacesOf
+pub mod Refusals

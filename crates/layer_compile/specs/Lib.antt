@@ -1,0 +1,5 @@
+pub mod Levels
+pub mod Rows
+pub mod Circuits
+pub mod Needed
+pub mod Next

@@ -1,0 +1,191 @@
+ghost use Rattle.std.specs.Prelude.{◌≡◌, ◌<◌, ◌^◌, IsTrue, length};
+ghost use Rattle.circuit_core.specs.declared.gate.Kind.TheVariants as kind;
+ghost use Rattle.node_core.specs.Nodes.{IsFineAt};
+ghost use Rattle.node_core.specs.declared.node.Node.TheVariants as node;
+
+use super::*;
+use circuit_core::{Circuit, CircuitGate, Kind, Leaf};
+use field_ext::Fp;
+use node_core::{Node, NodeList, NodeListBuilder};
+use std::alloc::{AllocError, Global};
+use std::process::Abort;
+use std::test::Fail;
+
+fn add(left: u32, right: u32) -> Node
+    ensures { result ≡ node.Operation (record { kind = kind.Add; left = left; right = right }) }
+{
+    Node::Operation(CircuitGate {
+        kind: Kind::Add,
+        left,
+        right,
+    })
+}
+
+fn mul(left: u32, right: u32) -> Node {
+    Node::Operation(CircuitGate {
+        kind: Kind::Mul,
+        left,
+        right,
+    })
+}
+
+fn is_fine(inputs: u32, k: usize, node: &Node) -> bool
+    ensures { IsTrue result → IsFineAt inputs k node.now }
+{
+    match node {
+        Node::Input(j) => *j < inputs,
+        Node::Constant(_) => true,
+        Node::Operation(gate) => (gate.left as usize) < k && (gate.right as usize) < k,
+    }
+}
+
+/// The program of these nodes and outputs.
+fn program(alloc: Global, inputs: u32, nodes: &[Node], outputs: &[u32]) -> Result<NodeList, Fail>
+    requires nodes { length nodes.now < 2 ^ 20 }
+    requires outputs { length outputs.now < 2 ^ 20 }
+{
+    let mut list = NodeListBuilder::new(alloc, inputs);
+    for (k, node) in nodes.iter().enumerate() {
+        if !is_fine(inputs, k, node) {
+            return Err(Fail::new("a node that stands on none before it"));
+        }
+        list.push(*node)?;
+    }
+    for output in outputs {
+        if *output as usize >= nodes.len() {
+            return Err(Fail::new("an output that is no node"));
+        }
+        list.output(*output)?;
+    }
+    if outputs.len() == 0 {
+        return Err(Fail::new("no output"));
+    }
+    Ok(list.finish())
+}
+
+/// The gates of each layer by position, and the width of the input layer with the leaves.
+fn show(alloc: Global, circuit: &Circuit) -> Result<String, AllocError> {
+    let mut text = String::new(alloc);
+    for layer in 0..circuit.height() {
+        for gate in circuit.gates(layer) {
+            let sign = match gate.kind {
+                Kind::Add => '+',
+                Kind::Mul => '*',
+            };
+            write!(&mut text, "{}{}{} ", gate.left, sign, gate.right)?;
+        }
+        write!(&mut text, "/ ")?;
+    }
+    write!(&mut text, "{}:", circuit.width(circuit.height()))?;
+    for leaf in circuit.leaves() {
+        match leaf {
+            Leaf::Input(j) => write!(&mut text, " in{}", *j)?,
+            Leaf::Const(value) => write!(&mut text, " {}", value.value())?,
+        }
+    }
+    Ok(text)
+}
+
+fn shows<R: Abort + AllocGlobal>(rt: &R, list: &NodeList, want: &str) -> Result<(), Fail> {
+    let Ok(circuit) = layer(rt.alloc(), list, Limits::greatest()) else {
+        return Err(Fail::new("refused"));
+    };
+    assert_eq!(rt; show(rt.alloc(), &circuit)?.as_str(), want);
+    Ok(())
+}
+
+fn refuses<R: Abort + AllocGlobal>(rt: &R, list: &NodeList, limits: Limits, want: LayerRefused) {
+    assert_eq!(rt; layer(rt.alloc(), list, limits).err(), Some(want));
+}
+
+const A: Node = Node::Input(0);
+
+const B: Node = Node::Input(1);
+
+const C: Node = Node::Input(2);
+
+#[test]
+fn lays_out_by_position(rt: HostRuntime) -> Result<(), Fail> {
+    let alloc = rt.alloc();
+    let product = program(alloc, 2, &[A, B, mul(0, 1)], &[2])?;
+    shows(&rt, &product, "0+0 1+0 / 0+0 1*2 / 4: in0 in1")?;
+    let minus_one = Node::Constant(Fp::one().neg());
+    let difference = program(alloc, 2, &[A, B, minus_one, mul(1, 2), add(0, 3)], &[4])?;
+    shows(
+        &rt,
+        &difference,
+        "0+0 1+0 / 0+0 1+2 / 0+0 1+0 2*3 0+0 / 4: in0 in1 2147483646",
+    )?;
+    let sum = program(alloc, 3, &[A, B, C, add(0, 1), add(3, 2)], &[4])?;
+    shows(
+        &rt,
+        &sum,
+        "0+0 1+0 / 0+0 2+1 / 0+0 3+0 1+2 0+0 / 4: in0 in1 in2",
+    )
+}
+
+#[test]
+fn drops_unneeded_nodes(rt: HostRuntime) -> Result<(), Fail> {
+    let alloc = rt.alloc();
+    let list = program(alloc, 2, &[A, B, mul(0, 1), add(2, 2)], &[0, 0])?;
+    shows(&rt, &list, "0+0 1+0 1+0 0+0 / 4: in0 in1")
+}
+
+#[test]
+fn refuses_by_limits(rt: HostRuntime) -> Result<(), Fail> {
+    let alloc = rt.alloc();
+    let many = program(
+        alloc,
+        3,
+        &[A, B, C, mul(0, 1), mul(0, 2), mul(1, 2), add(0, 1)],
+        &[3, 4, 5, 6],
+    )?;
+    for (height, exponent, want) in [
+        (1, 1, LayerRefused::Deep { levels: 2 }),
+        (
+            2,
+            1,
+            LayerRefused::Wide {
+                height: 0,
+                width: 4,
+            },
+        ),
+        (
+            2,
+            2,
+            LayerRefused::Wide {
+                height: 1,
+                width: 5,
+            },
+        ),
+    ] {
+        if height <= 256 && exponent <= 16 {
+            refuses(&rt, &many, Limits::of(height, exponent), want);
+        }
+    }
+    Ok(())
+}
+
+/// A value doubled so many times.
+fn doubled(alloc: Global, times: u32) -> Result<NodeList, AllocError>
+    requires { times < 1000 }
+{
+    let mut list = NodeListBuilder::new(alloc, 1);
+    let mut last = list.push(A)?;
+    for _ in 0..times {
+        last = list.push(add(last, last))?;
+    }
+    list.output(last)?;
+    Ok(list.finish())
+}
+
+#[test]
+fn is_deep_past_256(rt: HostRuntime) -> Result<(), Fail> {
+    let Ok(circuit) = layer(rt.alloc(), &doubled(rt.alloc(), 255)?, Limits::greatest()) else {
+        return Err(Fail::new("refused"));
+    };
+    assert_eq!(rt; circuit.height(), 256);
+    let deep = LayerRefused::Deep { levels: 257 };
+    refuses(&rt, &doubled(rt.alloc(), 256)?, Limits::greatest(), deep);
+    Ok(())
+}
