@@ -1,0 +1,68 @@
+-- The examples by computation
+use Rattle.std.proofs.Common.{◌≡◌, ◌≢◌, ◌≤◌, ◌⊎◌, inl, inr, [], ◌∷◌, length, take, refl, arith, lit<}
+use Rattle.std.proofs.lemmas.List.Elements.{All-cons, All-nil}
+use Rattle.field_ext.specs.Field.{K, of, zero_k}
+use Rattle.field_ext.specs.Polynomial.{HasAtMost}
+use Rattle.gkr_verify.specs.declared.verdict.Verdict.TheVariants.{Accepted}
+use Rattle.gkr_verify.specs.Acceptance.{verdict_of}
+use Rattle.gkr_verify.specs.Soundness.{IsExceptionalChallenge, HaveDegrees}
+use Rattle.field_ext.proofs.KLaws.{k_same}
+use Rattle.gkr_verify.specs.Examples.{number, zero_for_five, false_round_messages, false_round_challenges, false_line_messages, false_line_challenges, thirteen_for_twelve, true_product_messages, zero_challenges}
+use Rattle.gkr_verify.proofs.Few.{few_challenges}
+use Rattle.gkr_verify.proofs.Accepted.{equal, unequal}
+
+pub round_accepted : verdict_of zero_for_five false_round_messages false_round_challenges ≡ Accepted
+unfolding of
+round_accepted = refl
+
+pub line_accepted : verdict_of zero_for_five false_line_messages false_line_challenges ≡ Accepted
+unfolding of
+line_accepted = refl
+
+pub output_accepted : verdict_of thirteen_for_twelve true_product_messages zero_challenges ≡ Accepted
+unfolding of
+output_accepted = refl
+
+pub round_exceptional : IsExceptionalChallenge zero_for_five (take 1 false_round_messages) (take 1 false_round_challenges) 1 (number 3)
+unfolding of
+round_exceptional = ((λ s. unequal _ _ refl (s 1)), equal _ _ refl)
+
+pub line_exceptional : IsExceptionalChallenge zero_for_five false_line_messages (take 3 false_line_challenges) 3 (number 1)
+unfolding of
+line_exceptional = ((λ s. unequal _ _ refl (s 0)), equal _ _ refl)
+
+pub output_exceptional : IsExceptionalChallenge thirteen_for_twelve [] [] 0 (number 0)
+unfolding of
+output_exceptional = ((λ z. unequal _ _ refl (z 1 zero_k (lit< tt))), All-cons (λ c. c ≡ zero_k) _ [] (equal _ _ refl) (All-nil (λ c. c ≡ zero_k)))
+
+-- a set of at most two elements that has these two has no other
+only_two : (S : K → Type 0) (a b v : K) → HasAtMost 2 S → S a → S b → (a ≡ b → ⊥) → S v → (v ≡ a) ⊎ (v ≡ b)
+only_two S a b v few sa sb ne sv =
+    elim (k_same v a) [
+      | inl e ↦ inl e
+      | inr na ↦
+          elim (k_same v b) [
+            | inl e ↦ inr e
+            | inr nb ↦
+                let three : 3 ≤ 2 = few (v ∷ a ∷ b ∷ [])
+                (All-cons (λ y. v ≢ y) a (b ∷ []) na (All-cons (λ y. v ≢ y) b [] nb (All-nil (λ y. v ≢ y))), (All-cons (λ y. a ≢ y) b [] ne (All-nil (λ y. a ≢ y)), (All-nil (λ y. b ≢ y), tt)))
+                (All-cons S v (a ∷ b ∷ []) sv (All-cons S a (b ∷ []) sa (All-cons S b [] sb (All-nil S)))) in
+                absurd (omega (arith, three))
+          ]
+    ]
+
+round_zero : IsExceptionalChallenge zero_for_five (take 1 false_round_messages) (take 1 false_round_challenges) 1 (number 0)
+unfolding of
+round_zero = ((λ s. unequal _ _ refl (s 1)), equal _ _ refl)
+
+apart_three : number 0 ≡ number 3 → ⊥
+unfolding of
+apart_three = unequal _ _ refl
+
+round_degrees : HaveDegrees zero_for_five.layers (take 1 false_round_messages)
+round_degrees = (All-cons (λ q. length q ≤ 3) _ [] (omega arith) (All-nil (λ q. length q ≤ 3)), omega arith, tt)
+
+pub round_only : (v : K) → IsExceptionalChallenge zero_for_five (take 1 false_round_messages) (take 1 false_round_challenges) 1 v → (v ≡ number 0) ⊎ (v ≡ number 3)
+round_only v h =
+    only_two (IsExceptionalChallenge zero_for_five (take 1 false_round_messages) (take 1 false_round_challenges) 1) (number 0) (number 3) v
+    (few_challenges zero_for_five (take 1 false_round_messages) (take 1 false_round_challenges) 1 round_degrees) round_zero round_exceptional apart_three h

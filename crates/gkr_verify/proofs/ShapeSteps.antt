@@ -1,0 +1,135 @@
+-- Messages of a circuit's shape, and what follows where they are accepted
+use Rattle.std.proofs.Common.{◌≡◌, ℕ, zero, suc, ◌+◌, ◌-◌, ◌*◌, ◌^◌, ◌<◌, ◌≤◌, List, [], ◌∷◌, ◌++◌, All, length, map, take, drop, get_or, replicate, refl, sym, ◌∙◌, ap, subst, arith, append_assoc, length-append, add-one}
+use Rattle.std.specs.List.{range_with_len}
+use Rattle.std.proofs.lemmas.List.{length-map}
+use Rattle.field_ext.specs.Field.{F, K, embed_k}
+use Rattle.circuit_core.specs.declared.gate.CircuitGate.{CircuitGate}
+use Rattle.circuit_core.specs.Parts.{Parts, height, width_of, leaf_value, padded_values, layer_values, zero_f}
+use Rattle.circuit_core.specs.Sound.{SoundCircuit, exponent_at, exponents}
+use Rattle.circuit_core.proofs.Faultless.{none_from_test, width_bounds, leaves_room}
+use Rattle.wiring_poly.specs.Layers.{GateLayer, layers_from, layers_of, message_count}
+use Rattle.wiring_poly.proofs.Circuits.{size_of, layers_fit, input_size, length-layers, over-embed}
+use Rattle.wiring_poly.proofs.Identity.{take-front}
+use Rattle.transcript_fs.specs.Source.{Source, coordinates, state_after_coordinates, draws, all_draws}
+use Rattle.proof_wire.specs.declared.messages.LayerMessages.{LayerMessages}
+use Rattle.proof_wire.specs.declared.messages.Messages.{Messages}
+use Rattle.proof_wire.specs.declared.messages.Round.{Round}
+use Rattle.proof_wire.specs.Spelling.{AreOf, coefficients_of}
+use Rattle.gkr_verify.specs.declared.verdict.Verdict.TheVariants.{Accepted}
+use Rattle.gkr_verify.specs.Shapes.{messages_of, all_messages, round_messages, HaveShape}
+use Rattle.gkr_verify.specs.Acceptance.{CircuitClaim, claim_of, true_table, challenge_count, verdict_of}
+use Rattle.gkr_verify.specs.Soundness.{HaveDegrees, IsFalse, LetsPass}
+use Rattle.gkr_verify.proofs.LayerSteps.{front-take, next-read, rest-drop, length-draws}
+use Rattle.gkr_verify.proofs.BelowSteps.{length-messages, input_width}
+use Rattle.gkr_verify.proofs.PointSteps.{length-coordinates}
+use Rattle.gkr_verify.proofs.TableSteps.{length-table}
+use Rattle.gkr_verify.proofs.Sound.{lets_pass}
+
+have_from : (p : Parts) (i : ℕ) (layers : List (List CircuitGate)) (ms : List LayerMessages) →
+    map (λ layer. length layer.rounds.items) ms ≡ map (λ k. 2 * k) (map (exponent_at p) (range_with_len (i + 1) (length layers))) →
+    map (λ layer. length layer.line.items) ms ≡ map (λ k. k + 1) (map (exponent_at p) (range_with_len (i + 1) (length layers))) → HaveShape (layers_from p i layers) ms
+have_from p i [] [] e f = tt
+have_from p i [] (m ∷ ms) e f = absurd (let u : suc (length (map (λ layer. length layer.rounds.items) ms)) ≡ 0 = ap length e in omega (arith, u))
+have_from p i (gates ∷ layers) [] e f = absurd (let u : 0 ≡ suc (length (map (λ (k : ℕ). 2 * k) (map (exponent_at p) (range_with_len (i + 1 + 1) (length layers))))) = ap length e in omega (arith, u))
+have_from p i (gates ∷ layers) (m ∷ ms) e f =
+    let two : length m.rounds.items ≡ 2 * exponent_at p (i + 1) = ap (λ (xs : List ℕ). get_or xs 0 0) e in (
+      record { rounds = omega (arith, two); line = ap (λ (xs : List ℕ). get_or xs 0 0) f },
+      have_from p (i + 1) layers ms (ap (λ (xs : List ℕ). drop 1 xs) e) (ap (λ (xs : List ℕ). drop 1 xs) f),
+    )
+
+-- messages of a circuit's shape are so for each layer
+pub have_shape : (p : Parts) (messages : Messages) → AreOf (exponents p) messages → HaveShape (layers_of p) messages.layers.items
+have_shape p messages h =
+    let one : drop 1 (exponents p) ≡ map (exponent_at p) (range_with_len (0 + 1) (height p)) = ap (λ (n : ℕ). drop 1 (map (exponent_at p) (range_with_len 0 n))) (add-one (height p)) in
+    have_from p 0 p.layers messages.layers.items (h.rounds ∙ ap (λ (ks : List ℕ). map (λ k. 2 * k) ks) one) (h.lines ∙ ap (λ (ks : List ℕ). map (λ k. k + 1) ks) one)
+
+same_length : (layers : List GateLayer) (ms : List LayerMessages) → HaveShape layers ms → length ms ≡ length layers
+same_length [] [] h = refl
+same_length [] (m ∷ ms) h = absurd h
+same_length (layer ∷ layers) [] h = absurd h
+same_length (layer ∷ layers) (m ∷ ms) h = ap (λ (n : ℕ). suc n) (same_length layers ms h.1)
+
+pub messages_height : (p : Parts) (messages : Messages) → AreOf (exponents p) messages → length messages.layers.items ≡ height p
+messages_height p messages h = same_length (layers_of p) messages.layers.items (have_shape p messages h) ∙ length-layers p 0 p.layers
+
+length-all : (layers : List GateLayer) (ms : List LayerMessages) → HaveShape layers ms → length (all_messages ms) ≡ message_count layers
+length-all [] [] h = refl
+length-all [] (m ∷ ms) h = absurd h
+length-all (layer ∷ layers) [] h = absurd h
+length-all (layer ∷ layers) (m ∷ ms) h = omega (arith, length-append (messages_of m) (all_messages ms), length-messages layer.k m h.0, length-all layers ms h.1)
+
+three_each : (rounds : List Round) → All (λ q. length q ≤ 3) (round_messages rounds)
+three_each rounds i d u =
+    let size = length-map rounds coefficients_of in
+    let inside : i < length rounds = omega (arith, size, u) in
+    at rounds i d inside
+  where
+    at : (rounds : List Round) (i : ℕ) (d : List K) → i < length rounds → length (get_or (round_messages rounds) i d) ≤ 3
+    at [] i d u = absurd (omega arith)
+    at (round ∷ rounds) zero d u = omega arith
+    at (round ∷ rounds) (suc i) d u = at rounds i d (omega arith)
+
+degrees_of : (layers : List GateLayer) (ms : List LayerMessages) → HaveShape layers ms → HaveDegrees layers (all_messages ms)
+degrees_of [] [] h = tt
+degrees_of [] (m ∷ ms) h = absurd h
+degrees_of (layer ∷ layers) [] h = absurd h
+degrees_of (layer ∷ layers) (m ∷ ms) h =
+    let k = layer.k in
+    let rounds : List (List K) = round_messages m.rounds.items in
+    let line : List K = m.line.items in
+    let rest : List (List K) = all_messages ms in
+    let flat : (round_messages m.rounds.items ++ m.line.items ∷ []) ++ all_messages ms ≡ round_messages m.rounds.items ++ m.line.items ∷ all_messages ms = append_assoc rounds (line ∷ []) rest in
+    let count : length (round_messages m.rounds.items) ≡ layer.k + layer.k = length-map m.rounds.items coefficients_of ∙ h.0.rounds in
+    let after : layer.k + layer.k + 1 ≡ suc (layer.k + layer.k) = omega arith in
+    let last : length m.line.items ≤ layer.k + 1 = omega (arith, h.0.line) in
+    subst (λ (qs : List (List K)). HaveDegrees (layer ∷ layers) qs) (sym flat) (
+      subst (λ (qs : List (List K)). All (λ q. length q ≤ 3) qs) (sym (front-take rounds (line ∷ rest) (k + k) count)) (three_each m.rounds.items),
+      subst (λ (q : List K). length q ≤ layer.k + 1) (sym (next-read rounds rest line [] (k + k) count)) last,
+      subst (λ (qs : List (List K)). HaveDegrees layers qs) (sym (rest-drop rounds rest line (k + k) (k + k + 1) count after)) (degrees_of layers ms h.1),
+    )
+
+length-challenges : (source : Source) (s : List ℕ) (stated : CircuitClaim) (qs : List (List K)) → length qs ≡ message_count stated.layers → length (all_draws source s stated.k qs) ≡ challenge_count stated
+length-challenges source s stated qs e =
+    omega (arith, length-append (coordinates source s stated.k) (draws source (state_after_coordinates source s stated.k) qs), length-coordinates source s stated.k, length-draws source (state_after_coordinates source s stated.k) qs, e)
+
+-- the outputs stand behind position 0
+pub outputs_room : (c : SoundCircuit) → c.parts.outputs < width_of c.parts 0
+outputs_room c = let held = (width_bounds c.parts (none_from_test _ c.faultless) 0 (omega arith)).1 in omega (arith, held)
+
+-- and so do the leaves
+pub leaves_fit : (c : SoundCircuit) → length c.parts.leaves < width_of c.parts (height c.parts)
+leaves_fit c = let room = leaves_room c.parts (none_from_test _ c.faultless) in omega (arith, room)
+
+-- elements of F_p that are the same in K are the same
+parts_of : (xs : List F) → map (λ (x : K). x.re) (map embed_k xs) ≡ xs
+parts_of [] = refl
+parts_of (x ∷ xs) = ap (λ (ys : List F). x ∷ ys) (parts_of xs)
+
+module _ (c : SoundCircuit) (inputs outputs : List F) (count : length outputs ≡ c.parts.outputs) where
+  p : Parts
+  p = c.parts
+
+  -- a claimed table that is the true one holds the outputs that the circuit has
+  outputs_true : (claim_of c.parts inputs outputs).claimed_table ≡ true_table (claim_of c.parts inputs outputs) → outputs ≡ take (length outputs) (drop 1 (layer_values c.parts inputs 0))
+  outputs_true e =
+      let width = width_of c.parts 0 in
+      let input = padded_values c.parts.input_width (map (leaf_value inputs) c.parts.leaves) in
+      let same : padded_values (width_of c.parts 0) outputs ≡ layer_values c.parts inputs 0 =
+      sym (parts_of (padded_values width outputs)) ∙ ap (λ (t : List K). map (λ (x : K). x.re) t) (e ∙ sym (over-embed c.parts 0 c.parts.layers input)) ∙ parts_of (layer_values c.parts inputs 0) in
+      sym (take-front outputs (replicate (width_of c.parts 0 - (1 + length outputs)) zero_f)) ∙ ap (λ (t : List F). take (length outputs) (drop 1 t)) same
+
+  pub sound : (source : Source) (s : List ℕ) (messages : Messages) → AreOf (exponents c.parts) messages →
+      verdict_of (claim_of c.parts inputs outputs) (all_messages messages.layers.items) (all_draws source s (exponent_at c.parts 0) (all_messages messages.layers.items)) ≡ Accepted → IsFalse c.parts inputs outputs →
+      (n : ℕ) × LetsPass (claim_of c.parts inputs outputs) (all_messages messages.layers.items) (all_draws source s (exponent_at c.parts 0) (all_messages messages.layers.items)) n
+  sound source s messages shape accepted false' =
+      let stated : CircuitClaim = claim_of c.parts inputs outputs in
+      let qs : List (List K) = all_messages messages.layers.items in
+      let have = have_shape c.parts messages shape in
+      let all = length-all stated.layers messages.layers.items have in
+      let values = map (leaf_value inputs) c.parts.leaves in
+      let fit : length (map (leaf_value inputs) c.parts.leaves) < c.parts.input_width = omega (arith, length-map c.parts.leaves (leaf_value inputs), leaves_fit c, input_width c.parts) in
+      let few : length outputs < width_of c.parts 0 = omega (arith, count, outputs_room c) in
+      lets_pass stated qs (all_draws source s stated.k qs) (layers_fit c)
+      (length-table (width_of c.parts 0) outputs few ∙ (size_of c 0 (omega arith)).0)
+      (length-table c.parts.input_width values fit ∙ sym (input_width c.parts) ∙ (size_of c (height c.parts) (omega arith)).0 ∙ ap (λ (k : ℕ). 2 ^ k) (sym (input_size c.parts)))
+      all (length-challenges source s stated qs all) accepted (λ e. false' (outputs_true e)) (degrees_of stated.layers messages.layers.items have)

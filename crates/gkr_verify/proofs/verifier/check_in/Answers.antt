@@ -1,0 +1,64 @@
+use Rattle.std.proofs.Common.{◌≡◌, ℕ, ◌^◌, List, length, map, IsTrue, arith, ◌∙◌, ap, sym, subst}
+use Rattle.field_ext.specs.Field.{k_ops, embed_k}
+use Rattle.field_ext.specs.Multilinear.{extension_at}
+use Rattle.circuit_core.specs.Parts.{padded_values}
+use Rattle.circuit_core.specs.Sound.{exponent_at}
+use Rattle.wiring_poly.specs.Layers.{layers_of, message_count}
+use Rattle.wiring_poly.proofs.Circuits.{size_of}
+use Rattle.transcript_fs.specs.Source.{Source, coordinates, state_after_coordinates, draws}
+use Rattle.proof_wire.specs.declared.messages.LayerMessages.{LayerMessages}
+use Rattle.gkr_verify.specs.Equations.{equations, first_failure}
+use Rattle.gkr_verify.specs.Acceptance.{CircuitClaim, claim_of}
+use Rattle.gkr_verify.specs.Shapes.{all_messages, HaveShape}
+use Rattle.gkr_verify.proofs.LayerSteps.{has_front}
+use Rattle.gkr_verify.proofs.PointSteps.{has_after_point, point_front, point_rest}
+use Rattle.gkr_verify.proofs.ShapeSteps.{have_shape, messages_height, outputs_room}
+use Rattle.gkr_verify.proofs.verifier.check_in.Goals as goal
+
+pub draw_point-requires : goal.draw_point-requires
+draw_point-requires g c =
+    let source : Source = g.C.Challenges.source in
+    let s = g.C.Challenges.state c.args.challenges.now in
+    let p = c.args.circuit.now.parts in
+    subst (λ n. IsTrue (source.has s n)) (sym (c.split_at_mut-point.ensures.front_len ∙ c.coordinates.ensures.value)) (has_front source s (exponent_at p 0) (message_count (layers_of p)) c.requires.has)
+
+pub values_extension-claim-requires-clause-fits : goal.values_extension-claim-requires-clause-fits
+values_extension-claim-requires-clause-fits g c =
+    let circuit = c.args.circuit.now in
+    let size : length c.draw_point.new.point ≡ exponent_at c.args.circuit.now.parts 0 = c.draw_point.auto.point ∙ c.split_at_mut-point.ensures.front_len ∙ c.coordinates.ensures.value in
+    omega (arith, c.requires.outputs, outputs_room circuit, (size_of circuit 0 (omega arith)).0, ap (λ (n : ℕ). 2 ^ n) size)
+
+pub check_layers-requires-clause-layer : goal.check_layers-requires-clause-layer
+check_layers-requires-clause-layer g c =
+    let count = messages_height c.args.circuit.now.parts c.args.messages.now c.requires.shape in
+    omega (arith, count, ap length c.deref.ensures.value)
+
+pub check_layers-requires-clause-shape : goal.check_layers-requires-clause-shape
+check_layers-requires-clause-shape g c =
+    subst (λ (ms : List LayerMessages). HaveShape (layers_of c.args.circuit.now.parts) ms) (sym c.deref.ensures.value) (have_shape c.args.circuit.now.parts c.args.messages.now c.requires.shape)
+
+pub check_layers-requires-clause-has : goal.check_layers-requires-clause-has
+check_layers-requires-clause-has g c =
+    let source : Source = g.C.Challenges.source in
+    let s = g.C.Challenges.state c.args.challenges.now in
+    let p = c.args.circuit.now.parts in
+    let after = c.draw_point.ensures.state ∙ ap (state_after_coordinates source s) (c.split_at_mut-point.ensures.front_len ∙ c.coordinates.ensures.value) in
+    subst (λ t. IsTrue (source.has t (message_count (layers_of p)))) (sym after) (has_after_point source s (exponent_at p 0) (message_count (layers_of p)) c.requires.has)
+
+pub returns : goal.returns
+returns g c =
+    let source : Source = g.C.Challenges.source in
+    let s = g.C.Challenges.state c.args.challenges.now in
+    let circuit = c.args.circuit.now in
+    let k : ℕ = exponent_at circuit.parts 0 in
+    let qs = all_messages c.args.messages.now.layers.items in
+    let stated : CircuitClaim = claim_of circuit.parts c.args.inputs.now c.args.outputs.now in
+    let count = c.split_at_mut-point.ensures.front_len ∙ c.coordinates.ensures.value in
+    let z : c.draw_point.new.point ≡ coordinates source s k = c.draw_point.ensures.point ∙ ap (coordinates source s) count in
+    let after : g.C.Challenges.state c.draw_point.new.challenges ≡ state_after_coordinates source s k = c.draw_point.ensures.state ∙ ap (state_after_coordinates source s) count in
+    let width = ap (λ (n : ℕ). 2 ^ n) (c.draw_point.auto.point ∙ count) ∙ sym (size_of circuit 0 (omega arith)).0 in
+    let rest = draws source (state_after_coordinates source s k) qs in
+    c.check_layers.ensures
+    ∙ (λ i. first_failure (equations 0 stated.layers stated.input_table c.draw_point.new.point (c.values_extension-claim.ensures i) (all_messages (c.deref.ensures.value i)) (draws source (after i) (all_messages (c.deref.ensures.value i)))))
+    ∙ (λ i. first_failure (equations 0 stated.layers stated.input_table (z i) (extension_at k_ops k_ops (λ x. x) (map embed_k (padded_values (width i) c.args.outputs.now)) (z i)) qs rest))
+    ∙ (λ i. first_failure (equations 0 stated.layers stated.input_table (sym (point_front source s k rest) i) (extension_at k_ops k_ops (λ x. x) stated.claimed_table (sym (point_front source s k rest) i)) qs (sym (point_rest source s k rest) i)))

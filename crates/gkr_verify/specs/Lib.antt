@@ -1,0 +1,5 @@
+pub mod Shapes
+pub mod Equations
+pub mod Acceptance
+pub mod Soundness
+pub mod Examples

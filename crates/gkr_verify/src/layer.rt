@@ -1,0 +1,72 @@
+// One layer.
+
+ghost use Rattle.std.specs.Prelude.{◌≡◌, ◌<◌, ◌+◌, suc, List, ◌∷◌, ◌++◌, length, IsTrue, IfOk, IfErr};
+ghost use Rattle.field_ext.specs.Field.{K};
+ghost use Rattle.circuit_core.specs.Parts.{height};
+ghost use Rattle.circuit_core.specs.Sound.{exponent_at};
+ghost use Rattle.wiring_poly.specs.Layers.{GateLayer};
+ghost use Rattle.transcript_fs.specs.Source.{draws, state_after};
+ghost use Rattle.gkr_verify.specs.Equations.{equations, first_failure};
+ghost use Rattle.gkr_verify.specs.Shapes.{layer_at, messages_of, HasShape};
+
+use crate::end::end_value;
+use crate::rounds::check_rounds;
+use crate::verdict::Verdict;
+use circuit_core::Circuit;
+use field_ext::Ext;
+use line_reduce::point_at;
+use poly_roots::value_at;
+use proof_wire::LayerMessages;
+use transcript_fs::Challenges;
+
+/// Checks the messages of a layer against the claim at `point`. Where its equations hold, it gives the claim on the
+/// layer below, at the point that it leaves in `next`.
+pub(crate) fn check_layer<C: Challenges>(
+    circuit: &Circuit,
+    layer: usize,
+    messages: &LayerMessages,
+    claim: Ext,
+    point: &[Ext],
+    drawn: &mut [Ext],
+    next: &mut [Ext],
+    challenges: &mut C,
+) -> Result<Ext, Verdict>
+    requires layer { layer < height circuit.now.parts }
+    requires position { length point.now ≡ exponent_at circuit.now.parts layer }
+    requires shape { HasShape (exponent_at circuit.now.parts (layer + 1)) messages.now }
+    requires drawn { length drawn.old ≡ exponent_at circuit.now.parts (layer + 1) + exponent_at circuit.now.parts (layer + 1) }
+    requires next { length next.old ≡ exponent_at circuit.now.parts (layer + 1) }
+    requires has { IsTrue (C.source.has (C.state challenges.old) (exponent_at circuit.now.parts (layer + 1) + exponent_at circuit.now.parts (layer + 1) + 1)) }
+    ensures holds { IfOk result (λ value. (below : List GateLayer) (input : List K) (qs : List (List K)) →
+        first_failure (equations layer (layer_at circuit.now.parts layer ∷ below) input point.now claim (messages_of messages.now ++ qs) (draws C.source (C.state challenges.old) (messages_of messages.now ++ qs)))
+        ≡ first_failure (equations (suc layer) below input next.new value qs (draws C.source (C.state challenges.new) qs))) }
+    ensures state { IfOk result (λ value. C.state challenges.new ≡ state_after C.source (C.state challenges.old) (messages_of messages.now)) }
+    ensures fails { IfErr result (λ verdict. (below : List GateLayer) (input : List K) (qs : List (List K)) →
+        first_failure (equations layer (layer_at circuit.now.parts layer ∷ below) input point.now claim (messages_of messages.now ++ qs) (draws C.source (C.state challenges.old) (messages_of messages.now ++ qs)))
+        ≡ verdict) }
+{
+    let claim = match check_rounds(&messages.rounds, claim, drawn, challenges) {
+        Ok(claim) => claim,
+        Err(fault) => {
+            return Err(Verdict::Sum {
+                layer,
+                round: fault.round,
+                had: fault.had,
+                claim: fault.claim,
+            });
+        }
+    };
+    let (left, right) = drawn.split_at(next.len());
+    let want = end_value(circuit, layer, point, left, right, &messages.line);
+    if !claim.equals(want) {
+        return Err(Verdict::End {
+            layer,
+            had: claim,
+            want,
+        });
+    }
+    challenges.absorb(&messages.line);
+    let challenge = challenges.challenge();
+    point_at(left, right, challenge, next);
+    Ok(value_at(&messages.line, challenge))
+}

@@ -1,0 +1,26 @@
+//! The verifier of the Goldwasser-Kalai-Rothblum protocol, and its soundness.
+//!
+//! [`check`] follows the claim on the outputs down the layers: sumcheck's rounds for each layer, the end of the rounds by
+//! the wiring polynomials, a point on the line between the two operands' points, and at last the inputs. Its answer is
+//! the first equation that fails, or [`Verdict::Accepted`]; where false outputs are accepted, some challenge was one of
+//! the few that are exceptional. Source: Thaler, "Proofs, Arguments, and Zero-Knowledge", 4.6.
+//!
+//! ```text
+//! let verdict = check(alloc, &circuit, &inputs, &outputs, &messages, &mut challenges)?;
+//! ```
+#![tactic(auto)]
+
+mod end;
+pub mod examples;
+mod extension;
+pub mod laws;
+mod layer;
+mod layers;
+mod rounds;
+#[cfg(test)]
+mod tests;
+mod verdict;
+mod verifier;
+
+pub use verdict::Verdict;
+pub use verifier::{challenge_count, check};

@@ -1,0 +1,167 @@
+use super::*;
+use circuit_core::{Circuit, CircuitGate, CircuitRefused, Kind, Layer, Leaf};
+use field_ext::{Ext, Fp};
+use proof_wire::decode;
+use std::alloc::{AllocError, Global};
+use std::process::Abort;
+use std::test::Fail;
+use transcript_fs::{Challenges, Given};
+
+fn number(n: i32) -> Ext {
+    let size = Ext::embed(Fp::reduce(n.unsigned_abs() as u64));
+    if n < 0 { size.neg() } else { size }
+}
+
+fn numbers(alloc: Global, ns: &[i32]) -> Result<Vec<Ext>, AllocError> {
+    let mut elements = Vec::new(alloc);
+    for n in ns {
+        elements.push(number(*n))?;
+    }
+    Ok(elements)
+}
+
+fn gate(kind: Kind, left: u32, right: u32) -> CircuitGate {
+    CircuitGate { kind, left, right }
+}
+
+/// A layer of the zero gate and one more.
+fn layer(alloc: Global, second: CircuitGate) -> Result<Layer, AllocError> {
+    Ok(Layer::of(Vec::from_slice(alloc, &[gate(Kind::Add, 0, 0), second])?))
+}
+
+/// The circuit of `input a; output a;`.
+fn copy(alloc: Global) -> Result<Circuit, CircuitRefused> {
+    let first = layer(alloc, gate(Kind::Add, 1, 0))?;
+    let layers = vec![in alloc; first].map_err(|_| CircuitRefused::Memory)?;
+    let leaves = Vec::from_slice(alloc, &[Leaf::Input(0)])?;
+    Circuit::of(alloc, layers, 2, leaves, 1, 1)
+}
+
+/// The circuit of `input a; input b; output a * b;`, with one layer that copies.
+fn product(alloc: Global) -> Result<Circuit, CircuitRefused> {
+    let first = layer(alloc, gate(Kind::Add, 1, 0))?;
+    let second = layer(alloc, gate(Kind::Mul, 1, 2))?;
+    let layers = vec![in alloc; first, second].map_err(|_| CircuitRefused::Memory)?;
+    let leaves = Vec::from_slice(alloc, &[Leaf::Input(0), Leaf::Input(1)])?;
+    Circuit::of(alloc, layers, 4, leaves, 2, 1)
+}
+
+/// The bytes of a proof of these coefficients.
+fn spelled(alloc: Global, coefficients: &[i32]) -> Result<Vec<u8>, AllocError> {
+    let mut bytes = Vec::from_slice(alloc, b"GKR1")?;
+    for n in coefficients {
+        bytes.extend_from_slice(&number(*n).to_bytes())?;
+    }
+    Ok(bytes)
+}
+
+/// The answer to messages of these coefficients, with these challenges, for one output.
+fn answer<R: Abort + AllocGlobal>(
+    rt: &R,
+    circuit: &Circuit,
+    inputs: &[Fp],
+    output: u64,
+    coefficients: &[i32],
+    challenges: &[i32],
+) -> Result<Verdict, Fail> {
+    let bytes = spelled(rt.alloc(), coefficients)?;
+    let Ok(messages) = decode(rt.alloc(), &bytes, circuit.shape()) else {
+        return Err(Fail::new("no messages"));
+    };
+    let mut given = Given::of(numbers(rt.alloc(), challenges)?);
+    assert!(rt; given.has(challenge_count(circuit)));
+    assert!(rt; inputs.len() == circuit.inputs() as usize);
+    assert!(rt; circuit.outputs() == 1);
+    let outputs = [Fp::reduce(output)];
+    Ok(check(rt.alloc(), circuit, inputs, &outputs, &messages, &mut given)?)
+}
+
+const COPIED: [i32; 8] = [0, -5, 15, 120, -80, -40, 15, 5];
+
+#[test]
+fn follows_a_copy(rt: HostRuntime) -> Result<(), Fail> {
+    let Ok(circuit) = copy(rt.alloc()) else {
+        return Err(Fail::new("no circuit"));
+    };
+    let five = [Fp::reduce(5)];
+    let drawn = [2, 3, 4, 6];
+    assert_eq!(rt; challenge_count(&circuit), 4);
+    assert_eq!(rt;
+        answer(&rt, &circuit, &five, 5, &COPIED, &drawn)?,
+        Verdict::Accepted
+    );
+    let changed = answer(&rt, &circuit, &five, 6, &COPIED, &drawn)?;
+    let sum = Verdict::Sum {
+        layer: 0,
+        round: 1,
+        had: number(10),
+        claim: number(12),
+    };
+    assert_eq!(rt; changed, sum);
+    // The rounds' messages exchanged: 120 + 120 - 80 - 40 is not 10.
+    let exchanged = [120, -80, -40, 0, -5, 15, 15, 5];
+    let sum = Verdict::Sum {
+        layer: 0,
+        round: 1,
+        had: number(120),
+        claim: number(10),
+    };
+    assert_eq!(rt; answer(&rt, &circuit, &five, 5, &exchanged, &drawn)?, sum);
+    // The wiring polynomial is -24 at the rounds' point: the end is -24 times 15 + 21, and for this line 15 + 22.
+    let other_line = [0, -5, 15, 120, -80, -40, 15, 7];
+    let end = Verdict::End {
+        layer: 0,
+        had: number(-840),
+        want: number(-888),
+    };
+    assert_eq!(rt; answer(&rt, &circuit, &five, 5, &other_line, &drawn)?, end);
+    Ok(())
+}
+
+#[test]
+fn tells_the_first_equation_that_fails(rt: HostRuntime) -> Result<(), Fail> {
+    let Ok(circuit) = copy(rt.alloc()) else {
+        return Err(Fail::new("no circuit"));
+    };
+    let five = [Fp::reduce(5)];
+    let end = Verdict::End {
+        layer: 0,
+        had: number(1),
+        want: number(0),
+    };
+    let messages = [0, 0, 0, 1, -2, 0, 0, 0];
+    assert_eq!(rt;
+        answer(&rt, &circuit, &five, 0, &messages, &[0, 0, 0, 0])?,
+        end
+    );
+    let input = Verdict::Input {
+        had: number(0),
+        want: number(5),
+    };
+    assert_eq!(rt;
+        answer(&rt, &circuit, &five, 0, &[0; 8], &[0, 1, 1, 0])?,
+        input
+    );
+    Ok(())
+}
+
+#[test]
+fn follows_a_product(rt: HostRuntime) -> Result<(), Fail> {
+    let Ok(circuit) = product(rt.alloc()) else {
+        return Err(Fail::new("no circuit"));
+    };
+    let inputs = [Fp::reduce(3), Fp::reduce(4)];
+    let messages = [
+        0, 12, -12, 0, 12, -12, 0, 0, 0, 3, -3, 0, 4, -4, 0, 3, -3, 0, 4, -4, 0, 0, 0,
+    ];
+    assert_eq!(rt;
+        answer(&rt, &circuit, &inputs, 12, &messages, &[0; 9])?,
+        Verdict::Accepted
+    );
+    // Where the first challenge is 0, another output is accepted too.
+    assert_eq!(rt;
+        answer(&rt, &circuit, &inputs, 13, &messages, &[0; 9])?,
+        Verdict::Accepted
+    );
+    Ok(())
+}

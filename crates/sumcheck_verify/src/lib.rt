@@ -1,0 +1,18 @@
+//! The verifier's rounds of a sumcheck.
+//!
+//! A round's message is a polynomial of three coefficients, constant first. Its values at 0 and at 1 have to add to the
+//! claim, and the next claim is its value at the round's challenge. Source: Thaler, "Proofs, Arguments, and
+//! Zero-Knowledge", 4.1 (Lund, Fortnow, Karloff and Nisan).
+//!
+//! ```text
+//! let mut rounds = Rounds::start(claim);
+//! rounds.take(message)?;          // a SumFault where the sum is wrong
+//! rounds.bind(challenge);
+//! ```
+#![tactic(auto)]
+
+mod rounds;
+#[cfg(test)]
+mod tests;
+
+pub use rounds::{Rounds, SumFault};

@@ -1,0 +1,4 @@
+pub mod Wiring
+pub mod Sumcheck
+pub mod Layers
+pub mod SplitEquality

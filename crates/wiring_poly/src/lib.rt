@@ -1,0 +1,20 @@
+//! The wiring polynomials of a layer, and the polynomials that prover and verifier share.
+//!
+//! The wiring polynomials are the multilinear extensions of "the gate at z adds the values at b and c" and "the gate at
+//! z multiplies them"; with the values of the layer below they make the summand of a layer's sumcheck. The definitions
+//! of both, of the true polynomial of a round and of a line, and of the equations of all layers stand in `specs/`, over
+//! the gates of `circuit_core`. Source: Thaler, "Proofs, Arguments, and Zero-Knowledge", 4.6.
+//!
+//! ```text
+//! let (add, mul) = wiring_at(&circuit, layer, &z, &b, &c);
+//! ```
+#![tactic(auto)]
+
+pub mod laws;
+mod split_equality;
+#[cfg(test)]
+mod tests;
+mod wiring;
+
+pub use split_equality::SplitEquality;
+pub use wiring::{coordinates, wiring_at};

@@ -1,0 +1,87 @@
+// The wiring polynomials at a point.
+
+ghost use Rattle.std.specs.Prelude.{◌≡◌, ◌≤◌, ◌<◌, ◌+◌, ◌^◌, [], All, length, slice_index_or};
+ghost use Rattle.field_ext.specs.Field.{k_ops, add_k, zero_k};
+ghost use Rattle.circuit_core.specs.Parts.{height, IsOver};
+ghost use Rattle.circuit_core.specs.Sound.{exponent_at};
+ghost use Rattle.wiring_poly.specs.Wiring.{by_kind, wiring_add, wiring_mul};
+
+use crate::split_equality::SplitEquality;
+use circuit_core::{Circuit, CircuitGate, Kind};
+use field_ext::Ext;
+
+/// The wiring polynomials of a layer, that of the add gates and that of the multiply gates, at the point `z` of the
+/// layer's positions and the points `b` and `c` of the operands' positions in the layer below. The time is linear in the
+/// gates, and no memory is taken.
+pub fn wiring_at(circuit: &Circuit, layer: u32, z: &[Ext], b: &[Ext], c: &[Ext]) -> (Ext, Ext)
+    requires layer { layer < height circuit.now.parts }
+    requires position { length z.now ≡ exponent_at circuit.now.parts layer }
+    requires left { length b.now ≡ exponent_at circuit.now.parts (layer + 1) }
+    requires right { length c.now ≡ exponent_at circuit.now.parts (layer + 1) }
+    ensures add { result.0 ≡ wiring_add k_ops (slice_index_or circuit.now.parts.layers layer []) z.now b.now c.now }
+    ensures mul { result.1 ≡ wiring_mul k_ops (slice_index_or circuit.now.parts.layers layer []) z.now b.now c.now }
+{
+    let sums = gate_sums(circuit.gates(layer as usize), z, b, c);
+    (sums.add, sums.mul)
+}
+
+/// How many coordinates the positions of a layer have, at most 16: the layer has two to this power of them.
+pub fn coordinates(circuit: &Circuit, layer: usize) -> usize
+    requires { layer ≤ height circuit.now.parts }
+    ensures value { result ≡ exponent_at circuit.now.parts layer }
+    ensures most { result ≤ 16 }
+{
+    circuit.shape().k(layer) as usize
+}
+
+// The values of the two wiring polynomials.
+#[derive(Clone, Copy)]
+struct GateSums {
+    add: Ext,
+    mul: Ext,
+}
+
+// The wiring polynomials of a list of gates, by position, at points of at most 16 coordinates.
+fn gate_sums(gates: &[CircuitGate], z: &[Ext], b: &[Ext], c: &[Ext]) -> GateSums
+    requires positions { length gates.now ≡ 2 ^ length z.now }
+    requires operands { All (IsOver (2 ^ length b.now)) gates.now }
+    requires right { length c.now ≡ length b.now }
+    requires few_positions { length z.now ≤ 16 }
+    requires few_operands { length b.now ≤ 16 }
+    ensures add { result.add ≡ wiring_add k_ops gates.now z.now b.now c.now }
+    ensures mul { result.mul ≡ wiring_mul k_ops gates.now z.now b.now c.now }
+{
+    let position = SplitEquality::at(z);
+    let left = SplitEquality::at(b);
+    let right = SplitEquality::at(c);
+    let mut sums = GateSums {
+        add: Ext::zero(),
+        mul: Ext::zero(),
+    };
+    for (g, gate) in gates.iter().enumerate() {
+        let operands = left
+            .value(gate.left as usize)
+            .mul(right.value(gate.right as usize));
+        sums = sums.with(gate.kind, position.value(g).mul(operands));
+    }
+    sums
+}
+
+impl GateSums {
+    // With the weight of one more gate.
+    fn with(self, kind: Kind, weight: Ext) -> GateSums
+        ensures add { result.add ≡ add_k self.add (by_kind kind weight zero_k) }
+        ensures mul { result.mul ≡ add_k self.mul (by_kind kind zero_k weight) }
+    {
+        match kind {
+            Kind::Add => GateSums {
+                add: self.add.add(weight),
+                mul: self.mul.add(Ext::zero()),
+            },
+            Kind::Mul => GateSums {
+                add: self.add.add(Ext::zero()),
+                mul: self.mul.add(weight),
+            },
+        }
+    }
+}
