@@ -1,0 +1,12 @@
+-- The nodes that a program begins with stand in order, and so does each that is made behind them.
+use Rattle.arr_lower.proofs.ProgramNodes.{inputs-counted, nodes-fine, outputs-there}
+use Rattle.arr_lower.proofs.laws.nodes_in_order.Goals as goal
+
+pub returns-clause-inputs : goal.returns-clause-inputs
+returns-clause-inputs c = inputs-counted
+
+pub returns-clause-fine : goal.returns-clause-fine
+returns-clause-fine c = nodes-fine
+
+pub returns-clause-outputs : goal.returns-clause-outputs
+returns-clause-outputs c = outputs-there

@@ -1,0 +1,6 @@
+-- Each operation makes nodes with the values that it means.
+use Rattle.arr_lower.proofs.ProgramNodes.{nodes_mean}
+use Rattle.arr_lower.proofs.laws.nodes_mean.Goals as goal
+
+pub returns : goal.returns
+returns c program nodes inputs e long = nodes_mean inputs program nodes e long

@@ -1,0 +1,5 @@
+pub mod ConstantPlaces
+pub mod Follows
+pub mod Lowering
+pub mod NodeStore
+pub mod Operations

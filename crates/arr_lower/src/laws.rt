@@ -1,0 +1,37 @@
+//! Laws of lowering, in the words of programs and of nodes. Each function does nothing: its
+//! contract is a law that is proved.
+ghost use Rattle.std.specs.Prelude.{◌≡◌, ℕ, ◌<◌, ◌≤◌, List, length, map, slice_index_or, All, IsTrue, is_ok, IsSome, Option, Some};
+ghost use Rattle.arr_ast.specs.ProgramTree.{ProgramTree};
+ghost use Rattle.arr_check.specs.Program.{input_count, run_program, run_end};
+ghost use Rattle.field_ext.specs.Field.{F};
+ghost use Rattle.circuit_core.specs.Parts.{zero_f};
+ghost use Rattle.node_core.specs.Nodes.{Nodes, IsFineAt, node_at, values};
+ghost use Rattle.arr_eval.specs.Meaning.{meaning};
+ghost use Rattle.arr_lower.specs.Lowering.{nodes_of};
+
+/// A program that the checks accept has nodes.
+pub fn has_nodes()
+    ensures { (program : ProgramTree) → IsTrue (is_ok (run_program program)) → IsSome (nodes_of program) }
+{}
+
+/// The outputs of an accepted program are as many nodes as the checks count, and at least one.
+pub fn has_outputs()
+    ensures { (program : ProgramTree) (nodes : Nodes) → IsTrue (is_ok (run_program program)) → nodes_of program ≡ Some nodes →
+        (length nodes.outputs ≡ (run_end program).outputs) × (1 ≤ length nodes.outputs) }
+{}
+
+/// The nodes of a program stand in order: each names inputs of the program and nodes before it,
+/// and each output is one of them.
+pub fn nodes_in_order()
+    ensures inputs { (program : ProgramTree) (nodes : Nodes) → nodes_of program ≡ Some nodes → nodes.inputs ≡ input_count program.inputs }
+    ensures fine { (program : ProgramTree) (nodes : Nodes) → nodes_of program ≡ Some nodes →
+        (k : ℕ) → k < length nodes.nodes → IsFineAt nodes.inputs k (node_at nodes k) }
+    ensures outputs { (program : ProgramTree) (nodes : Nodes) → nodes_of program ≡ Some nodes →
+        All (λ output. output < length nodes.nodes) nodes.outputs }
+{}
+
+/// What a program puts out for its inputs are the values of its output nodes.
+pub fn nodes_mean()
+    ensures { (program : ProgramTree) (nodes : Nodes) (inputs : List F) → nodes_of program ≡ Some nodes → length inputs ≡ input_count program.inputs →
+        meaning program inputs ≡ Some (map (λ k. slice_index_or (values nodes inputs) k zero_f) nodes.outputs) }
+{}
