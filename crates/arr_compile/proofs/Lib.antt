@@ -1,1 +1,3 @@
-mod OneReading
+pub mod OneReading
+pub mod OneCircuit
+pub mod Computing

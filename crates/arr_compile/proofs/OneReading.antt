@@ -17,7 +17,7 @@ use Rattle.arr_parse.specs.Grammar.{Inputs}
 use Rattle.arr_parse.specs.ProgramSpelling.{program_marks}
 use Rattle.arr_parse.specs.Reading.{refusal}
 use Rattle.arr_compile.specs.declared.refused.BadProgram.{BadProgram}
-use Rattle.arr_compile.specs.declared.refused.BadProgram.TheVariants.{At}
+use Rattle.arr_compile.specs.declared.refused.BadProgram.TheVariants.{At, Deep, Wide}
 use Rattle.arr_compile.specs.Kinds.{kind_of}
 use Rattle.arr_compile.specs.Programs.{IsRead, IsAccepted, IsMisread, IsRefusedByRun, IsRefusedAs, IsRefusal}
 
@@ -87,6 +87,8 @@ found_of text at kinds.NoOutput refused = run at checks.NoOutput refused
 
 found : (text : List ℕ) (bad : BadProgram) → IsRefusal text bad → Found text bad
 found text (At at kind) refused = found_of text at kind refused
+found text (Deep levels) refused = absurd refused
+found text (Wide height width) refused = absurd refused
 
 syntax_or_nesting : (text : List ℕ) (at at' : ℕ) → IsMisread text (Syntax at) → IsMisread text (Nesting at') → ⊥
 syntax_or_nesting text at at' found found' = let e = same_reading text (Syntax at) (Nesting at') found found' in cc

@@ -15,7 +15,7 @@ use Rattle.arr_parse.specs.Grammar.{Inputs}
 use Rattle.arr_parse.specs.Parsed.{IsTreeOf}
 use Rattle.arr_parse.specs.Reading.{refusal}
 use Rattle.arr_compile.specs.declared.refused.BadProgram.{BadProgram}
-use Rattle.arr_compile.specs.declared.refused.BadProgram.TheVariants.{At}
+use Rattle.arr_compile.specs.declared.refused.BadProgram.TheVariants.{At, Deep, Wide}
 use Rattle.arr_compile.specs.declared.refused.CompileRefused.{CompileRefused}
 use Rattle.arr_compile.specs.declared.refused.CompileRefused.TheVariants.{Bad, Memory}
 
@@ -60,8 +60,11 @@ IsRefusedAs text at kinds.Dims = IsRefusedByRun text at checks.Dims
 IsRefusedAs text at kinds.Outputs = IsRefusedByRun text at checks.Outputs
 IsRefusedAs text at kinds.NoOutput = IsRefusedByRun text at checks.NoOutput
 
+-- Layout is no part of it.
 abbrev pub IsRefusal : List ℕ → BadProgram → Type 0
 IsRefusal text (At at kind) = IsRefusedAs text at kind
+IsRefusal text (Deep levels) = ⊥
+IsRefusal text (Wide height width) = ⊥
 
 -- A call refuses a text as the definition does, or memory ran out.
 abbrev pub Refuses : List ℕ → CompileRefused → Type 0

@@ -1,11 +1,17 @@
 //! What holds of readings by their definitions alone.
 
-ghost use Rattle.std.specs.Prelude.{◌≡◌, ℕ, List};
+ghost use Rattle.std.specs.Prelude.{◌≡◌, ℕ, List, length};
+ghost use Rattle.circuit_core.specs.Parts.{Parts};
+ghost use Rattle.field_ext.specs.Field.{F};
 ghost use Rattle.arr_ast.specs.ProgramTree.{ProgramTree};
+ghost use Rattle.arr_check.specs.Program.{input_count};
 ghost use Rattle.arr_compile.specs.declared.refused.BadProgram.{BadProgram};
 ghost use Rattle.arr_compile.specs.Programs.{IsRead, IsAccepted, IsRefusal};
+ghost use Rattle.arr_compile.specs.Circuits.{IsCompiled, IsCircuitRefusal, Computes};
 
+use arr_lower::laws::{nodes_in_order, nodes_mean};
 use arr_parse::laws::one_program_tree;
+use layer_compile::laws::outputs_stand;
 
 /// A text has at most one tree.
 pub fn one_tree()
@@ -26,4 +32,36 @@ pub fn accepted_or_refused()
     ensures { (text : List ℕ) (tree : ProgramTree) (bad : BadProgram) → IsAccepted text tree → ¬ IsRefusal text bad }
 {
     one_tree();
+}
+
+/// A text has at most one circuit.
+pub fn one_circuit()
+    ensures { (text : List ℕ) (a b : Parts) → IsCompiled text a → IsCompiled text b → a ≡ b }
+{
+    one_tree();
+}
+
+/// A text has at most one first refusal of all passes.
+pub fn one_circuit_refusal()
+    ensures { (text : List ℕ) (a b : BadProgram) → IsCircuitRefusal text a → IsCircuitRefusal text b → a ≡ b }
+{
+    one_tree();
+}
+
+/// No text has both a circuit and a refusal.
+pub fn compiled_or_refused()
+    ensures { (text : List ℕ) (parts : Parts) (bad : BadProgram) → IsCompiled text parts → ¬ IsCircuitRefusal text bad }
+{
+    one_tree();
+}
+
+/// The circuit of a program computes what the program means: on inputs of its count the output layer has at its first
+/// positions past 0 the program's outputs in order, and 0 at all others.
+pub fn circuit_computes()
+    ensures inputs { (text : List ℕ) (parts : Parts) (is : IsCompiled text parts) → parts.inputs ≡ input_count is.tree.inputs }
+    ensures computes { (text : List ℕ) (parts : Parts) (is : IsCompiled text parts) (inputs : List F) → length inputs ≡ parts.inputs → Computes is.tree parts inputs }
+{
+    nodes_in_order();
+    nodes_mean();
+    outputs_stand();
 }

@@ -1,18 +1,23 @@
-//! From the text of a program to the program that runs: lexing, reading and checking, one after another.
+//! From the text of a program to the program that runs, and to its circuit: lexing, reading, checking, lowering and
+//! layout, one after another.
 //!
-//! The whole text is lexed, then all of its tokens are read, and then the tree is checked by its run over shapes. The
-//! first refusal is the answer, with its kind and its place in the text.
+//! The whole text is lexed, then all of its tokens are read, and then the tree is checked by its run over shapes. A
+//! circuit is laid out from the nodes of the checked tree. The first refusal is the answer, with its kind and its place
+//! in the text, or with the sizes that are too large.
 //!
 //! ```text
 //! read_program(alloc, b"input a; output a;")?.inputs      // 1
 //! read_program(alloc, b"output 3 4;")                     // refused as Syntax at 9
+//! compile(alloc, b"input a; output a;")?.circuit          // a circuit of two layers
 //! ```
 #![tactic(auto)]
 
+mod compiling;
 mod kinds;
 pub mod laws;
 mod reading;
 mod refused;
 
+pub use compiling::{Compiled, compile};
 pub use reading::read_program;
 pub use refused::{BadProgram, CompileRefused};

@@ -9,6 +9,10 @@ use thiserror::Error;
 pub enum BadProgram {
     /// Where the text is refused, in bytes from 0, and by which rule.
     At { at: usize, kind: ProgramKind },
+    /// The circuit would have this many layers above the input.
+    Deep { levels: usize },
+    /// The lowest height with too many positions, and how many it has before padding.
+    Wide { height: usize, width: usize },
 }
 
 /// What stands in the way of a program.

@@ -1,3 +1,5 @@
+mod LayerSizes
 mod PlacesForgotten
+mod Statements
 mod TokensWithin
 mod WhiteSpace

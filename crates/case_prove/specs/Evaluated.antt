@@ -11,7 +11,7 @@ use Rattle.arr_eval.specs.declared.refused.EvalRefused.TheVariants as eval
 use Rattle.arr_eval.specs.Meaning.{meaning}
 use Rattle.case_text.specs.Content.{Content}
 use Rattle.case_prove.specs.declared.refused.Refused.{Refused}
-use Rattle.case_prove.specs.declared.refused.Refused.TheVariants.{Program, Input, Memory}
+use Rattle.case_prove.specs.declared.refused.Refused.TheVariants.{Program, Input, Output, Proof, Memory}
 
 -- The case's program is accepted, it has as many inputs as the case, and these outputs are its meaning on them.
 pub record IsEvaluated (c : Content) (outputs : List F) : Type 0 where
@@ -32,6 +32,8 @@ pub record IsMiscounted (c : Content) (have need : ℕ) : Type 0 where
 abbrev pub Refuses : Content → Refused → Type 0
 Refuses c (Program bad) = IsRefusal c.program bad
 Refuses c (Input have need) = IsMiscounted c have need
+Refuses c (Output have need) = ⊥
+Refuses c (Proof bad) = ⊥
 Refuses c Memory = Unit {0}
 
 abbrev pub compile_refused : CompileRefused → Refused

@@ -1,2 +1,4 @@
 pub mod Blank
+pub mod Circuits
 pub mod Evaluated
+pub mod Verified

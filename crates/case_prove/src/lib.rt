@@ -1,8 +1,10 @@
 //! What the commands do with one case.
 //!
-//! `eval_case` reads the program of a case and gives its outputs: the program's meaning on the case's inputs. The
-//! refusals come in one order: the program, and then the number of inputs. `laws` says that white space between tokens
-//! changes neither a program's tree nor its outputs.
+//! `eval_case` reads the program of a case and gives its outputs: the program's meaning on the case's inputs.
+//! `circuit_case` lays the program out as a circuit and gives its sizes. `verify_case` gives the verdict on the case's
+//! proof. The refusals come in one order: the program, the number of inputs, that of outputs, and the proof's bytes.
+//! `laws` says that white space between tokens changes neither a program's tree nor its
+//! outputs.
 //!
 //! ```text
 //! the case of `input a; output a;` with the input 5       // the output 5
@@ -10,9 +12,13 @@
 //! ```
 #![tactic(auto)]
 
+mod circuit;
 mod evaluation;
 pub mod laws;
 mod refused;
+mod verification;
 
+pub use circuit::circuit_case;
 pub use evaluation::eval_case;
 pub use refused::Refused;
+pub use verification::verify_case;

@@ -5,6 +5,7 @@ ghost use Rattle.case_prove.specs.Evaluated.{compile_refused, eval_refused};
 
 use arr_compile::{BadProgram, CompileRefused};
 use arr_eval::EvalRefused;
+use proof_wire::BadProof;
 
 /// Why a case has no answer.
 #[derive(Clone, Copy, PartialEq, Eq, Debug)]
@@ -13,6 +14,10 @@ pub enum Refused {
     Program(BadProgram),
     /// The case has another number of inputs than its program.
     Input { have: u64, need: u64 },
+    /// The case has another number of outputs than its program's circuit.
+    Output { have: u64, need: u64 },
+    /// The case's proof is none of the circuit's shape.
+    Proof(BadProof),
     /// Memory ran out.
     Memory,
 }

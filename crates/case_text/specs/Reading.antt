@@ -1,6 +1,8 @@
 -- Reading a case: its parts in order, and the place of the first byte that isn't due.
 use Rattle.std.specs.Prelude.{◌≡◌, ℕ, ◌-◌, List, [], ◌∷◌, length, codes, Result, Ok, Err}
 use Rattle.field_ext.specs.Field.{F, of}
+use Rattle.hex.specs.declared.error.FromHexError.{FromHexError}
+use Rattle.hex.specs.declared.error.FromHexError.TheVariants.{InvalidHexCharacter, OddLength, InvalidStringLength, OutOfMemory}
 use Rattle.case_text.specs.declared.refusal.Kind.TheVariants.{Header, Section, Hex, Rest}
 use Rattle.case_text.specs.declared.refusal.BadCase.{BadCase}
 use Rattle.case_text.specs.declared.refusal.CaseRefused.{CaseRefused}
@@ -12,7 +14,7 @@ use Rattle.case_text.specs.declared.form.Form.{Form}
 use Rattle.case_text.specs.Rules.{text_length, value_count, value_rule, proof_length}
 use Rattle.case_text.specs.Content.{Content}
 use Rattle.case_text.specs.Spelling.{header, last_line}
-use Rattle.case_text.specs.Due.{Taking, ◌>>=◌, stopped, word_at, decimal_at, bytes_at, each_at, in_order, hex_byte_at, line_at}
+use Rattle.case_text.specs.Due.{Taking, ◌>>=◌, stopped, digits_stop, word_at, decimal_at, bytes_at, each_at, in_order, hex_byte_at, line_at}
 
 unfoldable pub program_at : List ℕ → Taking (List ℕ)
 program_at bytes = do
@@ -91,3 +93,10 @@ abbrev pub Answers : {A : Type 0} → Result A CaseRefused → Result A BadCase 
 Answers (Ok a) given = given ≡ Ok a
 Answers (Err refusals.Memory) given = Unit {0}
 Answers (Err (refusals.Bad bad)) given = given ≡ Err bad
+
+-- Where hex digits that don't decode stop.
+abbrev pub hex_stop : FromHexError → List ℕ → ReadError
+hex_stop (InvalidHexCharacter c i) bytes = errors.Stopped (digits_stop bytes)
+hex_stop OddLength bytes = errors.Stopped (digits_stop bytes)
+hex_stop InvalidStringLength bytes = errors.Stopped (digits_stop bytes)
+hex_stop OutOfMemory bytes = errors.Memory

@@ -1,10 +1,15 @@
 -- The line of each reply.
-use Rattle.std.specs.Prelude.{ℕ, List, [], ◌∷◌, ◌++◌, codes}
+use Rattle.std.specs.Prelude.{ℕ, ◌+◌, ◌-◌, List, [], ◌∷◌, ◌++◌, length, codes}
 use Rattle.std.specs.List.{concat}
 use Rattle.arr_ast.specs.declared.refusal.ProgramKind.{ProgramKind}
 use Rattle.arr_ast.specs.declared.refusal.ProgramKind.TheVariants as programs
+use Rattle.field_ext.specs.Field.{K}
+use Rattle.proof_wire.specs.declared.refused.BadProof.{BadProof}
+use Rattle.proof_wire.specs.declared.refused.BadProof.TheVariants as proofs
 use Rattle.case_text.specs.declared.refusal.Kind.{Kind}
 use Rattle.case_text.specs.declared.refusal.Kind.TheVariants as kinds
+use Rattle.case_text.specs.declared.sizes.LayerSize.{LayerSize}
+use Rattle.case_text.specs.Sizes.{Sizes}
 use Rattle.case_text.specs.declared.reply.Reply.{Reply}
 use Rattle.case_text.specs.declared.reply.Reply.TheVariants as replies
 use Rattle.case_text.specs.Spelling.{number, counted_text}
@@ -35,10 +40,59 @@ program_kind_name programs.Dims = codes "dims"
 program_kind_name programs.Outputs = codes "outputs"
 program_kind_name programs.NoOutput = codes "nooutput"
 
+-- the lines of layers that are numbered from one on
+abbrev pub layer_lines : ℕ → List LayerSize → List ℕ
+layer_lines i [] = []
+layer_lines i (layer ∷ layers) = concat (codes "layer " ∷ number i 32 ∷ number layer.positions 32 ∷ number layer.products 10 ∷ []) ++ layer_lines (i + 1) layers
+
+-- a word and a number on a line
+unfoldable pub line_text : List ℕ → ℕ → List ℕ
+line_text word n = word ++ number n 10
+
+-- a word and two numbers on a line
+unfoldable pub pair_text : List ℕ → ℕ → ℕ → List ℕ
+pair_text word first second = concat (word ∷ number first 32 ∷ number second 10 ∷ [])
+
+-- what a proof takes
+abbrev pub totals_text : Sizes → List ℕ
+totals_text s = concat (line_text (codes "proof ") s.proof ∷ line_text (codes "challenges ") s.challenges ∷ line_text (codes "bound ") s.bound ∷ [])
+
+-- the layers above the input are one fewer than all
+abbrev pub sizes_text : Sizes → List ℕ
+sizes_text s = concat (line_text (codes "circuit ") (length s.layers - 1) ∷ layer_lines 0 s.layers ∷ totals_text s ∷ [])
+
+-- two elements, each by its real and its imaginary part
+unfoldable pub sides_text : K → K → List ℕ
+sides_text had want = concat (number had.re.value 44 ∷ number had.im.value 32 ∷ number want.re.value 44 ∷ number want.im.value 10 ∷ [])
+
+unfoldable pub failed_text : List ℕ → K → K → List ℕ
+failed_text word had want = word ++ sides_text had want
+
+unfoldable pub failed_layer_text : List ℕ → ℕ → K → K → List ℕ
+failed_layer_text word layer had want = concat (word ∷ number layer 32 ∷ sides_text had want ∷ [])
+
+unfoldable pub failed_round_text : List ℕ → ℕ → ℕ → K → K → List ℕ
+failed_round_text word layer round had want = concat (word ∷ number layer 32 ∷ number round 32 ∷ sides_text had want ∷ [])
+
+abbrev pub bad_proof_text : BadProof → List ℕ
+bad_proof_text (proofs.Magic at) = line_text (codes "refused proof magic ") at
+bad_proof_text (proofs.Short at need) = pair_text (codes "refused proof short ") at need
+bad_proof_text (proofs.Range at) = line_text (codes "refused proof range ") at
+bad_proof_text (proofs.Long extra) = line_text (codes "refused proof long ") extra
+
 abbrev pub reply_text : Reply → List ℕ
 reply_text (replies.Outputs values) = codes "output " ++ counted_text values
 reply_text replies.Usage = codes "refused usage" ++ 10 ∷ []
 reply_text (replies.TooLong limit) = codes "refused long " ++ number limit 10
 reply_text (replies.Case bad) = concat (codes "refused case " ∷ kind_name bad.kind ∷ (32 ∷ []) ∷ number bad.at 10 ∷ [])
 reply_text (replies.Program kind at) = concat (codes "refused program " ∷ program_kind_name kind ∷ (32 ∷ []) ∷ number at 10 ∷ [])
-reply_text (replies.InputCount have need) = concat (codes "refused count input " ∷ number have 32 ∷ number need 10 ∷ [])
+reply_text (replies.Deep levels) = line_text (codes "refused program deep ") levels
+reply_text (replies.Wide height width) = pair_text (codes "refused program wide ") height width
+reply_text (replies.InputCount have need) = pair_text (codes "refused count input ") have need
+reply_text (replies.Circuit sizes) = sizes_text sizes
+reply_text (replies.OutputCount have need) = pair_text (codes "refused count output ") have need
+reply_text (replies.Proof bad) = bad_proof_text bad
+reply_text replies.Accepted = codes "accepted" ++ 10 ∷ []
+reply_text (replies.RejectedSum layer round had claim) = failed_round_text (codes "rejected sum ") layer round had claim
+reply_text (replies.RejectedEnd layer had want) = failed_layer_text (codes "rejected end ") layer had want
+reply_text (replies.RejectedInput had want) = failed_text (codes "rejected input ") had want

@@ -4,7 +4,7 @@ use Rattle.std.specs.List.{concat}
 use Rattle.field_ext.specs.Field.{F}
 use Rattle.case_text.specs.Rules.{behind_value}
 use Rattle.case_text.specs.declared.form.Form.{Form}
-use Rattle.case_text.specs.Hex.{IsHexOf}
+use Rattle.case_text.specs.Hex.{IsHexOf, lower_digits}
 use Rattle.case_text.specs.Forms.{Allows}
 use Rattle.case_text.specs.Content.{Content, Fits}
 
@@ -40,14 +40,16 @@ abbrev pub proof_text : Option (List ℕ) → List ℕ → List ℕ
 proof_text None digits = []
 proof_text (Some proof) digits = concat (codes "proof " ∷ number (length proof) 10 ∷ digits ∷ (10 ∷ []) ∷ [])
 
--- A text of the proof was put at the end, where there is one.
-pub record AppendsProof (old new : List ℕ) (proof : Option (List ℕ)) : Type 0 where
-  pub digits : List ℕ
-  pub hex : IfSome proof (λ bytes. IsHexOf bytes digits)
-  pub text : new ≡ old ++ proof_text proof digits
+-- with its digits in lower case
+abbrev pub lower_proof_text : Option (List ℕ) → List ℕ
+lower_proof_text proof = proof_text proof (lower_digits proof)
 
 abbrev pub case_text : Content → List ℕ → List ℕ
 case_text c digits = concat (header ∷ program_text c.program ∷ codes "input " ∷ counted_text c.inputs ∷ outputs_text c.outputs ∷ proof_text c.proof digits ∷ last_line ∷ [])
+
+-- the text whose hex digits are in lower case
+abbrev pub lower_case_text : Content → List ℕ
+lower_case_text c = case_text c (lower_digits c.proof)
 
 -- These bytes are a text of the case, of this form. Only the case of the hex digits is open.
 pub record Spells (form : Form) (bytes : List ℕ) (c : Content) : Type 0 where

@@ -15,6 +15,7 @@ mod parts;
 mod refusal;
 mod rule;
 mod script;
+mod sizes;
 mod stop;
 mod values;
 
@@ -31,6 +32,7 @@ mod writing;
 
 pub use refusal::{BadCase, CaseRefused, Kind};
 pub use script::ScriptJob;
+pub use sizes::{CircuitSizes, LayerSize};
 pub use values::Values;
 pub use writing::write_case;
 

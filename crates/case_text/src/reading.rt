@@ -1,18 +1,19 @@
-ghost use Rattle.std.specs.Prelude.{◌≡◌, ◌≤◌, IfOk, Ok};
+ghost use Rattle.std.specs.Prelude.{◌≡◌, ◌≤◌, ◌/◌, IfOk, Ok, length, min};
 ghost use Rattle.case_text.specs.Rules.{behind};
 ghost use Rattle.case_text.specs.Content.{Content, Fits};
 ghost use Rattle.case_text.specs.Spelling.{Spells};
 ghost use Rattle.case_text.specs.Due.{each_at, hex_byte_at, line_at};
 ghost use Rattle.std.specs.Option.{option_map};
-ghost use Rattle.case_text.specs.Reading.{outputs_at, proof_at, Gives, Answers, program_at, values_at, counted_at, case_at, case_in, reading};
+ghost use Rattle.case_text.specs.Reading.{outputs_at, proof_at, hex_stop, Gives, Answers, program_at, values_at, counted_at, case_at, case_in, reading};
 
 use crate::case::Case;
 use crate::form::Form;
-use crate::parts::{decimal, hex_byte, some_bytes, word};
+use crate::parts::{decimal, digits_stop, some_bytes, word};
 use crate::refusal::{BadCase, CaseRefused, Kind};
 use crate::rule::Rule;
 use crate::stop::{ReadError, stop_at};
 use field_ext::Fp;
+use hex::FromHexError;
 use std::alloc::Global;
 
 /// Takes the lines of a program.
@@ -27,11 +28,18 @@ fn program(bytes: &[u8]) -> Result<(&[u8], &[u8]), ReadError>
     Ok((program, rest))
 }
 
+/// How many of so many values the bytes may hold, each of which takes two bytes at least.
+fn room_for(count: u32, bytes: &[u8]) -> usize
+    ensures { result ≡ min count (length bytes.now / 2) }
+{
+    (count as usize).min(bytes.len() / 2)
+}
+
 /// Takes this many values.
 fn values(alloc: Global, count: u32, bytes: &[u8]) -> Result<(Vec<Fp>, &[u8]), ReadError>
     ensures { Gives (λ x. (x.0.items, x.1.now)) result (values_at count bytes.now) }
 {
-    let mut values = Vec::new(alloc);
+    let mut values = Vec::with_capacity(alloc, room_for(count, bytes))?;
     let mut rest = bytes;
     for index in 0..count {
         let (number, after) = decimal(Rule::value(count - index - 1), rest)?;
@@ -59,18 +67,31 @@ fn outputs(alloc: Global, bytes: &[u8]) -> Result<(Vec<Fp>, &[u8]), ReadError>
     counted(alloc, rest)
 }
 
-/// Takes this many bytes in hex digits.
+/// Takes this many bytes in hex digits, two for each byte.
 fn hex_bytes(alloc: Global, count: u32, bytes: &[u8]) -> Result<(Vec<u8>, &[u8]), ReadError>
     ensures { Gives (λ x. (x.0.items, x.1.now)) result (each_at hex_byte_at count bytes.now) }
 {
-    let mut values = Vec::new(alloc);
-    let mut rest = bytes;
-    for index in 0..count {
-        let (value, after) = hex_byte(rest)?;
-        values.push(value)?;
-        rest = after;
+    let needed = 2 * count as usize;
+    if bytes.len() < needed {
+        return Err(digits_stop(bytes));
     }
-    Ok((values, rest))
+    let (digits, rest) = bytes.split_at(needed);
+    match hex::decode(alloc, digits) {
+        Ok(values) => Ok((values, rest)),
+        Err(refused) => Err(hex_stop(refused, bytes)),
+    }
+}
+
+/// Where hex digits that don't decode stop.
+fn hex_stop(refused: FromHexError, bytes: &[u8]) -> ReadError
+    ensures { result ≡ hex_stop refused bytes.now }
+{
+    match refused {
+        FromHexError::InvalidHexCharacter { .. }
+        | FromHexError::OddLength
+        | FromHexError::InvalidStringLength => digits_stop(bytes),
+        FromHexError::OutOfMemory => ReadError::Memory,
+    }
 }
 
 /// Takes the lines of a proof.

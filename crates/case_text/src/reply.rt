@@ -1,15 +1,18 @@
 //! What the program answers.
 
-ghost use Rattle.std.specs.Prelude.{◌≡◌, IfOk};
-ghost use Rattle.case_text.specs.Replies.{reply_text, kind_name, program_kind_name};
+ghost use Rattle.std.specs.Prelude.{◌≡◌, ◌-◌, ◌++◌, IfOk, OnOk, length};
+ghost use Rattle.case_text.specs.Replies.{reply_text, sizes_text, layer_lines, line_text, pair_text, totals_text, sides_text, failed_text, failed_layer_text, failed_round_text, bad_proof_text, kind_name, program_kind_name};
 
 use crate::refusal::{BadCase, Kind};
+use crate::sizes::{CircuitSizes, LayerSize};
 use crate::values::Values;
 use crate::writing::{put_counted, put_number};
 use arr_ast::ProgramKind;
+use field_ext::Ext;
+use proof_wire::BadProof;
 use std::alloc::{AllocError, Global};
 
-/// What the program answers, one line each.
+/// What the program answers: one line, or for a circuit a line each of its height, its layers and its sizes.
 #[derive(Debug, Drop)]
 pub enum Reply {
     /// The outputs of a program.
@@ -21,9 +24,53 @@ pub enum Reply {
     /// The bytes are no case.
     Case(BadCase),
     /// The program is refused for this, at this byte of its text.
-    Program { kind: ProgramKind, at: usize },
+    Program {
+        kind: ProgramKind,
+        at: usize,
+    },
+    /// The program's circuit would have this many layers above the input, which are too many.
+    Deep {
+        levels: usize,
+    },
+    /// The program's circuit would have so many positions at this height, which are too many.
+    Wide {
+        height: usize,
+        width: usize,
+    },
     /// The number of inputs isn't the program's.
-    InputCount { have: u64, need: u64 },
+    InputCount {
+        have: u64,
+        need: u64,
+    },
+    /// The number of outputs isn't the program's.
+    OutputCount {
+        have: u64,
+        need: u64,
+    },
+    /// The bytes of the proof are none of the circuit's shape.
+    Proof(BadProof),
+    /// The sizes of the program's circuit.
+    Circuit(CircuitSizes),
+    /// The proof is accepted.
+    Accepted,
+    /// A round's message at 0 plus that at 1 isn't the claim before it. Layers count from 0, rounds from 1.
+    RejectedSum {
+        layer: usize,
+        round: usize,
+        had: Ext,
+        claim: Ext,
+    },
+    /// The claim after a layer's rounds isn't what the wiring makes of its line's message.
+    RejectedEnd {
+        layer: usize,
+        had: Ext,
+        want: Ext,
+    },
+    /// The last claim isn't the value of the inputs' extension.
+    RejectedInput {
+        had: Ext,
+        want: Ext,
+    },
 }
 
 /// How the kind is told.
@@ -64,7 +111,133 @@ fn program_kind_name(kind: ProgramKind) -> &'static [u8]
     }
 }
 
-/// The line of a reply with its LF, in ASCII. The error comes where memory runs out.
+/// The lines of a circuit's layers.
+fn put_layers(out: &mut Vec<u8>, layers: &[LayerSize]) -> Result<(), AllocError>
+    ensures { OnOk result (out.new.items ≡ out.old.items ++ layer_lines 0 layers.now) }
+{
+    let mut number = 0;
+    for layer in layers {
+        out.extend_from_slice(b"layer ")?;
+        put_number(out, number, b' ')?;
+        put_number(out, layer.positions, b' ')?;
+        put_number(out, layer.products, b'\n')?;
+        number += 1;
+    }
+    Ok(())
+}
+
+/// A word and a number on a line.
+#[tactic(auto, unfolding(crate::specs::Replies::line_text))]
+fn put_line(out: &mut Vec<u8>, word: &[u8], number: u64) -> Result<(), AllocError>
+    ensures { OnOk result (out.new.items ≡ out.old.items ++ line_text word.now number) }
+{
+    out.extend_from_slice(word)?;
+    put_number(out, number, b'\n')
+}
+
+/// The lines of a circuit.
+fn put_sizes(out: &mut Vec<u8>, sizes: &CircuitSizes) -> Result<(), AllocError>
+    ensures { OnOk result (out.new.items ≡ out.old.items ++ sizes_text sizes.now) }
+{
+    put_line(out, b"circuit ", above_the_last(sizes.layers()))?;
+    put_layers(out, sizes.layers())?;
+    put_totals(out, sizes)
+}
+
+/// How many layers stand above the last.
+fn above_the_last(layers: &[LayerSize]) -> u64
+    ensures { result ≡ length layers.now - 1 }
+{
+    layers.len().saturating_sub(1) as u64
+}
+
+/// The lines of what a proof takes.
+fn put_totals(out: &mut Vec<u8>, sizes: &CircuitSizes) -> Result<(), AllocError>
+    ensures { OnOk result (out.new.items ≡ out.old.items ++ totals_text sizes.now) }
+{
+    put_line(out, b"proof ", sizes.proof())?;
+    put_line(out, b"challenges ", sizes.challenges())?;
+    put_line(out, b"bound ", sizes.bound())
+}
+
+/// A word and two numbers on a line.
+#[tactic(auto, unfolding(crate::specs::Replies::pair_text))]
+fn put_pair(out: &mut Vec<u8>, word: &[u8], first: u64, second: u64) -> Result<(), AllocError>
+    ensures { OnOk result (out.new.items ≡ out.old.items ++ pair_text word.now first second) }
+{
+    out.extend_from_slice(word)?;
+    put_number(out, first, b' ')?;
+    put_number(out, second, b'\n')
+}
+
+/// The two sides of an equation, each by its real and its imaginary part.
+#[tactic(auto, unfolding(crate::specs::Replies::sides_text))]
+fn put_sides(out: &mut Vec<u8>, had: Ext, want: Ext) -> Result<(), AllocError>
+    ensures { OnOk result (out.new.items ≡ out.old.items ++ sides_text had want) }
+{
+    put_number(out, u64::from(had.re().value()), b',')?;
+    put_number(out, u64::from(had.im().value()), b' ')?;
+    put_number(out, u64::from(want.re().value()), b',')?;
+    put_number(out, u64::from(want.im().value()), b'\n')
+}
+
+/// A word and the two sides of an equation.
+#[tactic(auto, unfolding(crate::specs::Replies::failed_text))]
+fn put_failed(out: &mut Vec<u8>, word: &[u8], had: Ext, want: Ext) -> Result<(), AllocError>
+    ensures { OnOk result (out.new.items ≡ out.old.items ++ failed_text word.now had want) }
+{
+    out.extend_from_slice(word)?;
+    put_sides(out, had, want)
+}
+
+/// A word, a layer, and the two sides of an equation.
+#[tactic(auto, unfolding(crate::specs::Replies::failed_layer_text))]
+fn put_failed_layer(
+    out: &mut Vec<u8>,
+    word: &[u8],
+    layer: u64,
+    had: Ext,
+    want: Ext,
+) -> Result<(), AllocError>
+    ensures { OnOk result (out.new.items ≡ out.old.items ++ failed_layer_text word.now layer had want) }
+{
+    out.extend_from_slice(word)?;
+    put_number(out, layer, b' ')?;
+    put_sides(out, had, want)
+}
+
+/// A word, a layer, a round, and the two sides of an equation.
+#[tactic(auto, unfolding(crate::specs::Replies::failed_round_text))]
+fn put_failed_round(
+    out: &mut Vec<u8>,
+    word: &[u8],
+    layer: u64,
+    round: u64,
+    had: Ext,
+    want: Ext,
+) -> Result<(), AllocError>
+    ensures { OnOk result (out.new.items ≡ out.old.items ++ failed_round_text word.now layer round had want) }
+{
+    out.extend_from_slice(word)?;
+    put_number(out, layer, b' ')?;
+    put_number(out, round, b' ')?;
+    put_sides(out, had, want)
+}
+
+/// What is wrong with the bytes of a proof.
+fn put_bad_proof(out: &mut Vec<u8>, bad: BadProof) -> Result<(), AllocError>
+    ensures { OnOk result (out.new.items ≡ out.old.items ++ bad_proof_text bad) }
+{
+    match bad {
+        BadProof::Magic { at } => put_line(out, b"refused proof magic ", at as u64),
+        BadProof::Short { at, need } => put_pair(out, b"refused proof short ", at as u64, need),
+        BadProof::Range { at } => put_line(out, b"refused proof range ", at as u64),
+        BadProof::Long { extra } => put_line(out, b"refused proof long ", extra as u64),
+    }
+}
+
+/// The lines of a reply, each with its LF, in ASCII. The error comes where memory runs out.
+#[tactic(auto, unfolding(crate::specs::Replies::line_text, crate::specs::Replies::pair_text, crate::specs::Replies::failed_text, crate::specs::Replies::failed_layer_text, crate::specs::Replies::failed_round_text))]
 pub fn write_reply(alloc: Global, reply: &Reply) -> Result<Vec<u8>, AllocError>
     ensures { IfOk result (λ text. text.items ≡ reply_text reply.now) }
 {
@@ -72,29 +245,63 @@ pub fn write_reply(alloc: Global, reply: &Reply) -> Result<Vec<u8>, AllocError>
     match reply {
         Reply::Outputs(values) => {
             out.extend_from_slice(b"output ")?;
-            put_counted(alloc, &mut out, values.as_slice())?;
+            put_counted(&mut out, values.as_slice())?;
         }
         Reply::Usage => out.extend_from_slice(b"refused usage\n")?,
         Reply::TooLong(limit) => {
             out.extend_from_slice(b"refused long ")?;
-            put_number(alloc, &mut out, u64::from(*limit), b'\n')?;
+            put_number(&mut out, u64::from(*limit), b'\n')?;
         }
         Reply::Case(bad) => {
             out.extend_from_slice(b"refused case ")?;
             out.extend_from_slice(kind_name(bad.kind))?;
             out.push(b' ')?;
-            put_number(alloc, &mut out, bad.at as u64, b'\n')?;
+            put_number(&mut out, bad.at as u64, b'\n')?;
         }
         Reply::Program { kind, at } => {
             out.extend_from_slice(b"refused program ")?;
             out.extend_from_slice(program_kind_name(*kind))?;
             out.push(b' ')?;
-            put_number(alloc, &mut out, *at as u64, b'\n')?;
+            put_number(&mut out, *at as u64, b'\n')?;
+        }
+        Reply::Deep { levels } => {
+            put_line(&mut out, b"refused program deep ", *levels as u64)?;
+        }
+        Reply::Wide { height, width } => {
+            put_pair(
+                &mut out,
+                b"refused program wide ",
+                *height as u64,
+                *width as u64,
+            )?;
+        }
+        Reply::OutputCount { have, need } => {
+            put_pair(&mut out, b"refused count output ", *have, *need)?;
+        }
+        Reply::Proof(bad) => put_bad_proof(&mut out, *bad)?,
+        Reply::Circuit(sizes) => put_sizes(&mut out, sizes)?,
+        Reply::Accepted => out.extend_from_slice(b"accepted\n")?,
+        Reply::RejectedSum {
+            layer,
+            round,
+            had,
+            claim,
+        } => put_failed_round(
+            &mut out,
+            b"rejected sum ",
+            *layer as u64,
+            *round as u64,
+            *had,
+            *claim,
+        )?,
+        Reply::RejectedEnd { layer, had, want } => {
+            put_failed_layer(&mut out, b"rejected end ", *layer as u64, *had, *want)?;
+        }
+        Reply::RejectedInput { had, want } => {
+            put_failed(&mut out, b"rejected input ", *had, *want)?;
         }
         Reply::InputCount { have, need } => {
-            out.extend_from_slice(b"refused count input ")?;
-            put_number(alloc, &mut out, *have, b' ')?;
-            put_number(alloc, &mut out, *need, b'\n')?;
+            put_pair(&mut out, b"refused count input ", *have, *need)?;
         }
     }
     Ok(out)

@@ -2,15 +2,18 @@
 //!
 //! `gkr_bench matmul N`: a product of two N by N matrices by `eval`, beside a plain loop with as many products and the
 //! same reduction. `gkr_bench steps N`: a loop of N turns with one assignment. `gkr_bench names KIB`: a program of so
-//! many kibibytes of declarations and sums, each of names declared before.
+//! many kibibytes of declarations and sums, each of names declared before. `gkr_bench fold K`: one coordinate of a table
+//! of `2^K` values. `gkr_bench case KIB`: reading and writing a case of so many kibibytes. `gkr_bench proof N`: reading
+//! and writing the longest proof N times.
 #![tactic(auto)]
 
 mod measure;
 mod programs;
+mod texts;
 
 use std::{env, io};
 
-const USAGE: &str = "gkr_bench matmul N | steps N | names KIB | fold K";
+const USAGE: &str = "gkr_bench matmul N | steps N | names KIB | fold K | case KIB | proof N";
 
 fn main(rt: HostRuntime) -> io::Result<()> {
     let alloc = rt.alloc();
@@ -23,6 +26,12 @@ fn main(rt: HostRuntime) -> io::Result<()> {
             };
             if kind.as_str() == "fold" {
                 return measure::fold(&rt, size);
+            }
+            if kind.as_str() == "case" {
+                return texts::case(&rt, size);
+            }
+            if kind.as_str() == "proof" {
+                return texts::proof(&rt, size);
             }
             let text = match kind.as_str() {
                 "matmul" => programs::matrix_product(alloc, size)?,

@@ -9,7 +9,7 @@ use std::alloc::{AllocError, Global};
 use std::io;
 use std::time::{Duration, Instant};
 
-fn microseconds(time: Duration) -> u64 {
+pub fn microseconds(time: Duration) -> u64 {
     u64::try_from(time.as_micros()).unwrap_or(u64::MAX)
 }
 
@@ -22,7 +22,7 @@ fn read(alloc: Global, text: &[u8]) -> Option<Checked> {
 }
 
 /// So many numbers, each another.
-fn numbers(alloc: Global, count: u64) -> Result<Vec<Fp>, AllocError> {
+pub fn numbers(alloc: Global, count: u64) -> Result<Vec<Fp>, AllocError> {
     let mut found = Vec::new(alloc);
     for number in 0..count {
         found.push(Fp::reduce(number.wrapping_mul(2_654_435_761)))?;

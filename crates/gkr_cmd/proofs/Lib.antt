@@ -1,3 +1,6 @@
+mod CircuitAnswers
 mod Ends
-mod Replied
+mod EvalAnswers
 mod OneReply
+mod Replied
+mod VerifyAnswers

@@ -1,20 +1,31 @@
 -- The reply to words and the bytes of the input, as a table: when each reply is the one.
-use Rattle.std.specs.Prelude.{◌≡◌, ◌<◌, ◌≤◌, ℕ, List, length, Option, Some, None, Ok, Err}
+use Rattle.std.specs.Prelude.{◌≡◌, ◌<◌, ◌≤◌, ℕ, List, length, Option, Some, None, Result, Ok, Err}
 use Rattle.field_ext.specs.Field.{F}
 use Rattle.arr_ast.specs.declared.refusal.ProgramKind.{ProgramKind}
 use Rattle.arr_compile.specs.Programs.{IsRefusedAs}
+use Rattle.arr_compile.specs.declared.refused.BadProgram.TheVariants.{At, Deep, Wide}
+use Rattle.case_prove.specs.declared.refused.Refused.{Refused}
+use Rattle.case_prove.specs.declared.refused.Refused.TheVariants as refusals
+use Rattle.gkr_cmd.specs.declared.reply_error.ReplyError.{ReplyError}
+use Rattle.gkr_cmd.specs.declared.reply_error.ReplyError.TheVariants as errors
 use Rattle.case_text.specs.declared.form.Form.{Form}
-use Rattle.case_text.specs.declared.form.Form.TheVariants.{Plain}
+use Rattle.case_text.specs.declared.form.Form.TheVariants.{Plain, Full}
 use Rattle.case_text.specs.Content.{Content}
 use Rattle.case_text.specs.Reading.{reading}
 use Rattle.case_text.specs.declared.refusal.BadCase.{BadCase}
 use Rattle.case_text.specs.declared.reply.Reply.{Reply}
 use Rattle.case_text.specs.declared.reply.Reply.TheVariants as replies
+use Rattle.arr_compile.specs.Circuits.{IsTooLarge}
+use Rattle.layer_compile.specs.declared.refused.LayerRefused.TheVariants as layout
+use Rattle.case_prove.specs.Circuits.{IsLaidOut, IsCircuitMiscounted}
 use Rattle.case_prove.specs.Evaluated.{IsEvaluated, IsMiscounted}
+use Rattle.case_prove.specs.Verified.{IsVerdictOn, IsOutputMiscounted, IsBadProof}
+use Rattle.gkr_verify.specs.declared.verdict.Verdict.{Verdict}
+use Rattle.gkr_verify.specs.declared.verdict.Verdict.TheVariants as verdicts
 use Rattle.gkr_cmd.specs.declared.status.Status.{Status}
 use Rattle.gkr_cmd.specs.declared.status.Status.TheVariants as statuses
 use Rattle.gkr_cmd.specs.declared.words.Command.{Command}
-use Rattle.gkr_cmd.specs.declared.words.Command.TheVariants.{Eval}
+use Rattle.gkr_cmd.specs.declared.words.Command.TheVariants.{Eval, Circuit as CircuitSizes, Verify}
 use Rattle.gkr_cmd.specs.Commands.{command_of}
 
 -- the most bytes of a case
@@ -42,19 +53,49 @@ pub record IsTooLong (input : List ℕ) (limit : ℕ) : Type 0 where
   pub limit_is : limit ≡ case_limit
   pub longer : case_limit < length input
 
--- when a reply is the one of `eval`
-abbrev pub IsEvalReply : List ℕ → Reply → Type 0
-IsEvalReply input replies.Usage = ⊥
-IsEvalReply input (replies.TooLong limit) = IsTooLong input limit
-IsEvalReply input (replies.Case bad) = IsNoCase Plain input bad
-IsEvalReply input (replies.Program kind at) = IsOfCase Plain input (λ c. IsRefusedAs c.program at kind)
-IsEvalReply input (replies.InputCount have need) = IsOfCase Plain input (λ c. IsMiscounted c have need)
-IsEvalReply input (replies.Outputs outputs) = IsOfCase Plain input (λ c. IsEvaluated c outputs)
+-- when a reply is what `eval` says of a case
+abbrev pub IsEvalAnswer : Content → Reply → Type 0
+IsEvalAnswer c (replies.Program kind at) = IsRefusedAs c.program at kind
+IsEvalAnswer c (replies.InputCount have need) = IsMiscounted c have need
+IsEvalAnswer c (replies.Outputs outputs) = IsEvaluated c outputs
+IsEvalAnswer c reply = ⊥
+
+-- when a reply is what `circuit` says of a case
+abbrev pub IsCircuitAnswer : Content → Reply → Type 0
+IsCircuitAnswer c (replies.Program kind at) = IsRefusedAs c.program at kind
+IsCircuitAnswer c (replies.Deep levels) = IsTooLarge c.program (layout.Deep levels)
+IsCircuitAnswer c (replies.Wide height width) = IsTooLarge c.program (layout.Wide height width)
+IsCircuitAnswer c (replies.InputCount have need) = IsCircuitMiscounted c have need
+IsCircuitAnswer c (replies.Circuit sizes) = IsLaidOut c sizes
+IsCircuitAnswer c reply = ⊥
+
+-- when a reply is what `verify` says of a case
+abbrev pub IsVerifyAnswer : Content → Reply → Type 0
+IsVerifyAnswer c (replies.Program kind at) = IsRefusedAs c.program at kind
+IsVerifyAnswer c (replies.Deep levels) = IsTooLarge c.program (layout.Deep levels)
+IsVerifyAnswer c (replies.Wide height width) = IsTooLarge c.program (layout.Wide height width)
+IsVerifyAnswer c (replies.InputCount have need) = IsCircuitMiscounted c have need
+IsVerifyAnswer c (replies.OutputCount have need) = IsOutputMiscounted c have need
+IsVerifyAnswer c (replies.Proof bad) = IsBadProof c bad
+IsVerifyAnswer c replies.Accepted = IsVerdictOn c verdicts.Accepted
+IsVerifyAnswer c (replies.RejectedSum layer round had claim) = IsVerdictOn c (verdicts.Sum layer round had claim)
+IsVerifyAnswer c (replies.RejectedEnd layer had want) = IsVerdictOn c (verdicts.End layer had want)
+IsVerifyAnswer c (replies.RejectedInput had want) = IsVerdictOn c (verdicts.Input had want)
+IsVerifyAnswer c reply = ⊥
+
+-- when a reply is the one of a command that reads a case of this form, and says this of it
+abbrev pub IsCaseReply : Form → (Content → Reply → Type 0) → List ℕ → Reply → Type 0
+IsCaseReply form answers input replies.Usage = ⊥
+IsCaseReply form answers input (replies.TooLong limit) = IsTooLong input limit
+IsCaseReply form answers input (replies.Case bad) = IsNoCase form input bad
+IsCaseReply form answers input reply = IsOfCase form input (λ c. answers c reply)
 
 -- when a reply is the one of a command, or of words that name none
 abbrev pub IsCommandReply : Option Command → List ℕ → Reply → Type 0
 IsCommandReply None input reply = reply ≡ replies.Usage
-IsCommandReply (Some Eval) input reply = IsEvalReply input reply
+IsCommandReply (Some Eval) input reply = IsCaseReply Plain IsEvalAnswer input reply
+IsCommandReply (Some CircuitSizes) input reply = IsCaseReply Plain IsCircuitAnswer input reply
+IsCommandReply (Some Verify) input reply = IsCaseReply Full IsVerifyAnswer input reply
 
 -- The reply to the words, and to the input of the command that they name.
 abbrev pub IsReply : List (List ℕ) → List ℕ → Reply → Type 0
@@ -66,16 +107,44 @@ status_of replies.Usage = statuses.Usage
 status_of (replies.TooLong limit) = statuses.TooLong
 status_of (replies.Case bad) = statuses.BadCase
 status_of (replies.Program kind at) = statuses.BadProgram
+status_of (replies.Deep levels) = statuses.BadProgram
+status_of (replies.Wide height width) = statuses.BadProgram
 status_of (replies.InputCount have need) = statuses.BadCount
+status_of (replies.OutputCount have need) = statuses.BadCount
+status_of (replies.Proof bad) = statuses.BadProof
+status_of (replies.Circuit sizes) = statuses.Done
+status_of replies.Accepted = statuses.Done
+status_of (replies.RejectedSum layer round had claim) = statuses.Rejected
+status_of (replies.RejectedEnd layer had want) = statuses.Rejected
+status_of (replies.RejectedInput had want) = statuses.Rejected
 
 -- the number that the program ends with
 abbrev pub code_of : Status → ℕ
 code_of statuses.Done = 0
+code_of statuses.Rejected = 1
 code_of statuses.Usage = 2
 code_of statuses.BadCase = 3
 code_of statuses.BadProgram = 4
 code_of statuses.BadCount = 5
+code_of statuses.BadProof = 6
 code_of statuses.ReadFault = 7
 code_of statuses.WriteFault = 8
 code_of statuses.Memory = 9
 code_of statuses.TooLong = 10
+
+-- the reply to a case that is refused, where memory didn't run out
+abbrev pub refused_reply : Refused → Result Reply ReplyError
+refused_reply (refusals.Program (At at kind)) = Ok (replies.Program kind at)
+refused_reply (refusals.Program (Deep levels)) = Ok (replies.Deep levels)
+refused_reply (refusals.Program (Wide height width)) = Ok (replies.Wide height width)
+refused_reply (refusals.Input have need) = Ok (replies.InputCount have need)
+refused_reply (refusals.Output have need) = Ok (replies.OutputCount have need)
+refused_reply (refusals.Proof bad) = Ok (replies.Proof bad)
+refused_reply refusals.Memory = Err errors.Memory
+
+-- the reply to a case with a verdict
+abbrev pub verdict_reply : Verdict → Reply
+verdict_reply verdicts.Accepted = replies.Accepted
+verdict_reply (verdicts.Sum layer round had claim) = replies.RejectedSum layer round had claim
+verdict_reply (verdicts.End layer had want) = replies.RejectedEnd layer had want
+verdict_reply (verdicts.Input had want) = replies.RejectedInput had want

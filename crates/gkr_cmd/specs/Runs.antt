@@ -4,6 +4,10 @@ use Rattle.io_edge.specs.Written.{Grows}
 use Rattle.arr_ast.specs.ProgramTree.{ProgramTree}
 use Rattle.arr_check.specs.Program.{input_count}
 use Rattle.arr_compile.specs.Programs.{IsAccepted}
+use Rattle.arr_compile.specs.Circuits.{IsCompiled}
+use Rattle.circuit_core.specs.Parts.{Parts}
+use Rattle.case_prove.specs.Verified.{IsVerdictOn}
+use Rattle.gkr_verify.specs.declared.verdict.Verdict.TheVariants.{Accepted}
 use Rattle.case_text.specs.Content.{Content}
 use Rattle.case_text.specs.Replies.{reply_text}
 use Rattle.case_text.specs.declared.reply.Reply.{Reply}
@@ -49,3 +53,13 @@ pub record IsEvaluable (c : Content) : Type 0 where
   pub tree : ProgramTree
   pub accepted : IsAccepted c.program tree
   pub counted : length c.inputs ≡ input_count tree.inputs
+
+-- A case whose program has a circuit with as many inputs.
+pub record HasCircuit (c : Content) : Type 0 where
+  pub parts : Parts
+  pub compiled : IsCompiled c.program parts
+  pub counted : length c.inputs ≡ parts.inputs
+
+-- A case whose proof spells messages of its circuit's shape that meet every equation of acceptance.
+abbrev pub HasAcceptedProof : Content → Type 0
+HasAcceptedProof c = IsVerdictOn c Accepted

@@ -8,7 +8,7 @@
 //! ```
 #![tactic(auto)]
 
-mod evaluation;
+mod answering;
 mod input;
 pub mod laws;
 mod output;

@@ -7,7 +7,7 @@ ghost use Rattle.gkr_cmd.specs.Reached.{IsReadUpTo};
 ghost use Rattle.gkr_cmd.specs.Replies.{case_limit, IsCommandReply, IsReply, status_of};
 ghost use Rattle.gkr_cmd.specs.Runs.{IsInput};
 
-use crate::evaluation::evaluate;
+use crate::answering::{evaluate, lay_out, verify};
 use crate::input::read_input;
 use crate::reply_error::ReplyError;
 use crate::status::Status;
@@ -38,6 +38,8 @@ fn run_command<S: Source>(
     }
     match command {
         Command::Eval => evaluate(alloc, &input),
+        Command::Circuit => lay_out(alloc, &input),
+        Command::Verify => verify(alloc, &input),
     }
 }
 

@@ -6,9 +6,9 @@ ghost use Rattle.io_edge.specs.Written.{Grows};
 ghost use Rattle.gkr_cmd.specs.Commands.{command_of};
 ghost use Rattle.gkr_cmd.specs.Reached.{IsReadUpTo};
 ghost use Rattle.gkr_cmd.specs.Replies.{case_limit, IsOfCase};
-ghost use Rattle.gkr_cmd.specs.Runs.{EndsWithReply, IsEvaluable, IsInput, IsReplied, WritesNoMore};
+ghost use Rattle.gkr_cmd.specs.Runs.{EndsWithReply, HasAcceptedProof, HasCircuit, IsEvaluable, IsInput, IsReplied, WritesNoMore};
 
-use crate::laws::evaluable_is_done;
+use crate::laws::{accepted_is_done, evaluable_is_done, laid_out_is_done};
 use crate::output::write_output;
 use crate::reply_error::ReplyError;
 use crate::replying::make_reply;
@@ -54,10 +54,18 @@ pub fn gkr_run<R: Threads + Wait, S: Source, K: Sink, G: Gate>(
     // A case with an accepted program and as many inputs as the program needs is evaluated.
     ensures done { (input : List ℕ) → command_of (map string_bytes words.now) ≡ Some Command.Eval → S.left source.old ≡ Some input
         → IsOfCase Form.Plain input IsEvaluable → IsReplied result → result ≡ Status.Done }
+    // A case whose program has a circuit with as many inputs is answered with the circuit's sizes.
+    ensures laid_out { (input : List ℕ) → command_of (map string_bytes words.now) ≡ Some Command.Circuit → S.left source.old ≡ Some input
+        → IsOfCase Form.Plain input HasCircuit → IsReplied result → result ≡ Status.Done }
+    // A case whose proof meets every equation of acceptance is accepted.
+    ensures accepted { (input : List ℕ) → command_of (map string_bytes words.now) ≡ Some Command.Verify → S.left source.old ≡ Some input
+        → IsOfCase Form.Full input HasAcceptedProof → IsReplied result → result ≡ Status.Done }
     // Want of memory comes before the first byte is written.
     ensures memory_unwritten { result ≡ Status.Memory → Grows (K.written sink.old) (K.written sink.new) [] }
 {
     evaluable_is_done();
+    laid_out_is_done();
+    accepted_is_done();
     let reply = match make_reply(alloc, words, source) {
         Ok(reply) => reply,
         Err(ReplyError::ReadFault) => return Status::ReadFault,

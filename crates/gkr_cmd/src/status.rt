@@ -9,10 +9,12 @@ use case_text::Reply;
 #[derive(Clone, Copy, Debug, PartialEq, Eq)]
 pub enum Status {
     Done = 0,
+    Rejected = 1,
     Usage = 2,
     BadCase = 3,
     BadProgram = 4,
     BadCount = 5,
+    BadProof = 6,
     ReadFault = 7,
     WriteFault = 8,
     Memory = 9,
@@ -25,12 +27,16 @@ impl Status {
         ensures { result ≡ status_of reply.now }
     {
         match reply {
-            Reply::Outputs(_) => Status::Done,
+            Reply::Outputs(_) | Reply::Circuit(_) | Reply::Accepted => Status::Done,
+            Reply::RejectedSum { .. } | Reply::RejectedEnd { .. } | Reply::RejectedInput { .. } => {
+                Status::Rejected
+            }
             Reply::Usage => Status::Usage,
             Reply::TooLong(_) => Status::TooLong,
             Reply::Case(_) => Status::BadCase,
-            Reply::Program { .. } => Status::BadProgram,
-            Reply::InputCount { .. } => Status::BadCount,
+            Reply::Program { .. } | Reply::Deep { .. } | Reply::Wide { .. } => Status::BadProgram,
+            Reply::InputCount { .. } | Reply::OutputCount { .. } => Status::BadCount,
+            Reply::Proof(_) => Status::BadProof,
         }
     }
 

@@ -9,7 +9,7 @@ use Rattle.case_text.proofs.reading.values.Goals as goal
 
 pub returns-in_err-number : goal.returns-in_err-number
 returns-in_err-number c =
-    let p = err_from_is_err_and c.from_residual.result c.from_residual.ensures.1 in
+    let p = err_from_is_err_and c.from_residual-in_err-number.result c.from_residual-in_err-number.ensures.1 in
     rw (p.1, p.2) (ends value_at c.in_err-number.field-0.0 c.loop-index.values.items c.args.count c.loop-index.index c.loop-index.rest.now (values_at c.args.count c.args.bytes.now) c.loop-index-test.true
     (fails_on c.in_err-number.field-0.0 (decimal_at (value_rule (c.args.count - c.loop-index.index - 1)) c.loop-index.rest.now) (λ x. Ok (of x.0, x.1)) (rw c.value.ensures at c.in_err-number.ensures)) c.loop-index.invariant)
 

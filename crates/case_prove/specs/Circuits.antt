@@ -1,0 +1,70 @@
+-- What the layout says of a case: the sizes of its program's circuit, or why there are none.
+use Rattle.std.specs.Prelude.{◌≡◌, ◌≢◌, ℕ, ◌+◌, ◌*◌, List, length, map, drop, sum_by, slice_index, slice_index_or, []}
+use Rattle.std.specs.List.{range_with_len}
+use Rattle.circuit_core.specs.declared.gate.Kind.TheVariants.{Add, Mul}
+use Rattle.circuit_core.specs.declared.gate.Kind.{Kind}
+use Rattle.circuit_core.specs.declared.gate.CircuitGate.{CircuitGate}
+use Rattle.circuit_core.specs.Parts.{Parts, height, width_of}
+use Rattle.circuit_core.specs.Sound.{exponents}
+use Rattle.proof_wire.specs.Spelling.{length_of}
+use Rattle.arr_compile.specs.Circuits.{IsCompiled, IsCircuitRefusal}
+use Rattle.case_text.specs.Content.{Content}
+use Rattle.case_text.specs.Sizes.{Sizes}
+use Rattle.case_text.specs.declared.sizes.LayerSize.{LayerSize}
+use Rattle.case_prove.specs.declared.refused.Refused.{Refused}
+use Rattle.case_prove.specs.declared.refused.Refused.TheVariants.{Program, Input, Output, Proof, Memory}
+
+-- 1 for a product, and 0 for a sum
+abbrev pub product_weight : Kind → ℕ
+product_weight Add = 0
+product_weight Mul = 1
+
+-- how many of these gates multiply
+abbrev pub products_of : List CircuitGate → ℕ
+products_of gates = sum_by (λ gate. product_weight gate.kind) gates
+
+-- how many gates of a layer multiply, of which the input layer has none
+abbrev pub products : Parts → ℕ → ℕ
+products p i = products_of (slice_index_or p.layers i [])
+
+abbrev pub layer_size : Parts → ℕ → LayerSize
+layer_size p i = record { positions = width_of p i; products = products p i }
+
+-- one challenge for each coordinate of the output point, and for each layer below two for each of its coordinates and one for its line
+abbrev pub challenge_count : List ℕ → ℕ
+challenge_count ks = slice_index ks 0 + sum_by (λ k. 2 * k + 1) (drop 1 ks)
+
+-- how many challenges are exceptional at most, each counted by its round's degree: 1 for a coordinate of the output point, 2 for each of the rounds of a layer, and k for its line
+abbrev pub bound_sum : List ℕ → ℕ
+bound_sum ks = slice_index ks 0 + sum_by (λ k. 5 * k) (drop 1 ks)
+
+abbrev pub sizes_of : Parts → Sizes
+sizes_of p = record {
+  layers = map (layer_size p) (range_with_len 0 (height p + 1));
+  proof = length_of (exponents p);
+  challenges = challenge_count (exponents p);
+  bound = bound_sum (exponents p);
+}
+
+-- The case's program has a circuit of these sizes, and it has as many inputs as the case.
+pub record IsLaidOut (c : Content) (sizes : Sizes) : Type 0 where
+  pub parts : Parts
+  pub compiled : IsCompiled c.program parts
+  pub counted : length c.inputs ≡ parts.inputs
+  pub sizes_are : sizes ≡ sizes_of parts
+
+-- The case's program has a circuit, and another number of inputs than the case.
+pub record IsCircuitMiscounted (c : Content) (have need : ℕ) : Type 0 where
+  pub parts : Parts
+  pub compiled : IsCompiled c.program parts
+  pub case_has : have ≡ length c.inputs
+  pub program_needs : need ≡ parts.inputs
+  pub differ : have ≢ need
+
+-- A call refuses a case as the definitions do, or memory ran out.
+abbrev pub RefusesCircuit : Content → Refused → Type 0
+RefusesCircuit c (Program bad) = IsCircuitRefusal c.program bad
+RefusesCircuit c (Input have need) = IsCircuitMiscounted c have need
+RefusesCircuit c (Output have need) = ⊥
+RefusesCircuit c (Proof bad) = ⊥
+RefusesCircuit c Memory = Unit {0}

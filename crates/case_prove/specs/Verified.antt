@@ -1,0 +1,70 @@
+-- What the verifier says of a case: its verdict on the proof, or why there is none.
+use Rattle.std.specs.Prelude.{◌≡◌, ◌≢◌, ℕ, List, length, Some}
+use Rattle.field_ext.specs.Field.{F}
+use Rattle.circuit_core.specs.Parts.{Parts}
+use Rattle.circuit_core.specs.Sound.{exponents}
+use Rattle.proof_wire.specs.declared.messages.Messages.{Messages}
+use Rattle.proof_wire.specs.declared.refused.BadProof.{BadProof}
+use Rattle.proof_wire.specs.Spelling.{AreOf, spelling}
+use Rattle.proof_wire.specs.Trouble.{TroubleIs}
+use Rattle.transcript_fs.specs.Source.{all_draws}
+use Rattle.transcript_fs.specs.Transcript.{start_state, transcript}
+use Rattle.gkr_verify.specs.Acceptance.{claim_of, verdict_of}
+use Rattle.gkr_verify.specs.Shapes.{all_messages}
+use Rattle.gkr_verify.specs.declared.verdict.Verdict.{Verdict}
+use Rattle.arr_compile.specs.Circuits.{IsCompiled, IsCircuitRefusal}
+use Rattle.case_text.specs.Content.{Content}
+use Rattle.case_prove.specs.Circuits.{IsCircuitMiscounted}
+use Rattle.case_prove.specs.declared.refused.Refused.{Refused}
+use Rattle.case_prove.specs.declared.refused.Refused.TheVariants.{Program, Input, Output, Proof, Memory}
+
+-- The case's program has a circuit with as many inputs as the case, and the case has outputs.
+pub record IsClaim (c : Content) (parts : Parts) (outputs : List F) : Type 0 where
+  pub compiled : IsCompiled c.program parts
+  pub counted : length c.inputs ≡ parts.inputs
+  pub outputs_are : c.outputs ≡ Some outputs
+
+-- the answer to these messages, with the challenges of the case's own transcript
+abbrev pub transcript_verdict : Content → Parts → List F → Messages → Verdict
+transcript_verdict c parts outputs messages =
+    let stated = claim_of parts c.inputs outputs in
+    let qs = all_messages messages.layers.items in
+    verdict_of stated qs (all_draws transcript (start_state c.program c.inputs outputs) stated.k qs)
+
+-- The case's proof spells messages of the circuit's shape, and this is the first equation of acceptance that fails, or none.
+pub record IsVerdictOn (c : Content) (verdict : Verdict) : Type 0 where
+  pub parts : Parts
+  pub outputs : List F
+  pub claim : IsClaim c parts outputs
+  pub as_many : length outputs ≡ parts.outputs
+  pub messages : Messages
+  pub of_shape : AreOf (exponents parts) messages
+  pub spelled : c.proof ≡ Some (spelling messages)
+  pub verdict_is : verdict ≡ transcript_verdict c parts outputs messages
+
+-- The case has another number of outputs than its circuit.
+pub record IsOutputMiscounted (c : Content) (have need : ℕ) : Type 0 where
+  pub parts : Parts
+  pub outputs : List F
+  pub claim : IsClaim c parts outputs
+  pub case_has : have ≡ length outputs
+  pub circuit_has : need ≡ parts.outputs
+  pub differ : have ≢ need
+
+-- The case's proof is no spelling of messages of the circuit's shape; this is its first trouble.
+pub record IsBadProof (c : Content) (bad : BadProof) : Type 0 where
+  pub parts : Parts
+  pub outputs : List F
+  pub claim : IsClaim c parts outputs
+  pub as_many : length outputs ≡ parts.outputs
+  pub proof : List ℕ
+  pub proof_is : c.proof ≡ Some proof
+  pub trouble : TroubleIs (exponents parts) proof bad
+
+-- A call refuses a case as the definitions do, or memory ran out.
+abbrev pub RefusesVerify : Content → Refused → Type 0
+RefusesVerify c (Program bad) = IsCircuitRefusal c.program bad
+RefusesVerify c (Input have need) = IsCircuitMiscounted c have need
+RefusesVerify c (Output have need) = IsOutputMiscounted c have need
+RefusesVerify c (Proof bad) = IsBadProof c bad
+RefusesVerify c Memory = Unit {0}

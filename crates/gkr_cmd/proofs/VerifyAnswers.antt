@@ -1,0 +1,181 @@
+-- A case has at most one answer of `verify`, and that to a case whose proof meets every equation is that it is accepted.
+use Rattle.std.proofs.Common.{◌≡◌, ℕ, List, [], ◌∷◌, ◌++◌, length, map, subst, Option, Some, refl, sym, ap, ◌∙◌}
+use Rattle.field_ext.specs.Field.{F, K}
+use Rattle.circuit_core.specs.Parts.{Parts}
+use Rattle.circuit_core.specs.Sound.{exponents}
+use Rattle.proof_wire.specs.declared.messages.Round.{Round}
+use Rattle.proof_wire.specs.declared.messages.LayerMessages.{LayerMessages}
+use Rattle.proof_wire.specs.declared.messages.Messages.{Messages}
+use Rattle.proof_wire.specs.declared.refused.BadProof.{BadProof}
+use Rattle.proof_wire.specs.Spelling.{AreOf, SameMessages, spelling}
+use Rattle.proof_wire.specs.Trouble.{TroubleIs}
+use Rattle.transcript_fs.specs.Source.{all_draws}
+use Rattle.transcript_fs.specs.Transcript.{start_state, transcript}
+use Rattle.gkr_verify.specs.Acceptance.{claim_of, verdict_of}
+use Rattle.gkr_verify.specs.Shapes.{all_messages, messages_of, round_messages}
+use Rattle.gkr_verify.specs.declared.verdict.Verdict.{Verdict}
+use Rattle.gkr_verify.specs.declared.verdict.Verdict.TheVariants as verdicts
+use Rattle.arr_compile.specs.declared.refused.BadProgram.{BadProgram}
+use Rattle.arr_compile.specs.declared.refused.BadProgram.TheVariants.{At, Deep, Wide}
+use Rattle.arr_compile.specs.Circuits.{IsCircuitRefusal}
+use Rattle.case_text.specs.Content.{Content}
+use Rattle.case_text.specs.declared.reply.Reply.{Reply}
+use Rattle.case_text.specs.declared.reply.Reply.TheVariants as replies
+use Rattle.case_prove.specs.Circuits.{IsCircuitMiscounted}
+use Rattle.case_prove.specs.Verified.{IsClaim, IsVerdictOn, IsOutputMiscounted, IsBadProof, transcript_verdict}
+use Rattle.gkr_cmd.specs.declared.status.Status.TheVariants.{Done}
+use Rattle.gkr_cmd.specs.Replies.{IsVerifyAnswer, status_of, verdict_reply}
+use Rattle.gkr_cmd.proofs.CircuitAnswers.{IsOne, reply_to, same_counts, counted_or_not}
+use Rattle.gkr_cmd.proofs.OneReply.{OneAnswer}
+
+-- bytes spell the same messages or have one first trouble
+pub record IsOneProof : Type 0 where
+  pub reading : (ks : List ℕ) (some others : Messages) → AreOf ks some → AreOf ks others → spelling some ≡ spelling others → SameMessages some others
+  pub trouble : (ks bytes : List ℕ) (trouble other : BadProof) → TroubleIs ks bytes trouble → TroubleIs ks bytes other → trouble ≡ other
+  pub none : (ks : List ℕ) (messages : Messages) (trouble : BadProof) → AreOf ks messages → TroubleIs ks (spelling messages) trouble → ⊥
+
+-- what is said of a case
+data Answer (c : Content) : Reply → Type 0 where
+  refused : (bad : BadProgram) → IsCircuitRefusal c.program bad → Answer c (reply_to bad)
+  miscounted : (have need : ℕ) → IsCircuitMiscounted c have need → Answer c (replies.InputCount have need)
+  outputs_miscounted : (have need : ℕ) → IsOutputMiscounted c have need → Answer c (replies.OutputCount have need)
+  bad_proof : (bad : BadProof) → IsBadProof c bad → Answer c (replies.Proof bad)
+  verdict : (verdict : Verdict) → IsVerdictOn c verdict → Answer c (verdict_reply verdict)
+
+answer : (c : Content) (reply : Reply) → IsVerifyAnswer c reply → Answer c reply
+answer c replies.Usage is = absurd is
+answer c (replies.TooLong limit) is = absurd is
+answer c (replies.Case bad) is = absurd is
+answer c (replies.Program kind at) is = refused (At at kind) is
+answer c (replies.Deep levels) is = refused (Deep levels) is
+answer c (replies.Wide height width) is = refused (Wide height width) is
+answer c (replies.InputCount have need) is = miscounted have need is
+answer c (replies.Outputs outputs) is = absurd is
+answer c (replies.Circuit sizes) is = absurd is
+answer c (replies.OutputCount have need) is = outputs_miscounted have need is
+answer c (replies.Proof bad) is = bad_proof bad is
+answer c replies.Accepted is = verdict verdicts.Accepted is
+answer c (replies.RejectedSum layer round had claim) is = verdict (verdicts.Sum layer round had claim) is
+answer c (replies.RejectedEnd layer had want) is = verdict (verdicts.End layer had want) is
+answer c (replies.RejectedInput had want) is = verdict (verdicts.Input had want) is
+
+one_list : {A : Type 0} (o : Option A) (a b : A) → o ≡ Some a → o ≡ Some b → a ≡ b
+one_list o a b is is' = cc
+
+same_parts : IsOne → (c : Content) (p p' : Parts) (o o' : List F) → IsClaim c p o → IsClaim c p' o' → p ≡ p'
+same_parts one c p p' o o' is is' = one.circuit c.program p p' is.compiled is'.compiled
+
+same_outputs : (c : Content) (p p' : Parts) (o o' : List F) → IsClaim c p o → IsClaim c p' o' → o ≡ o'
+same_outputs c p p' o o' is is' = one_list c.outputs o o' is.outputs_are is'.outputs_are
+
+-- no claim stands where the inputs are miscounted, nor where the program is refused
+no_claim : IsOne → (c : Content) (have need : ℕ) (p : Parts) (o : List F) → IsCircuitMiscounted c have need → IsClaim c p o → ⊥
+no_claim one c have need p o is claim = counted_or_not one c have need p claim.compiled claim.counted is
+
+not_refused : IsOne → (c : Content) (bad : BadProgram) (p : Parts) (o : List F) → IsCircuitRefusal c.program bad → IsClaim c p o → ⊥
+not_refused one c bad p o is claim = one.either c.program p bad claim.compiled is
+
+as_many_or_not : IsOne → (c : Content) (have need : ℕ) (p : Parts) (o : List F) → IsOutputMiscounted c have need → IsClaim c p o → length o ≡ p.outputs → ⊥
+as_many_or_not one c have need p o is claim many =
+    let parts = same_parts one c is.parts p is.outputs o is.claim claim in
+    let outputs = same_outputs c is.parts p is.outputs o is.claim claim in
+    is.differ (is.case_has ∙ ap length outputs ∙ many ∙ sym (is.circuit_has ∙ ap (λ (q : Parts). q.outputs) parts))
+
+same_output_counts : IsOne → (c : Content) (have have' need need' : ℕ) → IsOutputMiscounted c have need → IsOutputMiscounted c have' need' → replies.OutputCount have need ≡ replies.OutputCount have' need'
+same_output_counts one c have have' need need' is is' =
+    let parts = same_parts one c is.parts is'.parts is.outputs is'.outputs is.claim is'.claim in
+    let outputs = same_outputs c is.parts is'.parts is.outputs is'.outputs is.claim is'.claim in
+    let same_have : have ≡ have' = is.case_has ∙ ap length outputs ∙ sym is'.case_has in
+    let same_need : need ≡ need' = is.circuit_has ∙ ap (λ (q : Parts). q.outputs) parts ∙ sym is'.circuit_has in
+    rw (same_have, same_need) refl
+
+same_trouble : IsOne → IsOneProof → (c : Content) (a b : BadProof) → IsBadProof c a → IsBadProof c b → a ≡ b
+same_trouble one proofs c a b is is' =
+    let parts = same_parts one c is'.parts is.parts is'.outputs is.outputs is'.claim is.claim in
+    let proof = one_list c.proof is'.proof is.proof is'.proof_is is.proof_is in
+    proofs.trouble (exponents is.parts) is.proof a b is.trouble
+    (subst (λ (q : Parts). TroubleIs (exponents q) is.proof b) parts (subst (λ (bytes : List ℕ). TroubleIs (exponents is'.parts) bytes b) proof is'.trouble))
+
+spelled_or_not : IsOne → IsOneProof → (c : Content) (bad : BadProof) (v : Verdict) → IsBadProof c bad → IsVerdictOn c v → ⊥
+spelled_or_not one proofs c bad v is is' =
+    let parts = same_parts one c is.parts is'.parts is.outputs is'.outputs is.claim is'.claim in
+    let proof = one_list c.proof is.proof (spelling is'.messages) is.proof_is is'.spelled in
+    proofs.none (exponents is'.parts) is'.messages bad is'.of_shape
+    (subst (λ (q : Parts). TroubleIs (exponents q) (spelling is'.messages) bad) parts (subst (λ (bytes : List ℕ). TroubleIs (exponents is.parts) bytes bad) proof is.trouble))
+
+abbrev rounds_of : LayerMessages → List Round
+rounds_of layer = layer.rounds.items
+
+abbrev line_of : LayerMessages → List K
+line_of layer = layer.line.items
+
+head_is : {A : Type 0} (x y : A) (xs ys : List A) → x ∷ xs ≡ y ∷ ys → x ≡ y
+head_is x y xs ys e = cc
+
+tail_is : {A : Type 0} (x y : A) (xs ys : List A) → x ∷ xs ≡ y ∷ ys → xs ≡ ys
+tail_is x y xs ys e = cc
+
+same_all : (xs ys : List LayerMessages) → map rounds_of xs ≡ map rounds_of ys → map line_of xs ≡ map line_of ys → all_messages xs ≡ all_messages ys
+same_all [] [] rounds lines = refl
+same_all [] (y ∷ ys) rounds lines = absurd cc
+same_all (x ∷ xs) [] rounds lines = absurd cc
+same_all (x ∷ xs) (y ∷ ys) rounds lines =
+    let round = head_is (rounds_of x) (rounds_of y) (map rounds_of xs) (map rounds_of ys) rounds in
+    let line = head_is (line_of x) (line_of y) (map line_of xs) (map line_of ys) lines in
+    let others = same_all xs ys (tail_is (rounds_of x) (rounds_of y) (map rounds_of xs) (map rounds_of ys) rounds) (tail_is (line_of x) (line_of y) (map line_of xs) (map line_of ys) lines) in
+    ap (λ (qs : List (List K)). messages_of x ++ qs) others
+    ∙ ap (λ (r : List Round). (round_messages r ++ line_of x ∷ []) ++ all_messages ys) round
+    ∙ ap (λ (l : List K). (round_messages (rounds_of y) ++ l ∷ []) ++ all_messages ys) line
+
+-- the verdict reads the messages alone
+abbrev by_messages : Content → Parts → List F → List (List K) → Verdict
+by_messages c parts outputs qs =
+    let stated = claim_of parts c.inputs outputs in
+    verdict_of stated qs (all_draws transcript (start_state c.program c.inputs outputs) stated.k qs)
+
+same_verdict : IsOne → IsOneProof → (c : Content) (v w : Verdict) → IsVerdictOn c v → IsVerdictOn c w → v ≡ w
+same_verdict one proofs c v w is is' =
+    let parts = same_parts one c is'.parts is.parts is'.outputs is.outputs is'.claim is.claim in
+    let outputs = same_outputs c is'.parts is.parts is'.outputs is.outputs is'.claim is.claim in
+    let bytes = one_list c.proof (spelling is.messages) (spelling is'.messages) is.spelled is'.spelled in
+    let same = proofs.reading (exponents is.parts) is.messages is'.messages is.of_shape (subst (λ (q : Parts). AreOf (exponents q) is'.messages) parts is'.of_shape) bytes in
+    let messages = same_all is.messages.layers.items is'.messages.layers.items same.rounds same.lines in
+    is.verdict_is
+    ∙ ap (by_messages c is.parts is.outputs) messages
+    ∙ ap (λ (o : List F). by_messages c is.parts o (all_messages is'.messages.layers.items)) (sym outputs)
+    ∙ ap (λ (q : Parts). by_messages c q is'.outputs (all_messages is'.messages.layers.items)) (sym parts)
+    ∙ sym is'.verdict_is
+
+one_answer : IsOne → IsOneProof → (c : Content) {a b : Reply} → Answer c a → Answer c b → a ≡ b
+one_answer one proofs c (refused bad is) (refused bad' is') = ap reply_to (one.refusal c.program bad bad' is is')
+one_answer one proofs c (refused bad is) (miscounted have need is') = absurd (one.either c.program is'.parts bad is'.compiled is)
+one_answer one proofs c (refused bad is) (outputs_miscounted have need is') = absurd (not_refused one c bad is'.parts is'.outputs is is'.claim)
+one_answer one proofs c (refused bad is) (bad_proof bad' is') = absurd (not_refused one c bad is'.parts is'.outputs is is'.claim)
+one_answer one proofs c (refused bad is) (verdict v is') = absurd (not_refused one c bad is'.parts is'.outputs is is'.claim)
+one_answer one proofs c (miscounted have need is) (refused bad is') = absurd (one.either c.program is.parts bad is.compiled is')
+one_answer one proofs c (miscounted have need is) (miscounted have' need' is') = same_counts one c have have' need need' is is'
+one_answer one proofs c (miscounted have need is) (outputs_miscounted have' need' is') = absurd (no_claim one c have need is'.parts is'.outputs is is'.claim)
+one_answer one proofs c (miscounted have need is) (bad_proof bad is') = absurd (no_claim one c have need is'.parts is'.outputs is is'.claim)
+one_answer one proofs c (miscounted have need is) (verdict v is') = absurd (no_claim one c have need is'.parts is'.outputs is is'.claim)
+one_answer one proofs c (outputs_miscounted have need is) (refused bad is') = absurd (not_refused one c bad is.parts is.outputs is' is.claim)
+one_answer one proofs c (outputs_miscounted have need is) (miscounted have' need' is') = absurd (no_claim one c have' need' is.parts is.outputs is' is.claim)
+one_answer one proofs c (outputs_miscounted have need is) (outputs_miscounted have' need' is') = same_output_counts one c have have' need need' is is'
+one_answer one proofs c (outputs_miscounted have need is) (bad_proof bad is') = absurd (as_many_or_not one c have need is'.parts is'.outputs is is'.claim is'.as_many)
+one_answer one proofs c (outputs_miscounted have need is) (verdict v is') = absurd (as_many_or_not one c have need is'.parts is'.outputs is is'.claim is'.as_many)
+one_answer one proofs c (bad_proof bad is) (refused bad' is') = absurd (not_refused one c bad' is.parts is.outputs is' is.claim)
+one_answer one proofs c (bad_proof bad is) (miscounted have need is') = absurd (no_claim one c have need is.parts is.outputs is' is.claim)
+one_answer one proofs c (bad_proof bad is) (outputs_miscounted have need is') = absurd (as_many_or_not one c have need is.parts is.outputs is' is.claim is.as_many)
+one_answer one proofs c (bad_proof bad is) (bad_proof bad' is') = ap replies.Proof (same_trouble one proofs c bad bad' is is')
+one_answer one proofs c (bad_proof bad is) (verdict v is') = absurd (spelled_or_not one proofs c bad v is is')
+one_answer one proofs c (verdict v is) (refused bad is') = absurd (not_refused one c bad is.parts is.outputs is' is.claim)
+one_answer one proofs c (verdict v is) (miscounted have need is') = absurd (no_claim one c have need is.parts is.outputs is' is.claim)
+one_answer one proofs c (verdict v is) (outputs_miscounted have need is') = absurd (as_many_or_not one c have need is.parts is.outputs is' is.claim is.as_many)
+one_answer one proofs c (verdict v is) (bad_proof bad is') = absurd (spelled_or_not one proofs c bad v is' is)
+one_answer one proofs c (verdict v is) (verdict w is') = ap verdict_reply (same_verdict one proofs c v w is is')
+
+pub one_verify : IsOne → IsOneProof → OneAnswer IsVerifyAnswer
+one_verify one proofs c a b is is' = one_answer one proofs c (answer c a is) (answer c b is')
+
+pub verify_done : IsOne → IsOneProof → (c : Content) (reply : Reply) → IsVerdictOn c verdicts.Accepted → IsVerifyAnswer c reply → status_of reply ≡ Done
+verify_done one proofs c reply is found =
+    ap status_of (sym (one_answer one proofs c {a = verdict_reply verdicts.Accepted} {b = reply} (verdict verdicts.Accepted is) (answer c reply found)))

@@ -1,0 +1,12 @@
+use Rattle.case_text.specs.declared.form.Form.TheVariants.{Full}
+use Rattle.gkr_cmd.specs.Replies.{IsVerifyAnswer}
+use Rattle.gkr_cmd.specs.Runs.{HasAcceptedProof}
+use Rattle.gkr_cmd.proofs.VerifyAnswers.{verify_done}
+use Rattle.gkr_cmd.proofs.OneReply.{done}
+use Rattle.gkr_cmd.proofs.laws.accepted_is_done.Goals as goal
+
+pub returns : goal.returns
+returns c =
+    done Full IsVerifyAnswer HasAcceptedProof
+    (verify_done (record { circuit = c.one_circuit.ensures; refusal = c.one_circuit_refusal.ensures; either = c.compiled_or_refused.ensures })
+    (record { reading = c.one_reading.ensures; trouble = c.one_trouble.ensures; none = c.no_trouble.ensures }))
