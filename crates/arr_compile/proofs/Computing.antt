@@ -1,5 +1,5 @@
 -- The circuit of a program computes what the program means.
-use Rattle.std.proofs.Common.{◌≡◌, ◌∙◌, ◌+◌, ◌-◌, ℕ, List, length, map, sym, ap, Option, Some}
+use Rattle.std.proofs.Common.{◌≡◌, ◌∙◌, ◌+◌, ◌-◌, ℕ, List, length, sym, ap, Some}
 use Rattle.std.proofs.lemmas.List.{length-map}
 use Rattle.field_ext.specs.Field.{F}
 use Rattle.arr_ast.specs.ProgramTree.{ProgramTree}

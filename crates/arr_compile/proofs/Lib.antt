@@ -1,3 +1,4 @@
 pub mod OneReading
 pub mod OneCircuit
 pub mod Computing
+pub mod SoundCircuits

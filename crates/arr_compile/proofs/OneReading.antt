@@ -1,5 +1,5 @@
 -- A text has one reading: one tree, or one first refusal.
-use Rattle.std.proofs.Common.{◌≡◌, ◌∙◌, subst, true, false, ℕ, List, [], ◌∷◌, length, refl, sym, ap, Option, Some, None, Result, Ok, Err, map}
+use Rattle.std.proofs.Common.{◌≡◌, ◌∙◌, subst, true, false, ℕ, List, [], ◌∷◌, length, refl, sym, ap, Result, Ok, Err, map}
 use Rattle.std.specs.Prelude.{IsTrue, is_ok}
 use Rattle.arr_ast.specs.ProgramTree.{ProgramTree}
 use Rattle.arr_ast.specs.declared.refusal.ProgramKind.{ProgramKind}

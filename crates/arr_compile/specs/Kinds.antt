@@ -1,5 +1,4 @@
 -- The refusals of each pass, as those of the whole.
-use Rattle.std.specs.Prelude.{ℕ}
 use Rattle.arr_ast.specs.declared.refusal.ProgramKind.{ProgramKind}
 use Rattle.arr_ast.specs.declared.refusal.ProgramKind.TheVariants as kinds
 use Rattle.arr_check.specs.declared.refused.CheckKind.{CheckKind}

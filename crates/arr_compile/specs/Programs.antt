@@ -1,5 +1,5 @@
 -- The program of a text, or its first refusal: all lexing comes before all reading, and that before running.
-use Rattle.std.specs.Prelude.{◌≡◌, ℕ, List, [], ◌∷◌, length, IsTrue, is_ok, Option, Some, None, Result, Ok, Err}
+use Rattle.std.specs.Prelude.{◌≡◌, ℕ, List, [], ◌∷◌, length, IsTrue, is_ok, Some, None, Ok, Err}
 use Rattle.arr_ast.specs.ProgramTree.{ProgramTree}
 use Rattle.arr_ast.specs.declared.refusal.ProgramKind.{ProgramKind}
 use Rattle.arr_ast.specs.declared.refusal.ProgramKind.TheVariants as kinds

@@ -1,7 +1,9 @@
 //! What holds of readings by their definitions alone.
 
-ghost use Rattle.std.specs.Prelude.{◌≡◌, ℕ, List, length};
+ghost use Rattle.std.specs.Prelude.{◌≡◌, ◌≤◌, ℕ, List, length, None};
+ghost use Rattle.circuit_core.specs.Faults.{fault_of};
 ghost use Rattle.circuit_core.specs.Parts.{Parts};
+ghost use Rattle.circuit_core.specs.Sound.{greatest};
 ghost use Rattle.field_ext.specs.Field.{F};
 ghost use Rattle.arr_ast.specs.ProgramTree.{ProgramTree};
 ghost use Rattle.arr_check.specs.Program.{input_count};
@@ -9,9 +11,9 @@ ghost use Rattle.arr_compile.specs.declared.refused.BadProgram.{BadProgram};
 ghost use Rattle.arr_compile.specs.Programs.{IsRead, IsAccepted, IsRefusal};
 ghost use Rattle.arr_compile.specs.Circuits.{IsCompiled, IsCircuitRefusal, Computes};
 
-use arr_lower::laws::{nodes_in_order, nodes_mean};
+use arr_lower::laws::{has_outputs, nodes_in_order, nodes_mean};
 use arr_parse::laws::one_program_tree;
-use layer_compile::laws::outputs_stand;
+use layer_compile::laws::{no_fault, outputs_stand};
 
 /// A text has at most one tree.
 pub fn one_tree()
@@ -64,4 +66,13 @@ pub fn circuit_computes()
     nodes_in_order();
     nodes_mean();
     outputs_stand();
+}
+
+/// The circuit of a program has no fault, and an output.
+pub fn circuit_is_sound()
+    ensures faultless { (text : List ℕ) (parts : Parts) → IsCompiled text parts → fault_of greatest parts ≡ None }
+    ensures has_output { (text : List ℕ) (parts : Parts) → IsCompiled text parts → 1 ≤ parts.outputs }
+{
+    has_outputs();
+    no_fault();
 }

@@ -1,5 +1,10 @@
+mod AcceptedOutputs
 mod LayerSizes
 mod PlacesForgotten
+mod ProvedCases
+mod ProvedOutputs
+mod ProvedSizes
+mod ProvedText
 mod Statements
 mod TokensWithin
 mod WhiteSpace

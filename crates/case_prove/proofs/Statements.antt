@@ -11,6 +11,11 @@ use Rattle.gkr_verify.specs.declared.verdict.Verdict.{Verdict}
 use Rattle.case_text.specs.Content.{Content}
 use Rattle.case_prove.specs.Verified.{transcript_verdict}
 
+-- equal statements start a transcript alike
+pub same_start : (text text' : List ℕ) (inputs inputs' outputs outputs' : List F) (state : List ℕ) → text ≡ text' → inputs ≡ inputs' → outputs ≡ outputs' →
+    state ≡ start_state text inputs outputs → state ≡ start_state text' inputs' outputs'
+same_start text text' inputs inputs' outputs outputs' state of_text of_inputs of_outputs e = e ∙ (λ i. start_state (of_text i) (of_inputs i) (of_outputs i))
+
 -- the verdict on messages, from a state of the transcript
 abbrev pub verdict_from : Parts → List F → List F → Messages → List ℕ → Verdict
 verdict_from parts inputs outputs messages state =

@@ -1,4 +1,6 @@
 pub mod Blank
 pub mod Circuits
 pub mod Evaluated
+pub mod Proved
+pub mod Sound
 pub mod Verified

@@ -1,14 +1,15 @@
 //! The circuit of a case.
 
-ghost use Rattle.std.specs.Prelude.{◌≡◌, ◌+◌, ◌*◌, ◌≤◌, ◌<◌, ◌^◌, drop, map, sum_by, IfOk, IfErr};
+ghost use Rattle.std.specs.Prelude.{◌≡◌, ◌+◌, ◌≤◌, map, IfOk, IfErr};
 ghost use Rattle.std.specs.List.{range_with_len};
 ghost use Rattle.circuit_core.specs.Parts.{height};
-ghost use Rattle.case_prove.specs.Circuits.{IsLaidOut, RefusesCircuit, sizes_of, layer_size, product_weight, products as layer_products, products_of, challenge_count, bound_sum};
+ghost use Rattle.case_prove.specs.Circuits.{IsLaidOut, RefusesCircuit, sizes_of, layer_size, product_weight, products as layer_products, products_of};
 
 use crate::refused::{Refused, program_refused};
 use arr_compile::compile;
 use case_text::{Case, CircuitSizes, LayerSize};
-use circuit_core::{Circuit, CircuitGate, Kind, Shape};
+use circuit_core::{Circuit, CircuitGate, Kind};
+use gkr_verify::{bound_sum, challenge_count};
 use proof_wire::proof_len;
 use std::alloc::{AllocError, Global};
 
@@ -38,13 +39,12 @@ pub fn circuit_case(alloc: Global, case: &Case) -> Result<CircuitSizes, Refused>
 fn circuit_sizes(alloc: Global, circuit: &Circuit) -> Result<CircuitSizes, AllocError>
     ensures { IfOk result (λ sizes. sizes ≡ sizes_of circuit.now.parts) }
 {
-    let shape = circuit.shape();
     let layers = layer_sizes(alloc, circuit)?;
     Ok(CircuitSizes::new(
         layers,
-        proof_len(shape),
-        challenge_count(shape),
-        bound_sum(shape),
+        proof_len(circuit.shape()),
+        challenge_count(circuit) as u64,
+        bound_sum(circuit) as u64,
     ))
 }
 
@@ -102,42 +102,4 @@ fn product_weight(kind: Kind) -> u64
         Kind::Add => 0,
         Kind::Mul => 1,
     }
-}
-
-/// How many challenges a proof of this shape takes.
-fn challenge_count(shape: &Shape) -> u64
-    ensures { result ≡ challenge_count shape.now.ks }
-{
-    u64::from(shape.k(0)) + challenges_below(shape)
-}
-
-/// How many challenges come behind messages.
-fn challenges_below(shape: &Shape) -> u64
-    ensures value { result ≡ sum_by (λ k. 2 * k + 1) (drop 1 shape.now.ks) }
-    ensures small { result ≤ 256 * (2 * 2 ^ 32) }
-{
-    let mut count = 0;
-    for layer in 0..shape.layers() - 1 {
-        count += 2 * u64::from(shape.k(layer + 1)) + 1;
-    }
-    count
-}
-
-/// The sum of the bounds on the exceptional challenges.
-fn bound_sum(shape: &Shape) -> u64
-    ensures { result ≡ bound_sum shape.now.ks }
-{
-    u64::from(shape.k(0)) + bounds_below(shape)
-}
-
-/// The sum of the bounds on the exceptional challenges that come behind messages.
-fn bounds_below(shape: &Shape) -> u64
-    ensures value { result ≡ sum_by (λ k. 5 * k) (drop 1 shape.now.ks) }
-    ensures small { result ≤ 256 * (5 * 2 ^ 32) }
-{
-    let mut sum = 0;
-    for layer in 0..shape.layers() - 1 {
-        sum += 5 * u64::from(shape.k(layer + 1));
-    }
-    sum
 }

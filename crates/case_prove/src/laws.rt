@@ -1,6 +1,6 @@
-//! Laws of programs and their meanings, each a function that does nothing and ensures the law.
+//! Laws of programs and their meanings, and of proved cases. Each is a function that does nothing and ensures the law.
 
-ghost use Rattle.std.specs.Prelude.{◌≡◌, ℕ, List, ◌++◌, Ok};
+ghost use Rattle.std.specs.Prelude.{◌≡◌, ◌<◌, ℕ, List, ◌++◌, length, Ok};
 ghost use Rattle.field_ext.specs.Field.{F};
 ghost use Rattle.arr_ast.specs.ProgramTree.{ProgramTree};
 ghost use Rattle.arr_compile.specs.Programs.{IsRead};
@@ -8,10 +8,20 @@ ghost use Rattle.arr_eval.specs.Meaning.{meaning};
 ghost use Rattle.arr_lex.specs.declared.token.Token.{Token};
 ghost use Rattle.arr_lex.specs.Lexing.{tokens_from};
 ghost use Rattle.arr_parse.specs.Unplaced.{unplaced};
+ghost use Rattle.gkr_verify.specs.declared.verdict.Verdict.TheVariants.{Accepted};
+ghost use Rattle.case_text.specs.Content.{Content, Fits};
+ghost use Rattle.case_text.specs.Spelling.{Spells, lower_case_text};
+ghost use Rattle.case_text.specs.declared.form.Form.TheVariants.{Full};
 ghost use Rattle.case_prove.specs.Blank.{IsWhiteSpace};
+ghost use Rattle.case_prove.specs.Proved.{IsProved};
+ghost use Rattle.case_prove.specs.Sound.{HasExceptionalChallenge, HasMeaning};
+ghost use Rattle.case_prove.specs.Verified.{IsVerdictOn};
 
+use arr_compile::laws::{circuit_computes, circuit_is_sound, one_circuit, one_tree};
 use arr_lex::laws::{same_anywhere, white_space_moves};
 use arr_parse::laws::one_tree_of_words;
+use gkr_prove::laws::{honest_is_accepted, honest_is_unique};
+use proof_wire::laws::one_length;
 
 /// Programs that differ in no more than the places of their parts and the lengths of their texts mean the same.
 pub fn places_play_no_part()
@@ -37,4 +47,57 @@ pub fn white_space_means_nothing()
 {
     places_play_no_part();
     white_space();
+}
+
+/// The verifier accepts what the prover gives.
+pub fn proved_is_accepted()
+    ensures { (c proved : Content) → IsProved c proved → IsVerdictOn proved Accepted }
+{
+    one_tree();
+    circuit_computes();
+    honest_is_accepted();
+}
+
+/// A case has one proof: what the prover gives depends on the case alone.
+pub fn proved_is_one()
+    ensures { (c proved other : Content) → IsProved c proved → IsProved c other → proved ≡ other }
+{
+    one_tree();
+    one_circuit();
+    honest_is_unique();
+}
+
+/// What the prover gives keeps to the limits of cases.
+pub fn proved_fits()
+    ensures { (c proved : Content) → Fits c → IsProved c proved → Fits proved }
+{
+    one_tree();
+    circuit_computes();
+    one_length();
+}
+
+/// The text of what the prover gives is one of a case with outputs and a proof, and of this case.
+pub fn proved_is_full()
+    ensures { (c proved : Content) → Fits c → IsProved c proved → Spells Full (lower_case_text proved) proved }
+{
+    proved_fits();
+}
+
+/// The text of what the prover gives is short enough to be read: it has fewer than 4,194,304 bytes.
+pub fn proved_is_short()
+    ensures { (c proved : Content) → Fits c → IsProved c proved → length (lower_case_text proved) < 4194304 }
+{
+    one_tree();
+    circuit_computes();
+    one_length();
+}
+
+/// Where a case is accepted whose outputs aren't its program's meaning on its inputs, some challenge of its own transcript is
+/// exceptional after the messages and challenges before it, and few are.
+pub fn sound()
+    ensures { (c : Content) → IsVerdictOn c Accepted → ¬ HasMeaning c → (n : ℕ) × HasExceptionalChallenge c n }
+{
+    circuit_computes();
+    circuit_is_sound();
+    gkr_verify::laws::sound();
 }

@@ -1,10 +1,10 @@
 //! What the commands do with one case.
 //!
 //! `eval_case` reads the program of a case and gives its outputs: the program's meaning on the case's inputs.
-//! `circuit_case` lays the program out as a circuit and gives its sizes. `verify_case` gives the verdict on the case's
-//! proof. The refusals come in one order: the program, the number of inputs, that of outputs, and the proof's bytes.
-//! `laws` says that white space between tokens changes neither a program's tree nor its
-//! outputs.
+//! `circuit_case` lays the program out as a circuit and gives its sizes. `prove_case` gives the case with its outputs and
+//! their proof, and `verify_case` the verdict on the case's proof. The refusals come in one order: the program, the number
+//! of inputs, that of outputs, and the proof's bytes. `laws` says that what is proved is accepted, is one and has a text
+//! short enough to be read, and that white space between tokens changes neither a program's tree nor its outputs.
 //!
 //! ```text
 //! the case of `input a; output a;` with the input 5       // the output 5
@@ -15,10 +15,14 @@
 mod circuit;
 mod evaluation;
 pub mod laws;
+mod proving;
 mod refused;
+#[cfg(test)]
+mod tests;
 mod verification;
 
 pub use circuit::circuit_case;
 pub use evaluation::eval_case;
+pub use proving::prove_case;
 pub use refused::Refused;
 pub use verification::verify_case;

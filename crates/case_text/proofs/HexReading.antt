@@ -1,5 +1,5 @@
 -- What decoding all digits at once gives is what taking them one by one gives.
-use Rattle.std.proofs.Common.{◌≡◌, ℕ, zero, suc, ◌+◌, ◌-◌, ◌*◌, ◌%◌, ◌<◌, ◌≤◌, ◌⊎◌, inl, inr, Bool, true, false, ◌||◌, List, [], ◌∷◌, ◌++◌, length, take, drop, Option, Some, None, is_some, Result, Ok, Err, refl, sym, ap, ◌∙◌, arith, if◌then◌else◌}
+use Rattle.std.proofs.Common.{◌≡◌, ℕ, zero, suc, ◌+◌, ◌-◌, ◌*◌, ◌<◌, ◌≤◌, ◌⊎◌, inl, inr, Bool, true, false, ◌||◌, List, [], ◌∷◌, ◌++◌, length, take, drop, Option, Some, None, is_some, Result, Ok, Err, refl, sym, ◌∙◌, arith, if◌then◌else◌}
 use Rattle.std.proofs.lemmas.List.{take-append-drop, length-take-le}
 use Rattle.std.specs.Char.{is_ascii_hexdigit}
 use Rattle.hex.specs.Hex.{hex_digit_value, decode_of, decode_pairs}
@@ -8,8 +8,8 @@ use Rattle.hex.specs.Hex as decoded
 use Rattle.hex.specs.declared.error.FromHexError.{FromHexError}
 use Rattle.hex.specs.declared.error.FromHexError.TheVariants.{InvalidHexCharacter, OddLength, InvalidStringLength, OutOfMemory}
 use Rattle.case_text.specs.Reading.{Fails, hex_stop}
-use Rattle.case_text.specs.declared.refusal.Kind.TheVariants.{End, Hex}
-use Rattle.case_text.specs.Due.{Taking, ◌>>=◌, stopped, digits_stop, each_at, hex_byte_at, hex_digit_at, digit_or_stop}
+use Rattle.case_text.specs.declared.refusal.Kind.TheVariants.{Hex}
+use Rattle.case_text.specs.Due.{Taking, ◌>>=◌, stopped, digits_stop, each_at, hex_byte_at, hex_digit_at}
 
 one_of_three : (p q r : Bool) (x y z : ℕ) → is_some (if p then Some x else if q then Some y else if r then Some z else None) ≡ ((r || p) || q)
 one_of_three true true true x y z = refl

@@ -1,4 +1,4 @@
--- The line of each reply.
+-- The lines of each reply.
 use Rattle.std.specs.Prelude.{ℕ, ◌+◌, ◌-◌, List, [], ◌∷◌, ◌++◌, length, codes}
 use Rattle.std.specs.List.{concat}
 use Rattle.arr_ast.specs.declared.refusal.ProgramKind.{ProgramKind}
@@ -8,11 +8,13 @@ use Rattle.proof_wire.specs.declared.refused.BadProof.{BadProof}
 use Rattle.proof_wire.specs.declared.refused.BadProof.TheVariants as proofs
 use Rattle.case_text.specs.declared.refusal.Kind.{Kind}
 use Rattle.case_text.specs.declared.refusal.Kind.TheVariants as kinds
+use Rattle.case_text.specs.declared.demo.DemoSummary.{DemoSummary}
 use Rattle.case_text.specs.declared.sizes.LayerSize.{LayerSize}
 use Rattle.case_text.specs.Sizes.{Sizes}
 use Rattle.case_text.specs.declared.reply.Reply.{Reply}
 use Rattle.case_text.specs.declared.reply.Reply.TheVariants as replies
-use Rattle.case_text.specs.Spelling.{number, counted_text}
+use Rattle.case_text.specs.Spelling.{number, counted_text, lower_case_text}
+use Rattle.hex.specs.Hex.{encode_lower}
 
 abbrev pub kind_name : Kind → List ℕ
 kind_name kinds.Header = codes "header"
@@ -80,6 +82,20 @@ bad_proof_text (proofs.Short at need) = pair_text (codes "refused proof short ")
 bad_proof_text (proofs.Range at) = line_text (codes "refused proof range ") at
 bad_proof_text (proofs.Long extra) = line_text (codes "refused proof long ") extra
 
+-- the digits of a digest in lower case
+abbrev pub digest_text : List ℕ → List ℕ
+digest_text digest = concat (codes "digest " ∷ encode_lower digest ∷ (10 ∷ []) ∷ [])
+
+-- the lines of a demo on the case that was generated, and on its proof
+abbrev pub generated_text : DemoSummary → List ℕ
+generated_text s = concat (line_text (codes "demo ") s.number ∷ line_text (codes "size ") s.size ∷ line_text (codes "output ") s.output.value ∷ [])
+
+abbrev pub proved_text : DemoSummary → List ℕ
+proved_text s = concat (line_text (codes "layers ") s.layers ∷ line_text (codes "proof ") s.proof ∷ digest_text s.digest ∷ [])
+
+abbrev pub demo_text : DemoSummary → List ℕ
+demo_text s = concat (generated_text s ∷ proved_text s ∷ codes "accepted" ∷ (10 ∷ []) ∷ [])
+
 abbrev pub reply_text : Reply → List ℕ
 reply_text (replies.Outputs values) = codes "output " ++ counted_text values
 reply_text replies.Usage = codes "refused usage" ++ 10 ∷ []
@@ -92,6 +108,8 @@ reply_text (replies.InputCount have need) = pair_text (codes "refused count inpu
 reply_text (replies.Circuit sizes) = sizes_text sizes
 reply_text (replies.OutputCount have need) = pair_text (codes "refused count output ") have need
 reply_text (replies.Proof bad) = bad_proof_text bad
+reply_text (replies.Proved c) = lower_case_text c
+reply_text (replies.Demo summary) = demo_text summary
 reply_text replies.Accepted = codes "accepted" ++ 10 ∷ []
 reply_text (replies.RejectedSum layer round had claim) = failed_round_text (codes "rejected sum ") layer round had claim
 reply_text (replies.RejectedEnd layer had want) = failed_layer_text (codes "rejected end ") layer had want

@@ -2,27 +2,26 @@
 //!
 //! A case is a line `gkr case 1`, a program behind its length in bytes, a line of inputs, perhaps a line of outputs,
 //! perhaps a proof in hex digits, and a line `end`: `gkr case 1\nprogram 9\noutput 7;\ninput 0\nend\n`. Which of the
-//! middle lines stand there is its [`Form`]. A script is cases of clients behind one another. Reading takes the bytes
-//! one by one, each by the part that is due, so a refusal has one place and one kind. Values are elements of the
-//! field of 2^31 - 1 numbers. [`Reply`] is what the program answers, and [`write_reply`] its line. The format is this
-//! project's own.
+//! middle lines stand there is its [`Form`]. Reading takes the bytes one by one, each by the part that is due, so a
+//! refusal has one place and one kind. Values are elements of the field of 2^31 - 1 numbers. [`Reply`] is what the
+//! program answers, and [`write_reply`] its lines. The format is this project's own.
 #![tactic(auto)]
 
 mod case;
+mod demo;
 mod form;
-mod jobs;
 mod parts;
 mod refusal;
 mod rule;
-mod script;
 mod sizes;
 mod stop;
 mod values;
 
 pub use case::Case;
+pub use demo::DemoSummary;
 pub use form::Form;
-pub use jobs::read_script;
-pub use reading::read_case;
+pub use parts::{decimal, word};
+pub use reading::{case_of, read_case};
 pub use reply::{Reply, write_reply};
 
 pub mod laws;
@@ -31,8 +30,9 @@ mod reply;
 mod writing;
 
 pub use refusal::{BadCase, CaseRefused, Kind};
-pub use script::ScriptJob;
+pub use rule::Rule;
 pub use sizes::{CircuitSizes, LayerSize};
+pub use stop::{ReadError, Stop, stop_at};
 pub use values::Values;
 pub use writing::write_case;
 

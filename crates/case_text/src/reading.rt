@@ -151,7 +151,8 @@ fn proof_of(alloc: Global, form: Form, bytes: &[u8]) -> Result<(Option<Vec<u8>>,
     }
 }
 
-/// Takes a case.
+/// Takes the case of a form that the front of the bytes spells, and answers it with what follows. It stops at the first byte
+/// that isn't due, or at the end; memory may run out.
 #[tactic(auto, unfolding(crate::specs::Reading::case_at))]
 pub fn case_of(alloc: Global, form: Form, bytes: &[u8]) -> Result<(Case, &[u8]), ReadError>
     ensures { Gives (λ x. (x.0, x.1.now)) result (case_at form bytes.now) }

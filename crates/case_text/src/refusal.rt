@@ -1,4 +1,4 @@
-//! Why bytes are no case or no script.
+//! Why bytes are no case, or no script of cases.
 
 use thiserror::Error;
 

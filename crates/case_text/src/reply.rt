@@ -1,18 +1,21 @@
 //! What the program answers.
 
 ghost use Rattle.std.specs.Prelude.{◌≡◌, ◌-◌, ◌++◌, IfOk, OnOk, length};
-ghost use Rattle.case_text.specs.Replies.{reply_text, sizes_text, layer_lines, line_text, pair_text, totals_text, sides_text, failed_text, failed_layer_text, failed_round_text, bad_proof_text, kind_name, program_kind_name};
+ghost use Rattle.case_text.specs.Replies.{reply_text, sizes_text, layer_lines, line_text, pair_text, totals_text, sides_text, failed_text, failed_layer_text, failed_round_text, bad_proof_text, digest_text, generated_text, proved_text, demo_text, kind_name, program_kind_name};
 
+use crate::case::Case;
+use crate::demo::DemoSummary;
 use crate::refusal::{BadCase, Kind};
 use crate::sizes::{CircuitSizes, LayerSize};
 use crate::values::Values;
-use crate::writing::{put_counted, put_number};
+use crate::writing::{hex_text, put_counted, put_number, write_case};
 use arr_ast::ProgramKind;
 use field_ext::Ext;
 use proof_wire::BadProof;
 use std::alloc::{AllocError, Global};
 
-/// What the program answers: one line, or for a circuit a line each of its height, its layers and its sizes.
+/// What the program answers: one line; for a circuit a line each of its height, its layers and its sizes; the text of a case
+/// that was proved; or the lines of a demo.
 #[derive(Debug, Drop)]
 pub enum Reply {
     /// The outputs of a program.
@@ -51,6 +54,10 @@ pub enum Reply {
     Proof(BadProof),
     /// The sizes of the program's circuit.
     Circuit(CircuitSizes),
+    /// The case with its outputs and the proof of them.
+    Proved(Case),
+    /// A generated case was proved and accepted.
+    Demo(DemoSummary),
     /// The proof is accepted.
     Accepted,
     /// A round's message at 0 plus that at 1 isn't the claim before it. Layers count from 0, rounds from 1.
@@ -236,6 +243,45 @@ fn put_bad_proof(out: &mut Vec<u8>, bad: BadProof) -> Result<(), AllocError>
     }
 }
 
+/// The line of a digest.
+fn put_digest(alloc: Global, out: &mut Vec<u8>, digest: &[u8]) -> Result<(), AllocError>
+    ensures { OnOk result (out.new.items ≡ out.old.items ++ digest_text digest.now) }
+{
+    out.extend_from_slice(b"digest ")?;
+    let digits = hex_text(alloc, digest)?;
+    out.extend_from_slice(digits.as_bytes())?;
+    out.push(b'\n')?;
+    Ok(())
+}
+
+/// The lines of a demo on the case that was generated.
+fn put_generated(out: &mut Vec<u8>, demo: &DemoSummary) -> Result<(), AllocError>
+    ensures { OnOk result (out.new.items ≡ out.old.items ++ generated_text demo.now) }
+{
+    put_line(out, b"demo ", u64::from(demo.number))?;
+    put_line(out, b"size ", u64::from(demo.size))?;
+    put_line(out, b"output ", u64::from(demo.output.value()))
+}
+
+/// The lines of a demo on the proof.
+fn put_proved(alloc: Global, out: &mut Vec<u8>, demo: &DemoSummary) -> Result<(), AllocError>
+    ensures { OnOk result (out.new.items ≡ out.old.items ++ proved_text demo.now) }
+{
+    put_line(out, b"layers ", demo.layers as u64)?;
+    put_line(out, b"proof ", demo.proof as u64)?;
+    put_digest(alloc, out, &demo.digest)
+}
+
+/// The lines of a demo.
+fn put_demo(alloc: Global, out: &mut Vec<u8>, demo: &DemoSummary) -> Result<(), AllocError>
+    ensures { OnOk result (out.new.items ≡ out.old.items ++ demo_text demo.now) }
+{
+    put_generated(out, demo)?;
+    put_proved(alloc, out, demo)?;
+    out.extend_from_slice(b"accepted\n")?;
+    Ok(())
+}
+
 /// The lines of a reply, each with its LF, in ASCII. The error comes where memory runs out.
 #[tactic(auto, unfolding(crate::specs::Replies::line_text, crate::specs::Replies::pair_text, crate::specs::Replies::failed_text, crate::specs::Replies::failed_layer_text, crate::specs::Replies::failed_round_text))]
 pub fn write_reply(alloc: Global, reply: &Reply) -> Result<Vec<u8>, AllocError>
@@ -280,6 +326,8 @@ pub fn write_reply(alloc: Global, reply: &Reply) -> Result<Vec<u8>, AllocError>
         }
         Reply::Proof(bad) => put_bad_proof(&mut out, *bad)?,
         Reply::Circuit(sizes) => put_sizes(&mut out, sizes)?,
+        Reply::Proved(case) => return write_case(alloc, case),
+        Reply::Demo(demo) => put_demo(alloc, &mut out, demo)?,
         Reply::Accepted => out.extend_from_slice(b"accepted\n")?,
         Reply::RejectedSum {
             layer,

@@ -1,9 +1,6 @@
 //! Worked texts: what is read, what is written, and where a refusal stands.
 
-use crate::{
-    BadCase, CaseRefused, Form, Kind, Reply, Values, read_case, read_script, write_case,
-    write_reply,
-};
+use crate::{BadCase, CaseRefused, Form, Kind, Reply, Values, read_case, write_case, write_reply};
 use arr_ast::ProgramKind;
 use field_ext::Fp;
 use std::process::Abort;
@@ -64,20 +61,6 @@ fn writes_what_it_reads(rt: HostRuntime) -> Result<(), Fail> {
         }
     }
     Ok(())
-}
-
-#[test]
-fn reads_a_script(rt: HostRuntime) {
-    let text = b"client 64\ngkr case 1\nprogram 0\n\ninput 0\nend\ndone\n";
-    match read_script(rt.alloc(), text) {
-        Ok(jobs) => {
-            assert!(rt; jobs.len() == 1);
-            for job in &jobs {
-                assert!(rt; job.client == 64);
-            }
-        }
-        Err(_) => assert!(rt; false),
-    }
 }
 
 #[test]

@@ -77,8 +77,8 @@ fn put_outputs(out: &mut Vec<u8>, outputs: Option<&[Fp]>) -> Result<(), AllocErr
     Ok(())
 }
 
-/// The digits of a proof's bytes in lower case, two for each, the high one first.
-fn hex_text(alloc: Global, bytes: &[u8]) -> Result<String, AllocError>
+/// The digits of bytes in lower case, two for each, the high one first.
+pub fn hex_text(alloc: Global, bytes: &[u8]) -> Result<String, AllocError>
     ensures text { IfOk result (λ text. string_bytes text ≡ encode_lower bytes.now) }
     ensures hex { IsHexOf bytes.now (encode_lower bytes.now) }
 {

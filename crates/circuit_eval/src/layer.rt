@@ -12,8 +12,8 @@ use std::alloc::{AllocError, Global};
 use std::marker::Sync;
 use std::thread::Threads;
 
-// From this many gates on, threads save more than it takes to start them.
-const MANY: usize = 1 << 15;
+// From this many gates on, which the widest layers have, threads take no longer than the gates alone.
+const MANY: usize = 1 << 16;
 
 /// The values of the input layer: 0, the leaves, and padding.
 pub fn input_values(alloc: Global, circuit: &Circuit, inputs: &[Fp]) -> Result<Vec<Fp>, AllocError>

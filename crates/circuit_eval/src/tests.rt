@@ -111,9 +111,9 @@ fn has_a_table_for_each_layer(rt: HostRuntime) -> Result<(), Fail> {
 
 #[test]
 fn evaluates_wide_layers(rt: HostRuntime) -> Result<(), Fail> {
-    let Ok(circuit) = product(rt.alloc(), 1 << 15) else {
+    let Ok(circuit) = product(rt.alloc(), 1 << 16) else {
         return Err(Fail::new("no circuit"));
     };
-    let rows = [(0, 0, 0), (0, 1, 35), (0, 2, 0), (0, 32_767, 0)];
+    let rows = [(0, 0, 0), (0, 1, 35), (0, 2, 0), (0, 65_535, 0)];
     has(&rt, &circuit, &rows)
 }

@@ -4,16 +4,23 @@
 //! same reduction. `gkr_bench steps N`: a loop of N turns with one assignment. `gkr_bench names KIB`: a program of so
 //! many kibibytes of declarations and sums, each of names declared before. `gkr_bench fold K`: one coordinate of a table
 //! of `2^K` values. `gkr_bench case KIB`: reading and writing a case of so many kibibytes. `gkr_bench proof N`: reading
-//! and writing the longest proof N times.
+//! and writing the longest proof N times. `gkr_bench wide ROWS`: laying out and evaluating element-wise operations on so
+//! many rows of 1,000 elements. `gkr_bench carried LEVELS`: the same of 60,000 values carried over so many layers.
+//! `gkr_bench layer K`: all rounds of one layer of `2^K` random gates, its line, and the verifier's wiring polynomials,
+//! beside plain loops that prove as many rounds.
 #![tactic(auto)]
 
+mod circuits;
 mod measure;
+mod plain_layer;
 mod programs;
+mod proving;
 mod texts;
 
 use std::{env, io};
 
-const USAGE: &str = "gkr_bench matmul N | steps N | names KIB | fold K | case KIB | proof N";
+const USAGE: &str =
+    "gkr_bench matmul N | steps N | names KIB | fold K | case KIB | proof N | wide ROWS | carried LEVELS | layer K";
 
 fn main(rt: HostRuntime) -> io::Result<()> {
     let alloc = rt.alloc();
@@ -32,6 +39,17 @@ fn main(rt: HostRuntime) -> io::Result<()> {
             }
             if kind.as_str() == "proof" {
                 return texts::proof(&rt, size);
+            }
+            if kind.as_str() == "wide" {
+                let text = programs::wide(alloc, size)?;
+                return circuits::circuit(&rt, &rt, "wide", text.as_bytes());
+            }
+            if kind.as_str() == "carried" {
+                let text = programs::carried(alloc, size)?;
+                return circuits::circuit(&rt, &rt, "carried", text.as_bytes());
+            }
+            if kind.as_str() == "layer" {
+                return proving::layer(&rt, size);
             }
             let text = match kind.as_str() {
                 "matmul" => programs::matrix_product(alloc, size)?,

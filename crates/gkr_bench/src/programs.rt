@@ -28,3 +28,19 @@ pub fn names(alloc: Global, kib: u32) -> Result<String, AllocError> {
     text.push_str("output a1;")?;
     Ok(text)
 }
+
+/// Three element-wise operations on a matrix of so many rows of 1,000 elements, and the sum: 5,000 nodes a row.
+pub fn wide(alloc: Global, rows: u32) -> Result<String, AllocError> {
+    format!(in alloc;
+        "input a[{}][1000]; let b = a * a; let c = b + b; let d = c * c; output sum(d);",
+        rows
+    )
+}
+
+/// 60,000 inputs put out at the end, above a chain of so many products.
+pub fn carried(alloc: Global, levels: u32) -> Result<String, AllocError> {
+    format!(in alloc;
+        "input a[60][1000]; input x; let y = x; for i in 0..{} {{ y = y * y; }} output a; output y;",
+        levels
+    )
+}

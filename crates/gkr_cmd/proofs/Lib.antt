@@ -1,6 +1,12 @@
+mod AcceptedCases
 mod CircuitAnswers
+mod DemoAnswers
+mod Demos
 mod Ends
 mod EvalAnswers
+mod Numbers
 mod OneReply
+mod ProveAnswers
+mod ProvedCases
 mod Replied
 mod VerifyAnswers

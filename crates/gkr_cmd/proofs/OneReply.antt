@@ -1,7 +1,6 @@
 -- Words and an input have at most one reply, where each case has at most one answer.
-use Rattle.std.proofs.Common.{◌≡◌, ◌<◌, ◌≤◌, ℕ, List, length, subst, Option, Some, None, Result, Ok, Err, sym, ap, ◌∙◌, arith}
+use Rattle.std.proofs.Common.{◌≡◌, ℕ, List, subst, Option, Some, None, Result, Ok, Err, sym, ap, ◌∙◌, arith}
 use Rattle.case_text.specs.declared.form.Form.{Form}
-use Rattle.case_text.specs.declared.form.Form.TheVariants.{Full, Plain}
 use Rattle.case_text.specs.Content.{Content}
 use Rattle.case_text.specs.Reading.{reading}
 use Rattle.case_text.specs.declared.refusal.BadCase.{BadCase}
@@ -9,21 +8,23 @@ use Rattle.case_text.specs.declared.reply.Reply.{Reply}
 use Rattle.case_text.specs.declared.reply.Reply.TheVariants as replies
 use Rattle.gkr_cmd.specs.declared.status.Status.TheVariants.{Done}
 use Rattle.gkr_cmd.specs.declared.words.Command.{Command}
-use Rattle.gkr_cmd.specs.declared.words.Command.TheVariants.{Eval, Circuit, Verify}
+use Rattle.gkr_cmd.specs.declared.words.Command.TheVariants.{OfCase, Demo}
+use Rattle.gkr_cmd.specs.declared.words.CaseCommand.{CaseCommand}
+use Rattle.gkr_cmd.specs.declared.words.CaseCommand.TheVariants.{Eval, Circuit, Prove, Verify}
 use Rattle.gkr_cmd.specs.Commands.{command_of}
-use Rattle.gkr_cmd.specs.Replies.{IsWithinLimit, IsOfCase, IsNoCase, IsTooLong, IsCaseReply, IsEvalAnswer, IsCircuitAnswer, IsVerifyAnswer, IsCommandReply, IsReply, status_of}
+use Rattle.gkr_cmd.specs.Replies.{IsWithinLimit, IsOfCase, IsNoCase, IsTooLong, IsCaseReply, IsAnswer, IsEvalAnswer, IsCircuitAnswer, IsDemoAnswer, IsProveAnswer, IsVerifyAnswer, form_of, IsCommandReply, IsReply, status_of}
 
 -- a case has at most one answer
 abbrev pub OneAnswer : (Content → Reply → Type 0) → Type 0
 OneAnswer answers = (c : Content) (a b : Reply) → answers c a → answers c b → a ≡ b
 
 -- what is said of an input
-data Found (form : Form) (answers : Content → Reply → Type 0) (input : List ℕ) : Reply → Type 0 where
+pub data Found (form : Form) (answers : Content → Reply → Type 0) (input : List ℕ) : Reply → Type 0 where
   long : (limit : ℕ) → IsTooLong input limit → Found form answers input (replies.TooLong limit)
   no_case : (bad : BadCase) → IsNoCase form input bad → Found form answers input (replies.Case bad)
   of_case : {reply : Reply} (c : Content) → IsWithinLimit input → reading form input ≡ Ok c → answers c reply → Found form answers input reply
 
-found : (form : Form) (answers : Content → Reply → Type 0) (input : List ℕ) (reply : Reply) → IsCaseReply form answers input reply → Found form answers input reply
+pub found : (form : Form) (answers : Content → Reply → Type 0) (input : List ℕ) (reply : Reply) → IsCaseReply form answers input reply → Found form answers input reply
 found form answers input replies.Usage is = absurd is
 found form answers input (replies.TooLong limit) is = long limit is
 found form answers input (replies.Case bad) is = no_case bad is
@@ -33,6 +34,8 @@ found form answers input (replies.Wide height width) is = of_case is.content is.
 found form answers input (replies.InputCount have need) is = of_case is.content is.within is.read is.holds
 found form answers input (replies.Outputs outputs) is = of_case is.content is.within is.read is.holds
 found form answers input (replies.Circuit sizes) is = of_case is.content is.within is.read is.holds
+found form answers input (replies.Proved proved) is = of_case is.content is.within is.read is.holds
+found form answers input (replies.Demo summary) is = of_case is.content is.within is.read is.holds
 found form answers input (replies.OutputCount have need) is = of_case is.content is.within is.read is.holds
 found form answers input (replies.Proof bad) is = of_case is.content is.within is.read is.holds
 found form answers input replies.Accepted is = of_case is.content is.within is.read is.holds
@@ -69,16 +72,22 @@ one_found form answers one input {a} {b} (of_case c within read answer) (of_case
 pub record OneEach : Type 0 where
   pub eval : OneAnswer IsEvalAnswer
   pub circuit : OneAnswer IsCircuitAnswer
+  pub prove : OneAnswer IsProveAnswer
   pub verify : OneAnswer IsVerifyAnswer
+  pub demo : (number : ℕ) (a b : Reply) → IsDemoAnswer number a → IsDemoAnswer number b → a ≡ b
+
+one_of_each : OneEach → (command : CaseCommand) → OneAnswer (IsAnswer command)
+one_of_each one Eval = one.eval
+one_of_each one Circuit = one.circuit
+one_of_each one Prove = one.prove
+one_of_each one Verify = one.verify
 
 one_of_command : OneEach → (command : Option Command) (input : List ℕ) (a b : Reply) → IsCommandReply command input a → IsCommandReply command input b → a ≡ b
 one_of_command one None input a b is is' = is ∙ sym is'
-one_of_command one (Some Eval) input a b is is' =
-    one_found Plain IsEvalAnswer one.eval input (found Plain IsEvalAnswer input a is) (found Plain IsEvalAnswer input b is')
-one_of_command one (Some Circuit) input a b is is' =
-    one_found Plain IsCircuitAnswer one.circuit input (found Plain IsCircuitAnswer input a is) (found Plain IsCircuitAnswer input b is')
-one_of_command one (Some Verify) input a b is is' =
-    one_found Full IsVerifyAnswer one.verify input (found Full IsVerifyAnswer input a is) (found Full IsVerifyAnswer input b is')
+one_of_command one (Some (OfCase command)) input a b is is' =
+    let found_in = found (form_of command) (IsAnswer command) input in
+    one_found (form_of command) (IsAnswer command) (one_of_each one command) input (found_in a is) (found_in b is')
+one_of_command one (Some (Demo number)) input a b is is' = one.demo number a b is is'
 
 pub one_reply : OneEach → (words : List (List ℕ)) (input : List ℕ) (a b : Reply) → IsReply words input a → IsReply words input b → a ≡ b
 one_reply one words input a b is is' = one_of_command one (command_of words) input a b is is'

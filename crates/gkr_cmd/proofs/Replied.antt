@@ -15,18 +15,21 @@ use Rattle.gkr_verify.specs.declared.verdict.Verdict.TheVariants as verdicts
 use Rattle.case_text.specs.Content.{Content}
 use Rattle.case_text.specs.Reading.{reading}
 use Rattle.case_text.specs.declared.form.Form.{Form}
-use Rattle.case_text.specs.declared.form.Form.TheVariants.{Full, Plain}
+use Rattle.case_text.specs.declared.form.Form.TheVariants.{Full}
 use Rattle.case_text.specs.declared.reply.Reply.{Reply}
 use Rattle.case_text.specs.declared.reply.Reply.TheVariants as replies
 use Rattle.gkr_cmd.specs.declared.reply_error.ReplyError.{ReplyError}
 use Rattle.gkr_cmd.specs.declared.status.Status.{Status}
 use Rattle.gkr_cmd.specs.declared.status.Status.TheVariants as statuses
 use Rattle.gkr_cmd.specs.declared.words.Command.{Command}
-use Rattle.gkr_cmd.specs.declared.words.Command.TheVariants.{Eval, Circuit, Verify}
+use Rattle.gkr_cmd.specs.declared.words.Command.TheVariants.{OfCase, Demo}
+use Rattle.gkr_cmd.specs.declared.words.CaseCommand.{CaseCommand}
+use Rattle.gkr_cmd.specs.declared.words.CaseCommand.TheVariants.{Eval, Circuit, Prove, Verify}
 use Rattle.io_edge.specs.Written.{Grows}
+use Rattle.gkr_cmd.specs.Demo.{demo_case}
 use Rattle.gkr_cmd.specs.Reached.{ReadsUpTo, WritesFront}
-use Rattle.gkr_cmd.specs.Replies.{case_limit, IsWithinLimit, IsTooLong, IsCommandReply, IsCaseReply, IsCircuitAnswer, IsEvalAnswer, IsVerifyAnswer, IsOfCase, refused_reply, verdict_reply, status_of}
-use Rattle.gkr_cmd.specs.Runs.{IsInput, IsReplied, WritesNoMore, WritesReplyFront}
+use Rattle.gkr_cmd.specs.Replies.{case_limit, IsWithinLimit, IsTooLong, IsCommandReply, IsCaseReply, IsAnswer, IsCircuitAnswer, IsDemoAnswer, IsEvalAnswer, IsProveAnswer, IsVerifyAnswer, IsOfCase, form_of, refused_reply, verdict_reply, status_of}
+use Rattle.gkr_cmd.specs.Runs.{HasCircuit, IsInput, IsReplied, WritesNoMore, WritesReplyFront}
 
 front_of : (most : ℕ) (left new : Option (List ℕ)) (bytes input : List ℕ) → ReadsUpTo most left new bytes → left ≡ Some input → bytes ≡ take most input
 front_of most None new bytes input h e = absurd cc
@@ -37,10 +40,8 @@ longer left new bytes h long input e =
     let front = front_of (case_limit + 1) left new bytes input h e in
     record { limit_is = refl; longer = omega (arith, ap length front, length-take (case_limit + 1) input) }
 
-pub too_long : (command : Command) (left new : Option (List ℕ)) (bytes : List ℕ) → ReadsUpTo (case_limit + 1) left new bytes → case_limit < length bytes → (input : List ℕ) → left ≡ Some input → IsCommandReply (Some command) input (replies.TooLong case_limit)
-too_long Eval left new bytes h long input e = longer left new bytes h long input e
-too_long Circuit left new bytes h long input e = longer left new bytes h long input e
-too_long Verify left new bytes h long input e = longer left new bytes h long input e
+pub too_long : (command : CaseCommand) (left new : Option (List ℕ)) (bytes : List ℕ) → ReadsUpTo (case_limit + 1) left new bytes → case_limit < length bytes → (input : List ℕ) → left ≡ Some input → IsCommandReply (Some (OfCase command)) input (replies.TooLong case_limit)
+too_long command left new bytes h long input e = longer left new bytes h long input e
 
 whole : (left new : Option (List ℕ)) (bytes : List ℕ) → ReadsUpTo (case_limit + 1) left new bytes → length bytes ≤ case_limit → (input : List ℕ) → left ≡ Some input → bytes ≡ input
 whole left new bytes h short input e =
@@ -48,21 +49,29 @@ whole left new bytes h short input e =
     let within : length input ≤ case_limit = omega (arith, ap length front, length-take (case_limit + 1) input) in
     front ∙ take_all (case_limit + 1) input (omega arith)
 
-pub command_replied : (named command : Command) → command ≡ named → (left new : Option (List ℕ)) (bytes : List ℕ) (result : Result Reply ReplyError) → ReadsUpTo (case_limit + 1) left new bytes → length bytes ≤ case_limit
-    → IfOk result (λ reply. IsCommandReply (Some named) bytes reply) → IfOk result (λ reply. (input : List ℕ) → left ≡ Some input → IsCommandReply (Some command) input reply)
-command_replied named command is left new bytes result h short replied =
-    subst (λ k. IfOk result (λ reply. (input : List ℕ) → left ≡ Some input → IsCommandReply (Some k) input reply)) (sym is)
-    (IfOk-weaker result _ _ (λ reply is input told. subst (λ read. IsCommandReply (Some named) read reply) (whole left new bytes h short input told) is) replied)
+-- the reply to what was read is the reply to the input
+pub command_replied : (command : CaseCommand) (left new : Option (List ℕ)) (bytes : List ℕ) (result : Result Reply ReplyError) → ReadsUpTo (case_limit + 1) left new bytes → length bytes ≤ case_limit
+    → IfOk result (λ reply. IsCommandReply (Some (OfCase command)) bytes reply) → IfOk result (λ reply. (input : List ℕ) → left ≡ Some input → IsCommandReply (Some (OfCase command)) input reply)
+command_replied command left new bytes result h short replied =
+    IfOk-weaker result _ _ (λ reply is input told. subst (λ read. IsCommandReply (Some (OfCase command)) read reply) (whole left new bytes h short input told) is) replied
 
 -- a named command's input is told by its source
-pub input_of : (named : Command) (command : Option Command) (left : Option (List ℕ)) (input : List ℕ) → command ≡ Some named → left ≡ Some input → IsInput command left input
+pub input_of : (named : CaseCommand) (command : Option Command) (left : Option (List ℕ)) (input : List ℕ) → command ≡ Some (OfCase named) → left ≡ Some input → IsInput command left input
+input_of named (Some (Demo number)) left input is told = absurd cc
 input_of named None left input is told = absurd cc
-input_of named (Some command) left input is told = told
+input_of named (Some (OfCase command)) left input is told = told
 
 -- the law on the replies of a command, where the words name it
-pub done_of : (form : Form) (named : Command) (P : Content → Type 0) → ((input : List ℕ) (reply : Reply) → IsCommandReply (Some named) input reply → IsOfCase form input P → status_of reply ≡ statuses.Done)
-    → (command : Option Command) (input : List ℕ) (reply : Reply) → command ≡ Some named → IsCommandReply command input reply → IsOfCase form input P → status_of reply ≡ statuses.Done
+pub done_of : (form : Form) (named : CaseCommand) (P : Content → Type 0) → ((input : List ℕ) (reply : Reply) → IsCommandReply (Some (OfCase named)) input reply → IsOfCase form input P → status_of reply ≡ statuses.Done)
+    → (command : Option Command) (input : List ℕ) (reply : Reply) → command ≡ Some (OfCase named) → IsCommandReply command input reply → IsOfCase form input P → status_of reply ≡ statuses.Done
 done_of form named P law command input reply is replied case = law input reply (subst (λ c. IsCommandReply c input reply) is replied) case
+
+-- the same for `demo`, whose reply is one to any input
+pub demo_done_of : (number : ℕ) → ((reply : Reply) → IsDemoAnswer number reply → HasCircuit (demo_case number) → status_of reply ≡ statuses.Done)
+    → (command : Option Command) (left : Option (List ℕ)) (reply : Reply) → command ≡ Some (Demo number) → ((input : List ℕ) → IsInput command left input → IsCommandReply command input reply)
+    → HasCircuit (demo_case number) → status_of reply ≡ statuses.Done
+demo_done_of number law command left reply is replied has =
+    law reply (subst (λ c. IsCommandReply c [] reply) is (replied [] (subst (λ c. IsInput c left []) (sym is) tt))) has
 
 -- the status of a reply is none of a run that wrote none
 pub replied : (reply : Reply) → IsReplied (status_of reply)
@@ -75,6 +84,8 @@ replied (replies.Deep levels) = tt
 replied (replies.Wide height width) = tt
 replied (replies.InputCount have need) = tt
 replied (replies.Circuit sizes) = tt
+replied (replies.Proved proved) = tt
+replied (replies.Demo summary) = tt
 replied (replies.OutputCount have need) = tt
 replied (replies.Proof bad) = tt
 replied replies.Accepted = tt
@@ -93,6 +104,8 @@ named form answers input (replies.Deep levels) is = λ e. cc
 named form answers input (replies.Wide height width) is = λ e. cc
 named form answers input (replies.InputCount have need) is = λ e. cc
 named form answers input (replies.Circuit sizes) is = λ e. cc
+named form answers input (replies.Proved proved) is = λ e. cc
+named form answers input (replies.Demo summary) is = λ e. cc
 named form answers input (replies.OutputCount have need) is = λ e. cc
 named form answers input (replies.Proof bad) is = λ e. cc
 named form answers input replies.Accepted is = λ e. cc
@@ -100,42 +113,143 @@ named form answers input (replies.RejectedSum layer round had claim) is = λ e. 
 named form answers input (replies.RejectedEnd layer had want) is = λ e. cc
 named form answers input (replies.RejectedInput had want) is = λ e. cc
 
--- what is made of a refusal of `eval` is its reply
-pub eval_refused : (input : List ℕ) (refused : Refused) (c : Content) → IsWithinLimit input → reading Plain input ≡ Ok c → Refuses c refused → IfOk (refused_reply refused) (λ reply. IsCaseReply Plain IsEvalAnswer input reply)
-eval_refused input (refusals.Program (At at kind)) c within read is = record { within = within; content = c; read = read; holds = is }
-eval_refused input (refusals.Program (Deep levels)) c within read is = absurd is
-eval_refused input (refusals.Program (Wide height width)) c within read is = absurd is
-eval_refused input (refusals.Input have need) c within read is = record { within = within; content = c; read = read; holds = is }
-eval_refused input (refusals.Output have need) c within read is = absurd is
-eval_refused input (refusals.Proof bad) c within read is = absurd is
-eval_refused input refusals.Memory c within read is = tt
+-- what is made of a refusal of `eval` is its answer
+pub eval_refused : (refused : Refused) (c : Content) → Refuses c refused → IfOk (refused_reply refused) (λ reply. IsEvalAnswer c reply)
+eval_refused (refusals.Program (At at kind)) c is = is
+eval_refused (refusals.Program (Deep levels)) c is = absurd is
+eval_refused (refusals.Program (Wide height width)) c is = absurd is
+eval_refused (refusals.Input have need) c is = is
+eval_refused (refusals.Output have need) c is = absurd is
+eval_refused (refusals.Proof bad) c is = absurd is
+eval_refused refusals.Memory c is = tt
 
--- what is made of a refusal of `circuit` is its reply
-pub circuit_refused : (input : List ℕ) (refused : Refused) (c : Content) → IsWithinLimit input → reading Plain input ≡ Ok c → RefusesCircuit c refused → IfOk (refused_reply refused) (λ reply. IsCaseReply Plain IsCircuitAnswer input reply)
-circuit_refused input (refusals.Program (At at kind)) c within read is = record { within = within; content = c; read = read; holds = is }
-circuit_refused input (refusals.Program (Deep levels)) c within read is = record { within = within; content = c; read = read; holds = is }
-circuit_refused input (refusals.Program (Wide height width)) c within read is = record { within = within; content = c; read = read; holds = is }
-circuit_refused input (refusals.Input have need) c within read is = record { within = within; content = c; read = read; holds = is }
-circuit_refused input (refusals.Output have need) c within read is = absurd is
-circuit_refused input (refusals.Proof bad) c within read is = absurd is
-circuit_refused input refusals.Memory c within read is = tt
+-- what is made of a refusal of `circuit` is its answer
+pub circuit_refused : (refused : Refused) (c : Content) → RefusesCircuit c refused → IfOk (refused_reply refused) (λ reply. IsCircuitAnswer c reply)
+circuit_refused (refusals.Program (At at kind)) c is = is
+circuit_refused (refusals.Program (Deep levels)) c is = is
+circuit_refused (refusals.Program (Wide height width)) c is = is
+circuit_refused (refusals.Input have need) c is = is
+circuit_refused (refusals.Output have need) c is = absurd is
+circuit_refused (refusals.Proof bad) c is = absurd is
+circuit_refused refusals.Memory c is = tt
 
--- what is made of a refusal of `verify` is its reply
-pub verify_refused : (input : List ℕ) (refused : Refused) (c : Content) → IsWithinLimit input → reading Full input ≡ Ok c → RefusesVerify c refused → IfOk (refused_reply refused) (λ reply. IsCaseReply Full IsVerifyAnswer input reply)
-verify_refused input (refusals.Program (At at kind)) c within read is = record { within = within; content = c; read = read; holds = is }
-verify_refused input (refusals.Program (Deep levels)) c within read is = record { within = within; content = c; read = read; holds = is }
-verify_refused input (refusals.Program (Wide height width)) c within read is = record { within = within; content = c; read = read; holds = is }
-verify_refused input (refusals.Input have need) c within read is = record { within = within; content = c; read = read; holds = is }
-verify_refused input (refusals.Output have need) c within read is = record { within = within; content = c; read = read; holds = is }
-verify_refused input (refusals.Proof bad) c within read is = record { within = within; content = c; read = read; holds = is }
-verify_refused input refusals.Memory c within read is = tt
+-- what is made of a refusal of `prove` is its answer
+pub prove_refused : (refused : Refused) (c : Content) → RefusesCircuit c refused → IfOk (refused_reply refused) (λ reply. IsProveAnswer c reply)
+prove_refused (refusals.Program (At at kind)) c is = is
+prove_refused (refusals.Program (Deep levels)) c is = is
+prove_refused (refusals.Program (Wide height width)) c is = is
+prove_refused (refusals.Input have need) c is = is
+prove_refused (refusals.Output have need) c is = absurd is
+prove_refused (refusals.Proof bad) c is = absurd is
+prove_refused refusals.Memory c is = tt
 
--- what is made of a verdict is the reply of `verify`
-pub verdict_replied : (input : List ℕ) (verdict : Verdict) (c : Content) → IsWithinLimit input → reading Full input ≡ Ok c → IsVerdictOn c verdict → IsCaseReply Full IsVerifyAnswer input (verdict_reply verdict)
-verdict_replied input verdicts.Accepted c within read is = record { within = within; content = c; read = read; holds = is }
-verdict_replied input (verdicts.Sum layer round had claim) c within read is = record { within = within; content = c; read = read; holds = is }
-verdict_replied input (verdicts.End layer had want) c within read is = record { within = within; content = c; read = read; holds = is }
-verdict_replied input (verdicts.Input had want) c within read is = record { within = within; content = c; read = read; holds = is }
+-- what is made of a refusal of the case of `demo` is its answer
+pub demo_refused : (refused : Refused) (number : ℕ) → RefusesCircuit (demo_case number) refused → IfOk (refused_reply refused) (λ reply. IsDemoAnswer number reply)
+demo_refused (refusals.Program (At at kind)) number is = is
+demo_refused (refusals.Program (Deep levels)) number is = is
+demo_refused (refusals.Program (Wide height width)) number is = is
+demo_refused (refusals.Input have need) number is = is
+demo_refused (refusals.Output have need) number is = absurd is
+demo_refused (refusals.Proof bad) number is = absurd is
+demo_refused refusals.Memory number is = tt
+
+-- the answer of `demo` doesn't refuse the words
+pub demo_named : (number : ℕ) (reply : Reply) → IsDemoAnswer number reply → status_of reply ≢ statuses.Usage
+demo_named number (replies.Outputs values) is = absurd is
+demo_named number replies.Usage is = absurd is
+demo_named number (replies.TooLong limit) is = absurd is
+demo_named number (replies.Case bad) is = absurd is
+demo_named number (replies.Program kind at) is = λ e. cc
+demo_named number (replies.Deep levels) is = λ e. cc
+demo_named number (replies.Wide height width) is = λ e. cc
+demo_named number (replies.InputCount have need) is = λ e. cc
+demo_named number (replies.Circuit sizes) is = absurd is
+demo_named number (replies.Proved proved) is = absurd is
+demo_named number (replies.Demo summary) is = λ e. cc
+demo_named number (replies.OutputCount have need) is = absurd is
+demo_named number (replies.Proof bad) is = absurd is
+demo_named number replies.Accepted is = absurd is
+demo_named number (replies.RejectedSum layer round had claim) is = absurd is
+demo_named number (replies.RejectedEnd layer had want) is = absurd is
+demo_named number (replies.RejectedInput had want) is = absurd is
+
+-- what is made of a refusal of `verify` is its answer
+pub verify_refused : (refused : Refused) (c : Content) → RefusesVerify c refused → IfOk (refused_reply refused) (λ reply. IsVerifyAnswer c reply)
+verify_refused (refusals.Program (At at kind)) c is = is
+verify_refused (refusals.Program (Deep levels)) c is = is
+verify_refused (refusals.Program (Wide height width)) c is = is
+verify_refused (refusals.Input have need) c is = is
+verify_refused (refusals.Output have need) c is = is
+verify_refused (refusals.Proof bad) c is = is
+verify_refused refusals.Memory c is = tt
+
+-- what is made of a verdict is the answer of `verify`
+pub verdict_replied : (verdict : Verdict) (c : Content) → IsVerdictOn c verdict → IsVerifyAnswer c (verdict_reply verdict)
+verdict_replied verdicts.Accepted c is = is
+verdict_replied (verdicts.Sum layer round had claim) c is = is
+verdict_replied (verdicts.End layer had want) c is = is
+verdict_replied (verdicts.Input had want) c is = is
+
+-- no command says of a case what is said of words or of an input
+abbrev IsOfACase : Reply → Type 0
+IsOfACase replies.Usage = ⊥
+IsOfACase (replies.TooLong limit) = ⊥
+IsOfACase (replies.Case bad) = ⊥
+IsOfACase reply = Unit {0}
+
+answers_a_case : (command : CaseCommand) (c : Content) (reply : Reply) → IsAnswer command c reply → IsOfACase reply
+answers_a_case command c (replies.Outputs values) is = tt
+answers_a_case Eval c replies.Usage is = absurd is
+answers_a_case Circuit c replies.Usage is = absurd is
+answers_a_case Prove c replies.Usage is = absurd is
+answers_a_case Verify c replies.Usage is = absurd is
+answers_a_case Eval c (replies.TooLong limit) is = absurd is
+answers_a_case Circuit c (replies.TooLong limit) is = absurd is
+answers_a_case Prove c (replies.TooLong limit) is = absurd is
+answers_a_case Verify c (replies.TooLong limit) is = absurd is
+answers_a_case Eval c (replies.Case bad) is = absurd is
+answers_a_case Circuit c (replies.Case bad) is = absurd is
+answers_a_case Prove c (replies.Case bad) is = absurd is
+answers_a_case Verify c (replies.Case bad) is = absurd is
+answers_a_case command c (replies.Program kind at) is = tt
+answers_a_case command c (replies.Deep levels) is = tt
+answers_a_case command c (replies.Wide height width) is = tt
+answers_a_case command c (replies.InputCount have need) is = tt
+answers_a_case command c (replies.Circuit sizes) is = tt
+answers_a_case command c (replies.Proved proved) is = tt
+answers_a_case command c (replies.Demo summary) is = tt
+answers_a_case command c (replies.OutputCount have need) is = tt
+answers_a_case command c (replies.Proof bad) is = tt
+answers_a_case command c replies.Accepted is = tt
+answers_a_case command c (replies.RejectedSum layer round had claim) is = tt
+answers_a_case command c (replies.RejectedEnd layer had want) is = tt
+answers_a_case command c (replies.RejectedInput had want) is = tt
+
+of_case : (form : Form) (answers : Content → Reply → Type 0) (input : List ℕ) (reply : Reply) → IsOfACase reply → IsOfCase form input (λ c. answers c reply) → IsCaseReply form answers input reply
+of_case form answers input (replies.Outputs values) of is = is
+of_case form answers input replies.Usage of is = absurd of
+of_case form answers input (replies.TooLong limit) of is = absurd of
+of_case form answers input (replies.Case bad) of is = absurd of
+of_case form answers input (replies.Program kind at) of is = is
+of_case form answers input (replies.Deep levels) of is = is
+of_case form answers input (replies.Wide height width) of is = is
+of_case form answers input (replies.InputCount have need) of is = is
+of_case form answers input (replies.Circuit sizes) of is = is
+of_case form answers input (replies.Proved proved) of is = is
+of_case form answers input (replies.Demo summary) of is = is
+of_case form answers input (replies.OutputCount have need) of is = is
+of_case form answers input (replies.Proof bad) of is = is
+of_case form answers input replies.Accepted of is = is
+of_case form answers input (replies.RejectedSum layer round had claim) of is = is
+of_case form answers input (replies.RejectedEnd layer had want) of is = is
+of_case form answers input (replies.RejectedInput had want) of is = is
+
+-- what a command says of the case that the input spells is its reply to the input
+pub answered : (command : CaseCommand) (input : List ℕ) (c : Content) (result : Result Reply ReplyError) → IsWithinLimit input → reading (form_of command) input ≡ Ok c
+    → IfOk result (λ reply. IsAnswer command c reply) → IfOk result (λ reply. IsCaseReply (form_of command) (IsAnswer command) input reply)
+answered command input c result within read said =
+    IfOk-weaker result _ _ (λ reply is.
+    of_case (form_of command) (IsAnswer command) input reply (answers_a_case command c reply is) (record { within = within; content = c; read = read; holds = is })) said
 
 -- a line that the full form has
 pub full_has : {A : Type 0} (o : Option A) → Allows Full o → IsSome o

@@ -22,7 +22,9 @@ use Rattle.case_text.specs.Content.{Content}
 use Rattle.case_text.specs.declared.reply.Reply.{Reply}
 use Rattle.case_text.specs.declared.reply.Reply.TheVariants as replies
 use Rattle.case_prove.specs.Circuits.{IsCircuitMiscounted}
-use Rattle.case_prove.specs.Verified.{IsClaim, IsVerdictOn, IsOutputMiscounted, IsBadProof, transcript_verdict}
+use Rattle.case_prove.specs.Verified.{IsClaim, IsVerdictOn, IsOutputMiscounted, IsBadProof, RefusesVerify}
+use Rattle.case_prove.specs.declared.refused.Refused.{Refused}
+use Rattle.case_prove.specs.declared.refused.Refused.TheVariants as refusals
 use Rattle.gkr_cmd.specs.declared.status.Status.TheVariants.{Done}
 use Rattle.gkr_cmd.specs.Replies.{IsVerifyAnswer, status_of, verdict_reply}
 use Rattle.gkr_cmd.proofs.CircuitAnswers.{IsOne, reply_to, same_counts, counted_or_not}
@@ -35,14 +37,14 @@ pub record IsOneProof : Type 0 where
   pub none : (ks : List ℕ) (messages : Messages) (trouble : BadProof) → AreOf ks messages → TroubleIs ks (spelling messages) trouble → ⊥
 
 -- what is said of a case
-data Answer (c : Content) : Reply → Type 0 where
+pub data Answer (c : Content) : Reply → Type 0 where
   refused : (bad : BadProgram) → IsCircuitRefusal c.program bad → Answer c (reply_to bad)
   miscounted : (have need : ℕ) → IsCircuitMiscounted c have need → Answer c (replies.InputCount have need)
   outputs_miscounted : (have need : ℕ) → IsOutputMiscounted c have need → Answer c (replies.OutputCount have need)
   bad_proof : (bad : BadProof) → IsBadProof c bad → Answer c (replies.Proof bad)
   verdict : (verdict : Verdict) → IsVerdictOn c verdict → Answer c (verdict_reply verdict)
 
-answer : (c : Content) (reply : Reply) → IsVerifyAnswer c reply → Answer c reply
+pub answer : (c : Content) (reply : Reply) → IsVerifyAnswer c reply → Answer c reply
 answer c replies.Usage is = absurd is
 answer c (replies.TooLong limit) is = absurd is
 answer c (replies.Case bad) is = absurd is
@@ -52,6 +54,8 @@ answer c (replies.Wide height width) is = refused (Wide height width) is
 answer c (replies.InputCount have need) is = miscounted have need is
 answer c (replies.Outputs outputs) is = absurd is
 answer c (replies.Circuit sizes) is = absurd is
+answer c (replies.Proved proved) is = absurd is
+answer c (replies.Demo summary) is = absurd is
 answer c (replies.OutputCount have need) is = outputs_miscounted have need is
 answer c (replies.Proof bad) is = bad_proof bad is
 answer c replies.Accepted is = verdict verdicts.Accepted is
@@ -179,3 +183,16 @@ one_verify one proofs c a b is is' = one_answer one proofs c (answer c a is) (an
 pub verify_done : IsOne → IsOneProof → (c : Content) (reply : Reply) → IsVerdictOn c verdicts.Accepted → IsVerifyAnswer c reply → status_of reply ≡ Done
 verify_done one proofs c reply is found =
     ap status_of (sym (one_answer one proofs c {a = verdict_reply verdicts.Accepted} {b = reply} (verdict verdicts.Accepted is) (answer c reply found)))
+
+-- a case that is accepted has no other verdict, and isn't refused
+pub accepted_alone : IsOne → IsOneProof → (c : Content) → IsVerdictOn c verdicts.Accepted → (v : Verdict) → IsVerdictOn c v → v ≡ verdicts.Accepted
+accepted_alone one proofs c is v is' = same_verdict one proofs c v verdicts.Accepted is' is
+
+pub accepted_or_memory : IsOne → IsOneProof → (c : Content) → IsVerdictOn c verdicts.Accepted → (r : Refused) → RefusesVerify c r → r ≡ refusals.Memory
+accepted_or_memory one proofs c is (refusals.Program (At at kind)) is' = absurd (not_refused one c (At at kind) is.parts is.outputs is' is.claim)
+accepted_or_memory one proofs c is (refusals.Program (Deep levels)) is' = absurd (not_refused one c (Deep levels) is.parts is.outputs is' is.claim)
+accepted_or_memory one proofs c is (refusals.Program (Wide height width)) is' = absurd (not_refused one c (Wide height width) is.parts is.outputs is' is.claim)
+accepted_or_memory one proofs c is (refusals.Input have need) is' = absurd (no_claim one c have need is.parts is.outputs is' is.claim)
+accepted_or_memory one proofs c is (refusals.Output have need) is' = absurd (as_many_or_not one c have need is.parts is.outputs is' is.claim is.as_many)
+accepted_or_memory one proofs c is (refusals.Proof bad) is' = absurd (spelled_or_not one proofs c bad verdicts.Accepted is' is)
+accepted_or_memory one proofs c is refusals.Memory is' = refl

@@ -1,4 +1,5 @@
 pub mod Commands
+pub mod Demo
 pub mod Reached
 pub mod Replies
 pub mod Runs

@@ -1,7 +1,5 @@
 -- The reply to words and the bytes of the input, as a table: when each reply is the one.
 use Rattle.std.specs.Prelude.{◌≡◌, ◌<◌, ◌≤◌, ℕ, List, length, Option, Some, None, Result, Ok, Err}
-use Rattle.field_ext.specs.Field.{F}
-use Rattle.arr_ast.specs.declared.refusal.ProgramKind.{ProgramKind}
 use Rattle.arr_compile.specs.Programs.{IsRefusedAs}
 use Rattle.arr_compile.specs.declared.refused.BadProgram.TheVariants.{At, Deep, Wide}
 use Rattle.case_prove.specs.declared.refused.Refused.{Refused}
@@ -19,14 +17,18 @@ use Rattle.arr_compile.specs.Circuits.{IsTooLarge}
 use Rattle.layer_compile.specs.declared.refused.LayerRefused.TheVariants as layout
 use Rattle.case_prove.specs.Circuits.{IsLaidOut, IsCircuitMiscounted}
 use Rattle.case_prove.specs.Evaluated.{IsEvaluated, IsMiscounted}
+use Rattle.case_prove.specs.Proved.{IsProved}
 use Rattle.case_prove.specs.Verified.{IsVerdictOn, IsOutputMiscounted, IsBadProof}
 use Rattle.gkr_verify.specs.declared.verdict.Verdict.{Verdict}
 use Rattle.gkr_verify.specs.declared.verdict.Verdict.TheVariants as verdicts
 use Rattle.gkr_cmd.specs.declared.status.Status.{Status}
 use Rattle.gkr_cmd.specs.declared.status.Status.TheVariants as statuses
+use Rattle.gkr_cmd.specs.declared.words.CaseCommand.{CaseCommand}
+use Rattle.gkr_cmd.specs.declared.words.CaseCommand.TheVariants as commands
 use Rattle.gkr_cmd.specs.declared.words.Command.{Command}
-use Rattle.gkr_cmd.specs.declared.words.Command.TheVariants.{Eval, Circuit as CircuitSizes, Verify}
+use Rattle.gkr_cmd.specs.declared.words.Command.TheVariants.{OfCase, Demo}
 use Rattle.gkr_cmd.specs.Commands.{command_of}
+use Rattle.gkr_cmd.specs.Demo.{IsDemo, demo_case}
 
 -- the most bytes of a case
 abbrev pub case_limit : ℕ
@@ -69,6 +71,15 @@ IsCircuitAnswer c (replies.InputCount have need) = IsCircuitMiscounted c have ne
 IsCircuitAnswer c (replies.Circuit sizes) = IsLaidOut c sizes
 IsCircuitAnswer c reply = ⊥
 
+-- when a reply is what `prove` says of a case
+abbrev pub IsProveAnswer : Content → Reply → Type 0
+IsProveAnswer c (replies.Program kind at) = IsRefusedAs c.program at kind
+IsProveAnswer c (replies.Deep levels) = IsTooLarge c.program (layout.Deep levels)
+IsProveAnswer c (replies.Wide height width) = IsTooLarge c.program (layout.Wide height width)
+IsProveAnswer c (replies.InputCount have need) = IsCircuitMiscounted c have need
+IsProveAnswer c (replies.Proved proved) = IsProved c proved
+IsProveAnswer c reply = ⊥
+
 -- when a reply is what `verify` says of a case
 abbrev pub IsVerifyAnswer : Content → Reply → Type 0
 IsVerifyAnswer c (replies.Program kind at) = IsRefusedAs c.program at kind
@@ -90,12 +101,31 @@ IsCaseReply form answers input (replies.TooLong limit) = IsTooLong input limit
 IsCaseReply form answers input (replies.Case bad) = IsNoCase form input bad
 IsCaseReply form answers input reply = IsOfCase form input (λ c. answers c reply)
 
+-- the form of the case that a command reads
+abbrev pub form_of : CaseCommand → Form
+form_of commands.Eval = Plain
+form_of commands.Circuit = Plain
+form_of commands.Prove = Plain
+form_of commands.Verify = Full
+
+-- when a reply is what a command says of a case
+abbrev pub IsAnswer : CaseCommand → Content → Reply → Type 0
+IsAnswer commands.Eval = IsEvalAnswer
+IsAnswer commands.Circuit = IsCircuitAnswer
+IsAnswer commands.Prove = IsProveAnswer
+IsAnswer commands.Verify = IsVerifyAnswer
+
+-- when a reply is the one of `demo`: that of `prove` to the number's case, but for what is told where it is proved
+abbrev pub IsDemoAnswer : ℕ → Reply → Type 0
+IsDemoAnswer number (replies.Demo summary) = IsDemo number summary
+IsDemoAnswer number (replies.Proved proved) = ⊥
+IsDemoAnswer number reply = IsProveAnswer (demo_case number) reply
+
 -- when a reply is the one of a command, or of words that name none
 abbrev pub IsCommandReply : Option Command → List ℕ → Reply → Type 0
 IsCommandReply None input reply = reply ≡ replies.Usage
-IsCommandReply (Some Eval) input reply = IsCaseReply Plain IsEvalAnswer input reply
-IsCommandReply (Some CircuitSizes) input reply = IsCaseReply Plain IsCircuitAnswer input reply
-IsCommandReply (Some Verify) input reply = IsCaseReply Full IsVerifyAnswer input reply
+IsCommandReply (Some (OfCase command)) input reply = IsCaseReply (form_of command) (IsAnswer command) input reply
+IsCommandReply (Some (Demo number)) input reply = IsDemoAnswer number reply
 
 -- The reply to the words, and to the input of the command that they name.
 abbrev pub IsReply : List (List ℕ) → List ℕ → Reply → Type 0
@@ -113,6 +143,8 @@ status_of (replies.InputCount have need) = statuses.BadCount
 status_of (replies.OutputCount have need) = statuses.BadCount
 status_of (replies.Proof bad) = statuses.BadProof
 status_of (replies.Circuit sizes) = statuses.Done
+status_of (replies.Proved proved) = statuses.Done
+status_of (replies.Demo summary) = statuses.Done
 status_of replies.Accepted = statuses.Done
 status_of (replies.RejectedSum layer round had claim) = statuses.Rejected
 status_of (replies.RejectedEnd layer had want) = statuses.Rejected

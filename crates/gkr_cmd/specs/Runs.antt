@@ -6,21 +6,26 @@ use Rattle.arr_check.specs.Program.{input_count}
 use Rattle.arr_compile.specs.Programs.{IsAccepted}
 use Rattle.arr_compile.specs.Circuits.{IsCompiled}
 use Rattle.circuit_core.specs.Parts.{Parts}
+use Rattle.case_prove.specs.Proved.{IsProved}
 use Rattle.case_prove.specs.Verified.{IsVerdictOn}
 use Rattle.gkr_verify.specs.declared.verdict.Verdict.TheVariants.{Accepted}
 use Rattle.case_text.specs.Content.{Content}
 use Rattle.case_text.specs.Replies.{reply_text}
+use Rattle.case_text.specs.Spelling.{lower_case_text}
+use Rattle.case_text.specs.declared.form.Form.TheVariants.{Full}
 use Rattle.case_text.specs.declared.reply.Reply.{Reply}
 use Rattle.gkr_cmd.specs.declared.words.Command.{Command}
+use Rattle.gkr_cmd.specs.declared.words.Command.TheVariants.{OfCase, Demo}
 use Rattle.gkr_cmd.specs.declared.status.Status.{Status}
 use Rattle.gkr_cmd.specs.declared.status.Status.TheVariants as statuses
-use Rattle.gkr_cmd.specs.Replies.{IsReply, status_of}
+use Rattle.gkr_cmd.specs.Replies.{IsOfCase, IsReply, status_of}
 use Rattle.gkr_cmd.specs.Reached.{WritesFront}
 
--- What a command reads is told by the source. Words that are no command read nothing, so any input is theirs.
+-- What a command reads is told by the source. `demo`, and words that are no command, read nothing, so any input is theirs.
 abbrev pub IsInput : Option Command → Option (List ℕ) → List ℕ → Type 0
 IsInput None left input = ⊤
-IsInput (Some command) left input = left ≡ Some input
+IsInput (Some (OfCase command)) left input = left ≡ Some input
+IsInput (Some (Demo number)) left input = ⊤
 
 -- A run that wrote its reply whole.
 abbrev pub IsReplied : Status → Type 0
@@ -63,3 +68,11 @@ pub record HasCircuit (c : Content) : Type 0 where
 -- A case whose proof spells messages of its circuit's shape that meet every equation of acceptance.
 abbrev pub HasAcceptedProof : Content → Type 0
 HasAcceptedProof c = IsVerdictOn c Accepted
+
+-- The run wrote the text of this case with its program's meaning on its inputs as outputs and the one honest proof of them, and that
+-- text is one of an accepted case.
+pub record WritesHonestProof (c : Content) (before after : Option (List ℕ)) : Type 0 where
+  pub proved : Content
+  pub is_proved : IsProved c proved
+  pub written : Grows before after (lower_case_text proved)
+  pub accepted : IsOfCase Full (lower_case_text proved) HasAcceptedProof

@@ -1,63 +1,123 @@
 //! The replies to a case's text.
 
 ghost use Rattle.std.specs.Prelude.{◌≡◌, ◌≢◌, IfOk};
-ghost use Rattle.case_text.specs.declared.form.Form.TheVariants.{Full, Plain};
-ghost use Rattle.gkr_cmd.specs.Replies.{IsCaseReply, IsCircuitAnswer, IsEvalAnswer, IsVerifyAnswer, IsWithinLimit, refused_reply, verdict_reply};
+ghost use Rattle.case_text.specs.Forms.{Allows};
+ghost use Rattle.case_text.specs.declared.form.Form.TheVariants.{Full};
+ghost use Rattle.gkr_cmd.specs.Replies.{form_of, IsAnswer, IsCaseReply, IsCircuitAnswer, IsEvalAnswer, IsProveAnswer, IsVerifyAnswer, IsWithinLimit, refused_reply, verdict_reply};
 
 use crate::reply_error::ReplyError;
+use crate::words::CaseCommand;
 use arr_compile::BadProgram;
-use case_prove::{Refused, circuit_case, eval_case, verify_case};
-use case_text::{CaseRefused, Form, Reply, Values, read_case};
+use case_prove::{Refused, circuit_case, eval_case, prove_case, verify_case};
+use case_text::{Case, CaseRefused, Form, Reply, Values, read_case};
 use gkr_verify::Verdict;
+use io_edge::Gate;
 use std::alloc::Global;
+use std::marker::Sync;
+use std::thread::Threads;
 
-/// The reply of `eval` to an input that isn't too long.
-pub fn evaluate(alloc: Global, input: &[u8]) -> Result<Reply, ReplyError>
+/// The reply of a command to an input that isn't too long.
+#[tactic(auto, using(crate::proofs::Replied::answered))]
+pub fn answer<R: Threads + Sync, G: Gate>(
+    rt: &R,
+    alloc: Global,
+    command: CaseCommand,
+    input: &[u8],
+    gate: &G,
+) -> Result<Reply, ReplyError>
     requires { IsWithinLimit input.now }
-    ensures reply { IfOk result (λ reply. IsCaseReply Plain IsEvalAnswer input.now reply) }
+    ensures reply { IfOk result (λ reply. IsCaseReply (form_of command) (IsAnswer command) input.now reply) }
     ensures fault { result ≢ Err ReplyError.ReadFault }
 {
-    let case = match read_case(alloc, input, Form::Plain) {
+    let case = match read_case(alloc, input, form_of(command)) {
         Ok(case) => case,
         Err(CaseRefused::Bad(bad)) => return Ok(Reply::Case(bad)),
         Err(CaseRefused::Memory) => return Err(ReplyError::Memory),
     };
-    match eval_case(alloc, &case) {
+    answer_case(rt, alloc, command, &case, gate)
+}
+
+/// The form of the case that a command reads.
+fn form_of(command: CaseCommand) -> Form
+    ensures { result ≡ form_of command }
+{
+    match command {
+        CaseCommand::Eval | CaseCommand::Circuit | CaseCommand::Prove => Form::Plain,
+        CaseCommand::Verify => Form::Full,
+    }
+}
+
+/// What a command says of a case.
+fn answer_case<R: Threads + Sync, G: Gate>(
+    rt: &R,
+    alloc: Global,
+    command: CaseCommand,
+    case: &Case,
+    gate: &G,
+) -> Result<Reply, ReplyError>
+    requires outputs { Allows (form_of command) case.now.outputs }
+    requires proof { Allows (form_of command) case.now.proof }
+    ensures reply { IfOk result (λ reply. IsAnswer command case.now reply) }
+    ensures fault { result ≢ Err ReplyError.ReadFault }
+{
+    match command {
+        CaseCommand::Eval => evaluate(alloc, case),
+        CaseCommand::Circuit => lay_out(alloc, case),
+        CaseCommand::Prove => prove(rt, alloc, case, gate),
+        CaseCommand::Verify => verify(alloc, case),
+    }
+}
+
+/// What `eval` says of a case.
+#[tactic(auto, using(crate::proofs::Replied::eval_refused))]
+fn evaluate(alloc: Global, case: &Case) -> Result<Reply, ReplyError>
+    ensures reply { IfOk result (λ reply. IsEvalAnswer case.now reply) }
+    ensures fault { result ≢ Err ReplyError.ReadFault }
+{
+    match eval_case(alloc, case) {
         Ok(outputs) => Ok(Reply::Outputs(Values::new(outputs))),
         Err(refused) => refused_reply(refused),
     }
 }
 
-/// The reply of `circuit` to an input that isn't too long.
-pub fn lay_out(alloc: Global, input: &[u8]) -> Result<Reply, ReplyError>
-    requires { IsWithinLimit input.now }
-    ensures reply { IfOk result (λ reply. IsCaseReply Plain IsCircuitAnswer input.now reply) }
+/// What `circuit` says of a case.
+#[tactic(auto, using(crate::proofs::Replied::circuit_refused))]
+fn lay_out(alloc: Global, case: &Case) -> Result<Reply, ReplyError>
+    ensures reply { IfOk result (λ reply. IsCircuitAnswer case.now reply) }
     ensures fault { result ≢ Err ReplyError.ReadFault }
 {
-    let laid = match read_case(alloc, input, Form::Plain) {
-        Ok(case) => case,
-        Err(CaseRefused::Bad(bad)) => return Ok(Reply::Case(bad)),
-        Err(CaseRefused::Memory) => return Err(ReplyError::Memory),
-    };
-    match circuit_case(alloc, &laid) {
+    match circuit_case(alloc, case) {
         Ok(sizes) => Ok(Reply::Circuit(sizes)),
         Err(refused) => refused_reply(refused),
     }
 }
 
-/// The reply of `verify` to an input that isn't too long.
-#[tactic(auto, using(crate::proofs::Replied::verdict_replied, crate::proofs::Replied::verify_refused))]
-pub fn verify(alloc: Global, input: &[u8]) -> Result<Reply, ReplyError>
-    requires { IsWithinLimit input.now }
-    ensures reply { IfOk result (λ reply. IsCaseReply Full IsVerifyAnswer input.now reply) }
+/// What `prove` says of a case.
+#[tactic(auto, using(crate::proofs::Replied::prove_refused))]
+fn prove<R: Threads + Sync, G: Gate>(
+    rt: &R,
+    alloc: Global,
+    case: &Case,
+    gate: &G,
+) -> Result<Reply, ReplyError>
+    ensures reply { IfOk result (λ reply. IsProveAnswer case.now reply) }
     ensures fault { result ≢ Err ReplyError.ReadFault }
 {
-    let full = match read_case(alloc, input, Form::Full) {
-        Ok(case) => case,
-        Err(CaseRefused::Bad(bad)) => return Ok(Reply::Case(bad)),
-        Err(CaseRefused::Memory) => return Err(ReplyError::Memory),
-    };
-    match verify_case(alloc, &full) {
+    match prove_case(rt, alloc, case, 1, gate) {
+        Ok(proved) => Ok(Reply::Proved(proved)),
+        Err(refused) => refused_reply(refused),
+    }
+}
+
+/// What `verify` says of a case.
+#[tactic(auto, using(crate::proofs::Replied::verdict_replied, crate::proofs::Replied::verify_refused, crate::proofs::Replied::full_has))]
+fn verify(alloc: Global, case: &Case) -> Result<Reply, ReplyError>
+    requires outputs { Allows Full case.now.outputs }
+    requires proof { Allows Full case.now.proof }
+    ensures reply { IfOk result (λ reply. IsVerifyAnswer case.now reply) }
+    ensures fault { result ≢ Err ReplyError.ReadFault }
+{
+    match verify_case(alloc, case) {
         Ok(verdict) => Ok(verdict_reply(verdict)),
         Err(refused) => refused_reply(refused),
     }
@@ -86,7 +146,7 @@ fn verdict_reply(verdict: Verdict) -> Reply
 }
 
 /// The reply to a case that is refused.
-fn refused_reply(refused: Refused) -> Result<Reply, ReplyError>
+pub fn refused_reply(refused: Refused) -> Result<Reply, ReplyError>
     ensures { result ≡ refused_reply refused }
 {
     match refused {

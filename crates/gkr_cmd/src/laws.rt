@@ -1,17 +1,25 @@
 //! What holds of replies by their definitions alone.
 
-ghost use Rattle.std.specs.Prelude.{◌≡◌, List, ℕ};
+ghost use Rattle.std.specs.Prelude.{◌≡◌, ◌<◌, ◌^◌, ◌↔◌, List, ℕ, Some, decimal};
 ghost use Rattle.case_text.specs.declared.form.Form.TheVariants.{Full, Plain};
 ghost use Rattle.case_text.specs.declared.reply.Reply.{Reply};
 ghost use Rattle.gkr_cmd.specs.declared.status.Status.TheVariants.{Done};
-ghost use Rattle.gkr_cmd.specs.Replies.{IsCaseReply, IsCircuitAnswer, IsEvalAnswer, IsVerifyAnswer, IsOfCase, IsReply, status_of};
+ghost use Rattle.gkr_cmd.specs.Replies.{IsCaseReply, IsCircuitAnswer, IsDemoAnswer, IsEvalAnswer, IsProveAnswer, IsVerifyAnswer, IsOfCase, IsReply, status_of};
 ghost use Rattle.gkr_cmd.specs.Runs.{HasAcceptedProof, HasCircuit, IsEvaluable};
+ghost use Rattle.gkr_cmd.specs.Commands.{number_of};
+ghost use Rattle.gkr_cmd.specs.Demo.{demo_case};
 
 use arr_compile::laws::{
-    accepted_or_refused, compiled_or_refused, one_circuit, one_circuit_refusal, one_refusal,
-    one_tree,
+    accepted_or_refused, circuit_computes, compiled_or_refused, one_circuit, one_circuit_refusal,
+    one_refusal, one_tree,
 };
+use case_prove::laws::proved_is_one;
 use proof_wire::laws::{no_trouble, one_reading, one_trouble};
+
+/// The number of a word is the one below 2^32 whose decimal it is.
+pub fn number_by_decimal()
+    ensures { (word : List ℕ) (n : ℕ) → (number_of word ≡ Some n) ↔ ((n < 2 ^ 32) × (word ≡ decimal n)) }
+{}
 
 /// Words and an input have at most one reply.
 pub fn one_reply()
@@ -26,6 +34,8 @@ pub fn one_reply()
     one_reading();
     one_trouble();
     no_trouble();
+    circuit_computes();
+    proved_is_one();
 }
 
 /// The reply to a case with an accepted program and as many inputs as it needs is its outputs.
@@ -40,6 +50,24 @@ pub fn evaluable_is_done()
 /// The reply to a case whose program has a circuit with as many inputs is the circuit's sizes.
 pub fn laid_out_is_done()
     ensures { (input : List ℕ) (reply : Reply) → IsCaseReply Plain IsCircuitAnswer input reply → IsOfCase Plain input HasCircuit → status_of reply ≡ Done }
+{
+    one_circuit();
+    one_circuit_refusal();
+    compiled_or_refused();
+}
+
+/// The reply of `prove` to a case whose program has a circuit with as many inputs is the case with the proof.
+pub fn provable_is_done()
+    ensures { (input : List ℕ) (reply : Reply) → IsCaseReply Plain IsProveAnswer input reply → IsOfCase Plain input HasCircuit → status_of reply ≡ Done }
+{
+    one_circuit();
+    one_circuit_refusal();
+    compiled_or_refused();
+}
+
+/// The reply of `demo` to a number whose case has a circuit with as many inputs tells of its proof.
+pub fn demonstrable_is_done()
+    ensures { (number : ℕ) (reply : Reply) → IsDemoAnswer number reply → HasCircuit (demo_case number) → status_of reply ≡ Done }
 {
     one_circuit();
     one_circuit_refusal();

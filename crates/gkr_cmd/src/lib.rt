@@ -9,6 +9,7 @@
 #![tactic(auto)]
 
 mod answering;
+mod demo;
 mod input;
 pub mod laws;
 mod output;
@@ -20,4 +21,4 @@ mod words;
 
 pub use run::gkr_run;
 pub use status::Status;
-pub use words::Command;
+pub use words::{CaseCommand, Command};

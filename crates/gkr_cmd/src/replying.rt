@@ -1,32 +1,36 @@
 //! Making the whole reply.
 
-ghost use Rattle.std.specs.Prelude.{◌≡◌, ◌≢◌, ◌↔◌, ◌+◌, List, ℕ, map, IsSome, IfOk, OnOk, IsErrOf, None, Some, Ok, Err, string_bytes};
+ghost use Rattle.std.specs.Prelude.{◌≡◌, ◌≢◌, ◌↔◌, ◌+◌, List, ℕ, map, IfOk, OnOk, IsErrOf, None, Some, Ok, Err, string_bytes};
 ghost use Rattle.io_edge.specs.Causes.{Rose};
-ghost use Rattle.gkr_cmd.specs.Commands.{command_of};
+ghost use Rattle.gkr_cmd.specs.Commands.{ReadsCase, command_of};
 ghost use Rattle.gkr_cmd.specs.Reached.{IsReadUpTo};
 ghost use Rattle.gkr_cmd.specs.Replies.{case_limit, IsCommandReply, IsReply, status_of};
 ghost use Rattle.gkr_cmd.specs.Runs.{IsInput};
 
-use crate::answering::{evaluate, lay_out, verify};
+use crate::answering::answer;
+use crate::demo::demo;
 use crate::input::read_input;
 use crate::reply_error::ReplyError;
 use crate::status::Status;
-use crate::words::{Command, named_command};
+use crate::words::{CaseCommand, Command, named_command};
 use case_text::Reply;
-use io_edge::Source;
+use io_edge::{Gate, Source};
 use std::alloc::Global;
+use std::marker::Sync;
+use std::thread::Threads;
 
 /// The most bytes of a case.
 const CASE_LIMIT: u32 = 4_194_304;
 
-/// The reply of a command to what it reads.
-#[tactic(auto, using(crate::proofs::Replied::too_long))]
-fn run_command<S: Source>(
+/// The reply of a command on a case to what it reads.
+fn run_command<R: Threads + Sync, S: Source, G: Gate>(
+    rt: &R,
     alloc: Global,
-    command: Command,
+    command: CaseCommand,
     source: &mut S,
+    gate: &G,
 ) -> Result<Reply, ReplyError>
-    ensures reply { IfOk result (λ reply. (input : List ℕ) → S.left source.old ≡ Some input → IsCommandReply (Some command) input reply) }
+    ensures reply { IfOk result (λ reply. (input : List ℕ) → S.left source.old ≡ Some input → IsCommandReply (Some (Command.OfCase command)) input reply) }
     ensures named { IfOk result (λ reply. status_of reply ≢ Status.Usage) }
     ensures read { OnOk result (IsReadUpTo (case_limit + 1) (S.left source.old) (S.left source.new)) }
     ensures fault { IsErrOf result ReplyError.ReadFault → Rose (S.faults source.old) (S.faults source.new) }
@@ -36,27 +40,27 @@ fn run_command<S: Source>(
     if input.len() > CASE_LIMIT as usize {
         return Ok(Reply::TooLong(CASE_LIMIT));
     }
-    match command {
-        Command::Eval => evaluate(alloc, &input),
-        Command::Circuit => lay_out(alloc, &input),
-        Command::Verify => verify(alloc, &input),
-    }
+    answer(rt, alloc, command, &input, gate)
 }
 
 /// The reply to the words, and to what their command reads.
-pub fn make_reply<S: Source>(
+pub fn make_reply<R: Threads + Sync, S: Source, G: Gate>(
+    rt: &R,
     alloc: Global,
     words: &[String],
     source: &mut S,
+    gate: &G,
 ) -> Result<Reply, ReplyError>
     ensures reply { IfOk result (λ reply. (input : List ℕ) → IsInput (command_of (map string_bytes words.now)) (S.left source.old) input → IsReply (map string_bytes words.now) input reply) }
     ensures usage { IfOk result (λ reply. (status_of reply ≡ Status.Usage) ↔ (command_of (map string_bytes words.now) ≡ None)) }
-    ensures read { IsSome (command_of (map string_bytes words.now)) → OnOk result (IsReadUpTo (case_limit + 1) (S.left source.old) (S.left source.new)) }
+    ensures read { ReadsCase (command_of (map string_bytes words.now)) → OnOk result (IsReadUpTo (case_limit + 1) (S.left source.old) (S.left source.new)) }
+    ensures unread { ¬ ReadsCase (command_of (map string_bytes words.now)) → source.new ≡ source.old }
     ensures fault { IsErrOf result ReplyError.ReadFault → Rose (S.faults source.old) (S.faults source.new) }
     ensures no_fault { result ≢ Err ReplyError.ReadFault → S.faults source.new ≡ S.faults source.old }
 {
     match named_command(words) {
         None => Ok(Reply::Usage),
-        Some(command) => run_command(alloc, command, source),
+        Some(Command::OfCase(command)) => run_command(rt, alloc, command, source, gate),
+        Some(Command::Demo(number)) => demo(rt, alloc, number, gate),
     }
 }

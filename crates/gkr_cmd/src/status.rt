@@ -27,7 +27,11 @@ impl Status {
         ensures { result ≡ status_of reply.now }
     {
         match reply {
-            Reply::Outputs(_) | Reply::Circuit(_) | Reply::Accepted => Status::Done,
+            Reply::Outputs(_)
+            | Reply::Circuit(_)
+            | Reply::Proved(_)
+            | Reply::Demo(_)
+            | Reply::Accepted => Status::Done,
             Reply::RejectedSum { .. } | Reply::RejectedEnd { .. } | Reply::RejectedInput { .. } => {
                 Status::Rejected
             }

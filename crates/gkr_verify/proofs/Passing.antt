@@ -1,10 +1,10 @@
 -- The examples by computation
-use Rattle.std.proofs.Common.{◌≡◌, ◌≢◌, ◌≤◌, ◌⊎◌, inl, inr, [], ◌∷◌, length, take, refl, arith, lit<}
+use Rattle.std.proofs.Common.{◌≡◌, ◌≢◌, ◌≤◌, ◌⊎◌, inl, inr, [], ◌∷◌, List, ap, get_or, length, take, refl, arith, lit<}
 use Rattle.std.proofs.lemmas.List.Elements.{All-cons, All-nil}
 use Rattle.field_ext.specs.Field.{K, of, zero_k}
 use Rattle.field_ext.specs.Polynomial.{HasAtMost}
 use Rattle.gkr_verify.specs.declared.verdict.Verdict.TheVariants.{Accepted}
-use Rattle.gkr_verify.specs.Acceptance.{verdict_of}
+use Rattle.gkr_verify.specs.Acceptance.{true_table, verdict_of}
 use Rattle.gkr_verify.specs.Soundness.{IsExceptionalChallenge, HaveDegrees}
 use Rattle.field_ext.proofs.KLaws.{k_same}
 use Rattle.gkr_verify.specs.Examples.{number, zero_for_five, false_round_messages, false_round_challenges, false_line_messages, false_line_challenges, thirteen_for_twelve, true_product_messages, zero_challenges}
@@ -51,7 +51,7 @@ only_two S a b v few sa sb ne sv =
           ]
     ]
 
-round_zero : IsExceptionalChallenge zero_for_five (take 1 false_round_messages) (take 1 false_round_challenges) 1 (number 0)
+pub round_zero : IsExceptionalChallenge zero_for_five (take 1 false_round_messages) (take 1 false_round_challenges) 1 (number 0)
 unfolding of
 round_zero = ((λ s. unequal _ _ refl (s 1)), equal _ _ refl)
 
@@ -66,3 +66,43 @@ pub round_only : (v : K) → IsExceptionalChallenge zero_for_five (take 1 false_
 round_only v h =
     only_two (IsExceptionalChallenge zero_for_five (take 1 false_round_messages) (take 1 false_round_challenges) 1) (number 0) (number 3) v
     (few_challenges zero_for_five (take 1 false_round_messages) (take 1 false_round_challenges) 1 round_degrees) round_zero round_exceptional apart_three h
+
+-- a set of at most one element that has this one has no other
+only_one : (S : K → Type 0) (a v : K) → HasAtMost 1 S → S a → S v → v ≡ a
+only_one S a v few sa sv =
+    elim (k_same v a) [
+      | inl e ↦ e
+      | inr na ↦
+          let two : 2 ≤ 1 = few (v ∷ a ∷ []) (All-cons (λ y. v ≢ y) a [] na (All-nil (λ y. v ≢ y)), (All-nil (λ y. a ≢ y), tt)) (All-cons S v (a ∷ []) sv (All-cons S a [] sa (All-nil S))) in
+          absurd (omega (arith, two))
+    ]
+
+abbrev zeros : List K
+zeros = number 0 ∷ number 0 ∷ number 0 ∷ []
+
+line_degrees : HaveDegrees zero_for_five.layers false_line_messages
+line_degrees = (All-cons (λ q. length q ≤ 3) zeros (zeros ∷ []) (omega arith) (All-cons (λ q. length q ≤ 3) zeros [] (omega arith) (All-nil (λ q. length q ≤ 3))), omega arith, tt)
+
+pub line_only : (v : K) → IsExceptionalChallenge zero_for_five false_line_messages (take 3 false_line_challenges) 3 v → v ≡ number 1
+line_only v h =
+    only_one (IsExceptionalChallenge zero_for_five false_line_messages (take 3 false_line_challenges) 3) (number 1) v
+    (few_challenges zero_for_five false_line_messages (take 3 false_line_challenges) 3 line_degrees) line_exceptional h
+
+output_degrees : HaveDegrees thirteen_for_twelve.layers []
+output_degrees = (All-nil (λ q. length q ≤ 3), omega arith, (All-nil (λ q. length q ≤ 3), omega arith, tt))
+
+pub output_only : (v : K) → IsExceptionalChallenge thirteen_for_twelve [] [] 0 v → v ≡ number 0
+output_only v h =
+    only_one (IsExceptionalChallenge thirteen_for_twelve [] [] 0) (number 0) v
+    (few_challenges thirteen_for_twelve [] [] 0 output_degrees) output_exceptional h
+
+abbrev second : List K → K
+second xs = get_or xs 1 zero_k
+
+pub copy_wrong : zero_for_five.claimed_table ≢ true_table zero_for_five
+unfolding of
+copy_wrong = λ e. unequal (number 0) (number 5) refl (ap second e)
+
+pub product_wrong : thirteen_for_twelve.claimed_table ≢ true_table thirteen_for_twelve
+unfolding of
+product_wrong = λ e. unequal (number 13) (number 12) refl (ap second e)

@@ -92,6 +92,13 @@ length-challenges : (source : Source) (s : List ℕ) (stated : CircuitClaim) (qs
 length-challenges source s stated qs e =
     omega (arith, length-append (coordinates source s stated.k) (draws source (state_after_coordinates source s stated.k) qs), length-coordinates source s stated.k, length-draws source (state_after_coordinates source s stated.k) qs, e)
 
+-- a source gives as many challenges for messages of the shape
+pub drawn : (p : Parts) (inputs outputs : List F) (source : Source) (s : List ℕ) (messages : Messages) → AreOf (exponents p) messages →
+    length (all_draws source s (exponent_at p 0) (all_messages messages.layers.items)) ≡ challenge_count (claim_of p inputs outputs)
+drawn p inputs outputs source s messages shape =
+    let stated : CircuitClaim = claim_of p inputs outputs in
+    length-challenges source s stated (all_messages messages.layers.items) (length-all stated.layers messages.layers.items (have_shape p messages shape))
+
 -- the outputs stand behind position 0
 pub outputs_room : (c : SoundCircuit) → c.parts.outputs < width_of c.parts 0
 outputs_room c = let held = (width_bounds c.parts (none_from_test _ c.faultless) 0 (omega arith)).1 in omega (arith, held)
@@ -118,10 +125,10 @@ module _ (c : SoundCircuit) (inputs outputs : List F) (count : length outputs �
       sym (parts_of (padded_values width outputs)) ∙ ap (λ (t : List K). map (λ (x : K). x.re) t) (e ∙ sym (over-embed c.parts 0 c.parts.layers input)) ∙ parts_of (layer_values c.parts inputs 0) in
       sym (take-front outputs (replicate (width_of c.parts 0 - (1 + length outputs)) zero_f)) ∙ ap (λ (t : List F). take (length outputs) (drop 1 t)) same
 
-  pub sound : (source : Source) (s : List ℕ) (messages : Messages) → AreOf (exponents c.parts) messages →
-      verdict_of (claim_of c.parts inputs outputs) (all_messages messages.layers.items) (all_draws source s (exponent_at c.parts 0) (all_messages messages.layers.items)) ≡ Accepted → IsFalse c.parts inputs outputs →
-      (n : ℕ) × LetsPass (claim_of c.parts inputs outputs) (all_messages messages.layers.items) (all_draws source s (exponent_at c.parts 0) (all_messages messages.layers.items)) n
-  sound source s messages shape accepted false' =
+  pub sound : (messages : Messages) (rs : List K) → AreOf (exponents c.parts) messages → length rs ≡ challenge_count (claim_of c.parts inputs outputs) →
+      verdict_of (claim_of c.parts inputs outputs) (all_messages messages.layers.items) rs ≡ Accepted → IsFalse c.parts inputs outputs →
+      (n : ℕ) × LetsPass (claim_of c.parts inputs outputs) (all_messages messages.layers.items) rs n
+  sound messages rs shape drawn' accepted false' =
       let stated : CircuitClaim = claim_of c.parts inputs outputs in
       let qs : List (List K) = all_messages messages.layers.items in
       let have = have_shape c.parts messages shape in
@@ -129,7 +136,7 @@ module _ (c : SoundCircuit) (inputs outputs : List F) (count : length outputs �
       let values = map (leaf_value inputs) c.parts.leaves in
       let fit : length (map (leaf_value inputs) c.parts.leaves) < c.parts.input_width = omega (arith, length-map c.parts.leaves (leaf_value inputs), leaves_fit c, input_width c.parts) in
       let few : length outputs < width_of c.parts 0 = omega (arith, count, outputs_room c) in
-      lets_pass stated qs (all_draws source s stated.k qs) (layers_fit c)
+      lets_pass stated qs rs (layers_fit c)
       (length-table (width_of c.parts 0) outputs few ∙ (size_of c 0 (omega arith)).0)
       (length-table c.parts.input_width values fit ∙ sym (input_width c.parts) ∙ (size_of c (height c.parts) (omega arith)).0 ∙ ap (λ (k : ℕ). 2 ^ k) (sym (input_size c.parts)))
-      all (length-challenges source s stated qs all) accepted (λ e. false' (outputs_true e)) (degrees_of stated.layers messages.layers.items have)
+      all drawn' accepted (λ e. false' (outputs_true e)) (degrees_of stated.layers messages.layers.items have)

@@ -107,14 +107,34 @@ fn follows_a_copy(rt: HostRuntime) -> Result<(), Fail> {
         claim: number(10),
     };
     assert_eq!(rt; answer(&rt, &circuit, &five, 5, &exchanged, &drawn)?, sum);
-    // The wiring polynomial is -24 at the rounds' point: the end is -24 times 15 + 21, and for this line 15 + 22.
-    let other_line = [0, -5, 15, 120, -80, -40, 15, 7];
+    // The wiring polynomial is -24 at the rounds' point: the end is -24 times 15 + 20, and for this line 5 + 20.
+    let other_line = [0, -5, 15, 120, -80, -40, 5, 15];
     let end = Verdict::End {
         layer: 0,
         had: number(-840),
-        want: number(-888),
+        want: number(-600),
     };
     assert_eq!(rt; answer(&rt, &circuit, &five, 5, &other_line, &drawn)?, end);
+    Ok(())
+}
+
+/// A false round passes where its challenge is 3, and a false line where its challenge is 1; at other challenges neither
+/// does.
+#[test]
+fn accepts_false_outputs_at_exceptional_challenges(rt: HostRuntime) -> Result<(), Fail> {
+    let Ok(circuit) = copy(rt.alloc()) else {
+        return Err(Fail::new("no circuit"));
+    };
+    let five = [Fp::reduce(5)];
+    for (messages, challenges, passes) in [
+        ([0, -20, 20, 120, -80, -40, 15, 5], [2, 3, 4, 6], true),
+        ([0, -20, 20, 120, -80, -40, 15, 5], [2, 5, 4, 6], false),
+        ([0, 0, 0, 0, 0, 0, -20, 40], [2, 3, 4, 1], true),
+        ([0, 0, 0, 0, 0, 0, -20, 40], [2, 3, 4, 6], false),
+    ] {
+        let verdict = answer(&rt, &circuit, &five, 0, &messages, &challenges)?;
+        assert!(rt; (verdict == Verdict::Accepted) == passes);
+    }
     Ok(())
 }
 

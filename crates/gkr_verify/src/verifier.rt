@@ -55,6 +55,14 @@ pub fn challenge_count(circuit: &Circuit) -> usize
     coordinates(circuit, 0) + 2 * width_below(circuit) + circuit.height()
 }
 
+/// The sum of the bounds on how many challenges are exceptional: 1 for each coordinate of the output point, and for each
+/// layer below 2 for each of its rounds and its number of coordinates for its line.
+pub fn bound_sum(circuit: &Circuit) -> usize
+    ensures { result ≡ exponent_at circuit.now.parts 0 + 5 * total_exponent (layers_of circuit.now.parts) }
+{
+    coordinates(circuit, 0) + 5 * width_below(circuit)
+}
+
 // Checks the messages, and keeps challenges and points in `room`.
 fn check_in<C: Challenges>(
     circuit: &Circuit,

@@ -1,12 +1,14 @@
 //! Laws of the layout. Each function does nothing: its contract is a law that is proved.
 
-ghost use Rattle.std.specs.Prelude.{◌≡◌, ℕ, ◌+◌, ◌<◌, ◌≤◌, ◌↔◌, List, Contains, length, slice_index_or};
+ghost use Rattle.std.specs.Prelude.{◌≡◌, ℕ, ◌+◌, ◌<◌, ◌≤◌, ◌↔◌, List, Contains, length, slice_index_or, None};
 ghost use Rattle.field_ext.specs.Field.{F};
 ghost use Rattle.circuit_core.specs.Parts.{layer_values, padded_values, zero_f};
+ghost use Rattle.circuit_core.specs.Faults.{fault_of};
+ghost use Rattle.circuit_core.specs.Sound.{greatest};
 ghost use Rattle.node_core.specs.Nodes.{Nodes, IsNodeList, values};
 ghost use Rattle.layer_compile.specs.Levels.{height_of};
 ghost use Rattle.layer_compile.specs.Rows.{row};
-ghost use Rattle.layer_compile.specs.Circuits.{circuit_of, output_values, size_for};
+ghost use Rattle.layer_compile.specs.Circuits.{circuit_of, output_values, refusal_of, size_for};
 ghost use Rattle.layer_compile.specs.Needed.{StandsAt};
 
 /// Between the leaves and the outputs, a height has the needed nodes of its level, and the lower ones that are used above it.
@@ -36,4 +38,9 @@ pub fn zero_before_the_outputs()
 pub fn zeros_behind_the_outputs()
     ensures { (n : Nodes) (inputs : List F) (g : ℕ) → IsNodeList n → length n.outputs < g
         → slice_index_or (layer_values (circuit_of n) inputs 0) g zero_f ≡ zero_f }
+{}
+
+/// A list of nodes whose layout isn't refused is laid out without fault.
+pub fn no_fault()
+    ensures { (n : Nodes) → IsNodeList n → refusal_of greatest n ≡ None → fault_of greatest (circuit_of n) ≡ None }
 {}

@@ -1,0 +1,86 @@
+-- Accepted outputs that aren't the meaning aren't the circuit's, so that some challenge is exceptional.
+use Rattle.std.proofs.Common.{◌≡◌, ◌∙◌, ◌≤◌, ℕ, List, [], ◌∷◌, ◌++◌, length, take, drop, replicate, subst, refl, sym, ap}
+use Rattle.std.specs.Prelude.{IsTrue, is_none, Option, Some, None}
+use Rattle.field_ext.specs.Field.{F, K}
+use Rattle.arr_check.specs.Program.{input_count}
+use Rattle.circuit_core.specs.Faults.{fault_of}
+use Rattle.circuit_core.specs.Parts.{Parts, layer_values, zero_f}
+use Rattle.circuit_core.specs.Sound.{SoundCircuit, greatest, exponents}
+use Rattle.proof_wire.specs.declared.messages.Messages.{Messages}
+use Rattle.proof_wire.specs.Spelling.{AreOf}
+use Rattle.transcript_fs.specs.Source.{Source, all_draws}
+use Rattle.transcript_fs.specs.Transcript.{start_state, transcript}
+use Rattle.gkr_verify.specs.declared.verdict.Verdict.TheVariants.{Accepted}
+use Rattle.gkr_verify.specs.Acceptance.{challenge_count, claim_of, verdict_of}
+use Rattle.gkr_verify.specs.Shapes.{all_messages}
+use Rattle.gkr_verify.specs.Soundness.{IsFalse, LetsPass}
+use Rattle.arr_compile.specs.Circuits.{IsCompiled, Computes}
+use Rattle.case_text.specs.Content.{Content}
+use Rattle.case_prove.specs.Verified.{IsVerdictOn}
+use Rattle.case_prove.specs.Sound.{HasMeaning, HasExceptionalChallenge}
+
+-- what is known of the circuits of programs, and of the verifier
+pub record IsKnown : Type 0 where
+  pub inputs : (text : List ℕ) (parts : Parts) (is : IsCompiled text parts) → parts.inputs ≡ input_count is.tree.inputs
+  pub computes : (text : List ℕ) (parts : Parts) (is : IsCompiled text parts) (inputs : List F) → length inputs ≡ parts.inputs → Computes is.tree parts inputs
+  pub faultless : (text : List ℕ) (parts : Parts) → IsCompiled text parts → fault_of greatest parts ≡ None
+  pub has_output : (text : List ℕ) (parts : Parts) → IsCompiled text parts → 1 ≤ parts.outputs
+  pub lists : (circuit : SoundCircuit) (inputs outputs : List F) (messages : Messages) (rs : List K) → length outputs ≡ circuit.parts.outputs → AreOf (exponents circuit.parts) messages →
+      let stated = claim_of circuit.parts inputs outputs in let qs = all_messages messages.layers.items in
+      length rs ≡ challenge_count stated → verdict_of stated qs rs ≡ Accepted → IsFalse circuit.parts inputs outputs → (n : ℕ) × LetsPass stated qs rs n
+  pub draws : (circuit : SoundCircuit) (inputs outputs : List F) (messages : Messages) (source : Source) (state : List ℕ) → AreOf (exponents circuit.parts) messages →
+      let stated = claim_of circuit.parts inputs outputs in
+      length (all_draws source state stated.k (all_messages messages.layers.items)) ≡ challenge_count stated
+
+no_fault : {X : Type 0} (o : Option X) → o ≡ None → IsTrue (is_none o)
+no_fault o e = subst (λ p. IsTrue (is_none p)) (sym e) refl
+
+-- the first values behind position 0, as many as there are outputs
+front : (xs ys : List F) → take (length xs) (xs ++ ys) ≡ xs
+front [] ys = refl
+front (x ∷ xs) ys = ap (λ (zs : List F). x ∷ zs) (front xs ys)
+
+-- outputs that the circuit has are the program's meaning
+meant : IsKnown → (c : Content) (is : IsVerdictOn c Accepted) → is.outputs ≡ take (length is.outputs) (drop 1 (layer_values is.parts c.inputs 0)) → HasMeaning c
+meant known c is same =
+    let compiled = is.claim.compiled in
+    let values = known.computes c.program is.parts compiled c.inputs is.claim.counted in
+    let as_many : length is.outputs ≡ length values.outputs = is.as_many ∙ sym values.as_many in
+    let are : is.outputs ≡ values.outputs =
+    same
+    ∙ ap (λ (table : List F). take (length is.outputs) (drop 1 table)) values.values_are
+    ∙ ap (λ (n : ℕ). take n (values.outputs ++ replicate values.zeros zero_f)) as_many
+    ∙ front values.outputs (replicate values.zeros zero_f) in
+    record {
+      outputs = is.outputs;
+      outputs_are = is.claim.outputs_are;
+      evaluated = record {
+        tree = compiled.tree;
+        accepted = compiled.lowered.accepted;
+        counted = is.claim.counted ∙ known.inputs c.program is.parts compiled;
+        meaning_is = values.meaning_is ∙ ap (λ (xs : List F). Some xs) (sym are);
+      };
+    }
+
+pub sound : IsKnown → (c : Content) → IsVerdictOn c Accepted → ¬ HasMeaning c → (n : ℕ) × HasExceptionalChallenge c n
+sound known c is wrong =
+    let circuit : SoundCircuit = record {
+      parts = is.parts;
+      faultless = no_fault (fault_of greatest is.parts) (known.faultless c.program is.parts is.claim.compiled);
+      has_output = known.has_output c.program is.parts is.claim.compiled;
+    } in
+    let state = start_state c.program c.inputs is.outputs in
+    let stated = claim_of is.parts c.inputs is.outputs in
+    let rs = all_draws transcript state stated.k (all_messages is.messages.layers.items) in
+    let found = known.lists circuit c.inputs is.outputs is.messages rs is.as_many is.of_shape (known.draws circuit c.inputs is.outputs is.messages transcript state is.of_shape) (sym is.verdict_is) (λ same. wrong (meant known c is same)) in (
+      found.0,
+      record {
+        parts = is.parts;
+        outputs = is.outputs;
+        claim = is.claim;
+        messages = is.messages;
+        of_shape = is.of_shape;
+        spelled = is.spelled;
+        passes = found.1;
+      },
+    )

@@ -1,0 +1,107 @@
+-- The verifier accepts what is proved, and there is one of it.
+use Rattle.std.proofs.Common.{◌≡◌, ℕ, List, [], ◌∷◌, ◌++◌, Some, length, take, drop, refl, sym, ap, ◌∙◌, subst}
+use Rattle.std.specs.List.{flat_map}
+use Rattle.std.proofs.lemmas.List.{append-nil}
+use Rattle.std.proofs.lemmas.List.Concat.{flat_map-append}
+use Rattle.field_ext.specs.Field.{F, K}
+use Rattle.field_ext.specs.Bytes.{bytes_of}
+use Rattle.circuit_core.specs.Parts.{Parts, layer_values}
+use Rattle.circuit_core.specs.Sound.{SoundCircuit, exponent_at, exponents}
+use Rattle.wiring_poly.specs.Layers.{GateLayer, layers_of, message_count}
+use Rattle.transcript_fs.specs.Source.{Source, coordinates, state_after_coordinates, draws, all_draws}
+use Rattle.transcript_fs.specs.Transcript.{start_state, transcript}
+use Rattle.proof_wire.specs.declared.messages.Round.{Round}
+use Rattle.proof_wire.specs.declared.messages.LayerMessages.{LayerMessages}
+use Rattle.proof_wire.specs.declared.messages.Messages.{Messages}
+use Rattle.proof_wire.specs.Spelling.{AreOf, coefficients_of, layer_coefficients, all_coefficients, magic, spelling}
+use Rattle.gkr_verify.specs.declared.verdict.Verdict.TheVariants.{Accepted}
+use Rattle.gkr_verify.specs.Acceptance.{claim_of, verdict_of}
+use Rattle.gkr_verify.specs.Shapes.{messages_of, all_messages, round_messages}
+use Rattle.gkr_verify.proofs.ShapeSteps.{have_shape}
+use Rattle.gkr_prove.specs.Honest.{AreHonest, IsHonestProof, input_table}
+use Rattle.gkr_prove.proofs.Accepted.{length-all}
+use Rattle.arr_compile.specs.Circuits.{IsCompiled}
+use Rattle.case_text.specs.Content.{Content}
+use Rattle.case_prove.specs.Proved.{IsProved}
+use Rattle.case_prove.specs.Verified.{IsVerdictOn}
+use Rattle.case_prove.proofs.ProvedOutputs.{OneTree, InputsAre, IsComputed, sound, one_meaning, meaning_there}
+
+-- ---- acceptance
+
+abbrev pub HonestIsAccepted : Type 0
+HonestIsAccepted = (c : SoundCircuit) (inputs outputs : List F) (source : Source) (s : List ℕ) (messages : Messages) → length outputs ≡ c.parts.outputs →
+    outputs ≡ take (length outputs) (drop 1 (layer_values c.parts inputs 0)) → AreOf (exponents c.parts) messages → IsHonestProof c.parts inputs source s (all_messages messages.layers.items) →
+    verdict_of (claim_of c.parts inputs outputs) (all_messages messages.layers.items) (all_draws source s (exponent_at c.parts 0) (all_messages messages.layers.items)) ≡ Accepted
+
+pub accepted : OneTree → InputsAre → IsComputed → HonestIsAccepted → (c p : Content) → IsProved c p → IsVerdictOn p Accepted
+accepted one inputs_are computes honest c p is =
+    let there = meaning_there one inputs_are computes c is.parts is.compiled is.outputs is.evaluated in
+    let verdict = honest (sound c.program is.parts is.compiled) c.inputs is.outputs transcript (start_state c.program c.inputs is.outputs) is.messages there.as_many there.stand is.of_shape is.honest in
+    subst (λ (q : Content). IsVerdictOn q Accepted) (sym is.proved_is) (record {
+      parts = is.parts;
+      outputs = is.outputs;
+      claim = record { compiled = is.compiled; counted = there.counted; outputs_are = refl };
+      as_many = there.as_many;
+      messages = is.messages;
+      of_shape = is.of_shape;
+      spelled = refl;
+      verdict_is = sym verdict;
+    })
+
+-- ---- one proof
+
+-- messages as one list of coefficients
+abbrev flat : List (List K) → List K
+flat qs = flat_map (λ q. q) qs
+
+flat_rounds : (rounds : List Round) → flat (round_messages rounds) ≡ flat_map coefficients_of rounds
+flat_rounds [] = refl
+flat_rounds (round ∷ rounds) = ap (λ (xs : List K). coefficients_of round ++ xs) (flat_rounds rounds)
+
+flat_layer : (m : LayerMessages) (qs : List (List K)) → flat (messages_of m ++ qs) ≡ layer_coefficients m ++ flat qs
+flat_layer m qs =
+    flat_map-append (λ (q : List K). q) (messages_of m) qs
+    ∙ ap (λ (xs : List K). xs ++ flat qs)
+    (flat_map-append (λ (q : List K). q) (round_messages m.rounds.items) (m.line.items ∷ [])
+    ∙ ap (λ (xs : List K). xs ++ (m.line.items ++ [])) (flat_rounds m.rounds.items)
+    ∙ ap (λ (xs : List K). flat_map coefficients_of m.rounds.items ++ xs) (append-nil m.line.items))
+
+flat_messages : (ms : List LayerMessages) → flat (all_messages ms) ≡ all_coefficients ms
+flat_messages [] = refl
+flat_messages (m ∷ ms) = flat_layer m (all_messages ms) ∙ ap (λ (xs : List K). layer_coefficients m ++ xs) (flat_messages ms)
+
+-- messages that are one list have one spelling
+same_spelling : (a b : Messages) → all_messages a.layers.items ≡ all_messages b.layers.items → spelling a ≡ spelling b
+same_spelling a b e = ap (λ (xs : List K). magic ++ flat_map bytes_of xs) (sym (flat_messages a.layers.items) ∙ ap flat e ∙ flat_messages b.layers.items)
+
+abbrev pub OneCircuit : Type 0
+OneCircuit = (text : List ℕ) (a b : Parts) → IsCompiled text a → IsCompiled text b → a ≡ b
+
+abbrev pub HonestIsUnique : Type 0
+HonestIsUnique = (layers : List GateLayer) (input z : List K) (source : Source) (s : List ℕ) (qs others : List (List K)) → length qs ≡ message_count layers → length others ≡ message_count layers →
+    AreHonest layers input z qs (draws source s qs) → AreHonest layers input z others (draws source s others) → qs ≡ others
+
+count : (p : Parts) (messages : Messages) → AreOf (exponents p) messages → length (all_messages messages.layers.items) ≡ message_count (layers_of p)
+count p messages shape = length-all (layers_of p) messages.layers.items (have_shape p messages shape)
+
+one_proof : HonestIsUnique → (p : Parts) (inputs : List F) (s : List ℕ) (a b : Messages) → AreOf (exponents p) a → AreOf (exponents p) b →
+    IsHonestProof p inputs transcript s (all_messages a.layers.items) → IsHonestProof p inputs transcript s (all_messages b.layers.items) → spelling a ≡ spelling b
+one_proof unique p inputs s a b shape shape' honest honest' =
+    let k : ℕ = exponent_at p 0 in
+    same_spelling a b
+    (unique (layers_of p) (input_table p inputs) (coordinates transcript s k) transcript (state_after_coordinates transcript s k) (all_messages a.layers.items) (all_messages b.layers.items)
+    (count p a shape) (count p b shape') honest honest')
+
+pub one_proved : OneTree → OneCircuit → HonestIsUnique → (c p q : Content) → IsProved c p → IsProved c q → p ≡ q
+one_proved one circuit unique c p q is is' =
+    let parts : is.parts ≡ is'.parts = circuit c.program is.parts is'.parts is.compiled is'.compiled in
+    let outputs : is.outputs ≡ is'.outputs = one_meaning one c is.outputs is'.outputs is.evaluated is'.evaluated in
+    let shape = subst (λ (p : Parts). AreOf (exponents p) is.messages) parts is.of_shape in
+    let honest = coe 0 1 (i. IsHonestProof (parts i) c.inputs transcript (start_state c.program c.inputs (outputs i)) (all_messages is.messages.layers.items)) is.honest in
+    let proof : spelling is.messages ≡ spelling is'.messages = one_proof unique is'.parts c.inputs (start_state c.program c.inputs is'.outputs) is.messages is'.messages shape is'.of_shape honest is'.honest in
+    is.proved_is ∙ (λ i. record { program = c.program; inputs = c.inputs; outputs = Some (outputs i); proof = Some (proof i) }) ∙ sym is'.proved_is
+
+-- cases of the same parts are the same
+pub same_content : (program program' : List ℕ) (inputs inputs' outputs : List F) (proof proof' : List ℕ) → program ≡ program' → inputs ≡ inputs' → proof ≡ proof' →
+    ◌≡◌ {A = Content} (record { program = program; inputs = inputs; outputs = Some outputs; proof = Some proof }) (record { program = program'; inputs = inputs'; outputs = Some outputs; proof = Some proof' })
+same_content program program' inputs inputs' outputs proof proof' e f g = λ i. record { program = e i; inputs = f i; outputs = Some outputs; proof = Some (g i) }

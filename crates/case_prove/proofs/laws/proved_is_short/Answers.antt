@@ -1,0 +1,18 @@
+use Rattle.std.proofs.Common.{◌≡◌, ◌<◌, ◌≤◌, length, sym, subst, arith}
+use Rattle.circuit_core.specs.Sound.{exponents}
+use Rattle.proof_wire.specs.Spelling.{spelling, length_of}
+use Rattle.case_text.specs.Content.{Content}
+use Rattle.case_text.specs.Spelling.{lower_case_text}
+use Rattle.case_prove.proofs.ProvedOutputs.{sound, meaning_there}
+use Rattle.case_prove.proofs.ProvedSizes.{few_outputs, short_proof}
+use Rattle.case_prove.proofs.ProvedText.{short}
+use Rattle.case_prove.proofs.laws.proved_is_short.Goals as goal
+
+pub returns : goal.returns
+returns c case proved fit is =
+    let there = meaning_there c.one_tree.ensures c.circuit_computes.ensures.inputs c.circuit_computes.ensures.computes case is.parts is.compiled is.outputs is.evaluated in
+    let circuit = sound case.program is.parts is.compiled in
+    let size : length (spelling is.messages) ≡ length_of (exponents is.parts) = c.one_length.ensures (exponents is.parts) is.messages is.of_shape in
+    let few : length is.outputs ≤ 65535 = omega (arith, there.as_many, few_outputs circuit) in
+    let small : length (spelling is.messages) ≤ 231428 = omega (arith, size, short_proof circuit) in
+    subst (λ (p : Content). length (lower_case_text p) < 4194304) (sym is.proved_is) (short case.program case.inputs is.outputs (spelling is.messages) fit.program fit.inputs few small)

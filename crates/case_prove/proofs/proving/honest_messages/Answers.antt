@@ -1,0 +1,17 @@
+-- The transcript is that of the case and its outputs.
+use Rattle.std.proofs.Common.{◌≡◌, ◌∙◌, List, ℕ, subst}
+use Rattle.std.proofs.lemmas.Result.{IfOk-weaker}
+use Rattle.transcript_fs.specs.Transcript.{start_state, transcript}
+use Rattle.gkr_verify.specs.Shapes.{all_messages}
+use Rattle.gkr_prove.specs.Honest.{IsHonestProof}
+use Rattle.case_prove.proofs.Statements.{same_start}
+use Rattle.case_prove.proofs.proving.honest_messages.Goals as goal
+
+pub returns-clause-honest : goal.returns-clause-honest
+returns-clause-honest g c =
+    let case = c.args.case.now in
+    let start : c.start-challenges.result.state ≡ start_state c.args.case.now.program c.args.case.now.inputs c.args.outputs.now =
+    same_start _ case.program _ case.inputs _ c.args.outputs.now _ (c.of-statement.ensures.text ∙ c.program.ensures.program) (c.of-statement.ensures.inputs ∙ c.inputs.ensures.inputs) c.of-statement.ensures.outputs c.start-challenges.ensures in
+    IfOk-weaker c.prove.result _ _
+    (λ messages honest. subst (λ (s : List ℕ). IsHonestProof c.args.circuit.now.parts case.inputs transcript s (all_messages messages.layers.items)) start (honest case.inputs c.requires.tables))
+    c.prove.ensures.honest

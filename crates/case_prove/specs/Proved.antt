@@ -1,0 +1,25 @@
+-- What the prover says of a case: the case with its outputs and the proof of them.
+use Rattle.std.specs.Prelude.{◌≡◌, List, Some}
+use Rattle.field_ext.specs.Field.{F}
+use Rattle.circuit_core.specs.Parts.{Parts}
+use Rattle.circuit_core.specs.Sound.{exponents}
+use Rattle.proof_wire.specs.declared.messages.Messages.{Messages}
+use Rattle.proof_wire.specs.Spelling.{AreOf, spelling}
+use Rattle.transcript_fs.specs.Transcript.{start_state, transcript}
+use Rattle.gkr_verify.specs.Shapes.{all_messages}
+use Rattle.gkr_prove.specs.Honest.{IsHonestProof}
+use Rattle.arr_compile.specs.Circuits.{IsCompiled}
+use Rattle.case_text.specs.Content.{Content}
+use Rattle.case_prove.specs.Evaluated.{IsEvaluated}
+
+-- The case's program has a circuit, its meaning on the case's inputs are these outputs, and the second case is the first with these
+-- outputs and the spelling of the honest messages for the challenges of the transcript of program, inputs and outputs.
+pub record IsProved (c proved : Content) : Type 0 where
+  pub parts : Parts
+  pub compiled : IsCompiled c.program parts
+  pub outputs : List F
+  pub evaluated : IsEvaluated c outputs
+  pub messages : Messages
+  pub of_shape : AreOf (exponents parts) messages
+  pub honest : IsHonestProof parts c.inputs transcript (start_state c.program c.inputs outputs) (all_messages messages.layers.items)
+  pub proved_is : proved ≡ record { program = c.program; inputs = c.inputs; outputs = Some outputs; proof = Some (spelling messages) }

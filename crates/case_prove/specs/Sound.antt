@@ -1,0 +1,34 @@
+-- What an accepted case with other outputs than its program's meaning has.
+use Rattle.std.specs.Prelude.{◌≡◌, ℕ, List, Some}
+use Rattle.field_ext.specs.Field.{F}
+use Rattle.circuit_core.specs.Parts.{Parts}
+use Rattle.circuit_core.specs.Sound.{exponents}
+use Rattle.proof_wire.specs.declared.messages.Messages.{Messages}
+use Rattle.proof_wire.specs.Spelling.{AreOf, spelling}
+use Rattle.transcript_fs.specs.Source.{all_draws}
+use Rattle.transcript_fs.specs.Transcript.{start_state, transcript}
+use Rattle.gkr_verify.specs.Acceptance.{claim_of}
+use Rattle.gkr_verify.specs.Shapes.{all_messages}
+use Rattle.gkr_verify.specs.Soundness.{LetsPass}
+use Rattle.case_text.specs.Content.{Content}
+use Rattle.case_prove.specs.Evaluated.{IsEvaluated}
+use Rattle.case_prove.specs.Verified.{IsClaim}
+
+-- The case's outputs are its program's meaning on its inputs.
+pub record HasMeaning (c : Content) : Type 0 where
+  pub outputs : List F
+  pub outputs_are : c.outputs ≡ Some outputs
+  pub evaluated : IsEvaluated c outputs
+
+-- Challenge n of the case's own transcript is one of the few that are exceptional after the messages and challenges before it.
+pub record HasExceptionalChallenge (c : Content) (n : ℕ) : Type 0 where
+  pub parts : Parts
+  pub outputs : List F
+  pub claim : IsClaim c parts outputs
+  pub messages : Messages
+  pub of_shape : AreOf (exponents parts) messages
+  pub spelled : c.proof ≡ Some (spelling messages)
+  pub passes :
+      let stated = claim_of parts c.inputs outputs in
+      let qs = all_messages messages.layers.items in
+      LetsPass stated qs (all_draws transcript (start_state c.program c.inputs outputs) stated.k qs) n

@@ -1,0 +1,119 @@
+//! The proof of a case.
+
+ghost use Rattle.std.specs.Prelude.{◌≡◌, ◌<◌, ◌^◌, length, map, take, drop, IfOk, IfErr};
+ghost use Rattle.circuit_core.specs.Sound.{exponents};
+ghost use Rattle.circuit_eval.specs.Tables.{AreTables};
+ghost use Rattle.proof_wire.specs.Spelling.{AreOf};
+ghost use Rattle.transcript_fs.specs.Transcript.{start_state, transcript};
+ghost use Rattle.gkr_verify.specs.Shapes.{all_messages};
+ghost use Rattle.gkr_prove.specs.Honest.{IsHonestProof};
+ghost use Rattle.arr_compile.specs.Circuits.{IsCompiled};
+ghost use Rattle.case_prove.specs.Circuits.{RefusesCircuit};
+ghost use Rattle.case_prove.specs.Proved.{IsProved};
+
+use crate::refused::{Refused, program_refused};
+use arr_compile::compile;
+use arr_compile::laws::circuit_computes;
+use case_text::Case;
+use circuit_core::Circuit;
+use circuit_eval::{Values, layer_values};
+use field_ext::Fp;
+use gkr_prove::prove;
+use io_edge::Gate;
+use mle_table::Table;
+use proof_wire::laws::one_length;
+use proof_wire::{Messages, encode};
+use std::alloc::{AllocError, Global};
+use std::marker::Sync;
+use std::thread::Threads;
+use transcript_fs::laws::always_has;
+use transcript_fs::{Statement, Transcript};
+
+/// The case with its program's meaning on its inputs as outputs, and with the one honest proof of them. It is refused as
+/// `Program` exactly where the program's text or its layout is refused so, and else as `Input` exactly where the numbers of
+/// inputs differ. Outputs and proof of the given case play no part. The worker passes no gate.
+pub fn prove_case<R: Threads + Sync, G: Gate>(
+    rt: &R,
+    alloc: Global,
+    case: &Case,
+    workers: u32,
+    gate: &G,
+) -> Result<Case, Refused>
+    requires one_worker { workers ≡ 1 }
+    ensures proved { IfOk result (λ proved. IsProved case.now proved) }
+    ensures refused { IfErr result (λ refused. RefusesCircuit case.now refused) }
+{
+    let compiled = match compile(alloc, case.program()) {
+        Ok(compiled) => compiled,
+        Err(refused) => return Err(program_refused(refused)),
+    };
+    let have = case.inputs().len() as u64;
+    let need = u64::from(compiled.circuit.inputs());
+    if have != need {
+        return Err(Refused::Input { have, need });
+    }
+    match prove_claim(rt, alloc, case, &compiled.circuit, workers, gate) {
+        Ok(proved) => Ok(proved),
+        Err(_) => Err(Refused::Memory),
+    }
+}
+
+/// The case with its outputs and their proof, where its program is laid out as this circuit.
+fn prove_claim<R: Threads + Sync, G: Gate>(
+    rt: &R,
+    alloc: Global,
+    case: &Case,
+    circuit: &Circuit,
+    workers: u32,
+    gate: &G,
+) -> Result<Case, AllocError>
+    requires compiled { IsCompiled case.now.program circuit.now.parts }
+    requires counted { length case.now.inputs ≡ circuit.now.parts.inputs }
+    requires one_worker { workers ≡ 1 }
+    ensures { IfOk result (λ proved. IsProved case.now proved) }
+{
+    circuit_computes();
+    one_length();
+    let values = layer_values(rt, alloc, circuit, case.inputs())?;
+    let outputs = real_parts(alloc, values.table(0), circuit.outputs() as usize)?;
+    let messages = honest_messages(alloc, case, circuit, &values, &outputs, workers, gate)?;
+    let proof = encode(alloc, &messages)?;
+    let program = Vec::from_slice(alloc, case.program())?;
+    let inputs = Vec::from_slice(alloc, case.inputs())?;
+    Ok(Case::new(program, inputs, Some(outputs), Some(proof)))
+}
+
+/// The parts without `i` of so many values of a table, from position 1 on.
+fn real_parts(alloc: Global, table: &Table, count: usize) -> Result<Vec<Fp>, AllocError>
+    requires { count < length table.now.items }
+    ensures { IfOk result (λ parts. parts.items ≡ map (λ x. x.re) (take count (drop 1 table.now.items))) }
+{
+    let mut parts = Vec::with_capacity(alloc, count)?;
+    for position in 0..count {
+        parts.push(table.at(position + 1).re())?;
+    }
+    Ok(parts)
+}
+
+/// The honest messages of the claim that the case's program has these outputs on its inputs, with the challenges of the
+/// transcript of these three.
+fn honest_messages<G: Gate>(
+    alloc: Global,
+    case: &Case,
+    circuit: &Circuit,
+    values: &Values,
+    outputs: &[Fp],
+    workers: u32,
+    gate: &G,
+) -> Result<Messages, AllocError>
+    requires one_worker { workers ≡ 1 }
+    requires tables { AreTables circuit.now.parts case.now.inputs values.now }
+    requires few { length outputs.now < 2 ^ 32 }
+    ensures honest { IfOk result (λ messages. IsHonestProof circuit.now.parts case.now.inputs transcript (start_state case.now.program case.now.inputs outputs.now) (all_messages messages.layers.items)) }
+    ensures shape { IfOk result (λ messages. AreOf (exponents circuit.now.parts) messages) }
+{
+    always_has();
+    let statement = Statement::of(case.program(), case.inputs(), outputs);
+    let mut challenges = Transcript::start(&statement);
+    prove(alloc, circuit, values, &mut challenges, workers, gate)
+}

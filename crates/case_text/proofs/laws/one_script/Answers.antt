@@ -1,6 +1,0 @@
--- Bytes spell at most one script.
-use Rattle.case_text.proofs.Readings.{script_one}
-use Rattle.case_text.proofs.laws.one_script.Goals as goal
-
-pub returns : goal.returns
-returns c = script_one

@@ -1,0 +1,338 @@
+//! The commands `prove` and `demo` over inputs in memory, by status and bytes.
+
+use gkr_cmd::{Status, gkr_run};
+use io_edge::{MemorySink, MemorySource, OpenGate};
+use sha2::{Digest, Sha256};
+use std::alloc::{AllocError, Global};
+use std::marker::Sync;
+use std::process::Abort;
+use std::sync::Wait;
+use std::test::Fail;
+use std::thread::Threads;
+
+/// A program, the words of its line of inputs and of its line of outputs, and how many bytes its proof has.
+#[derive(Clone, Copy)]
+struct Claim {
+    program: &'static [u8],
+    inputs: &'static [u8],
+    outputs: &'static [u8],
+    proof: usize,
+}
+
+const fn stated(
+    program: &'static [u8],
+    inputs: &'static [u8],
+    outputs: &'static [u8],
+    proof: usize,
+) -> Claim {
+    Claim {
+        program,
+        inputs,
+        outputs,
+        proof,
+    }
+}
+
+/// Runs the program with these words, and sees how it ends; answers what it writes.
+fn written<R: Threads + Wait + Sync + Abort + AllocGlobal>(
+    rt: &R,
+    words: &[&str],
+    input: &[u8],
+    status: Status,
+) -> Result<Vec<u8>, Fail> {
+    let alloc = rt.alloc();
+    let mut owned = Vec::new(alloc);
+    for word in words {
+        owned.push(String::from_str(alloc, word)?)?;
+    }
+    let mut source = MemorySource::new(alloc, input, 4096, &[])?;
+    let mut sink = MemorySink::new(alloc, 262_144, 4096, &[])?;
+    let ended = gkr_run(rt, alloc, &owned, &mut source, &mut sink, &OpenGate);
+    assert_eq!(rt; ended, status);
+    Ok(Vec::from_slice(alloc, sink.bytes())?)
+}
+
+/// The text of a case up to its last line.
+fn opened(alloc: Global, program: &[u8], inputs: &[u8]) -> Result<Vec<u8>, AllocError> {
+    let mut text = Vec::new(alloc);
+    text.extend_from_slice(b"gkr case 1\nprogram ")?;
+    text.extend_from_slice(format!(in alloc; "{}", program.len())?.as_bytes())?;
+    text.push(b'\n')?;
+    text.extend_from_slice(program)?;
+    text.extend_from_slice(b"\ninput ")?;
+    text.extend_from_slice(inputs)?;
+    text.push(b'\n')?;
+    Ok(text)
+}
+
+/// The text of a case.
+fn plain(alloc: Global, program: &[u8], inputs: &[u8]) -> Result<Vec<u8>, AllocError> {
+    let mut text = opened(alloc, program, inputs)?;
+    text.extend_from_slice(b"end\n")?;
+    Ok(text)
+}
+
+/// The text of a proved case up to the digits of its proof.
+fn claimed(alloc: Global, row: &Claim) -> Result<Vec<u8>, AllocError> {
+    let mut text = opened(alloc, row.program, row.inputs)?;
+    text.extend_from_slice(b"output ")?;
+    text.extend_from_slice(row.outputs)?;
+    text.extend_from_slice(format!(in alloc; "\nproof {}\n", row.proof)?.as_bytes())?;
+    Ok(text)
+}
+
+/// Proves a case, sees everything but the digits of its proof, and verifies it; answers the digits.
+fn proves<R: Threads + Wait + Sync + Abort + AllocGlobal>(
+    rt: &R,
+    row: &Claim,
+) -> Result<Vec<u8>, Fail> {
+    let alloc = rt.alloc();
+    let case = plain(alloc, row.program, row.inputs)?;
+    let text = written(rt, &["gkr", "prove"], &case, Status::Done)?;
+    let front = claimed(alloc, row)?;
+    assert!(rt; text.starts_with(&front));
+    let rest = text.get(front.len()..).unwrap_or(b"");
+    assert!(rt; rest.ends_with(b"\nend\n"));
+    let digits = rest.get(..rest.len().saturating_sub(5)).unwrap_or(b"");
+    assert_eq!(rt; digits.len() / 2, row.proof);
+    let verdict = written(rt, &["gkr", "verify"], &text, Status::Done)?;
+    assert_eq!(rt; verdict.as_slice(), &b"accepted\n"[..]);
+    Ok(Vec::from_slice(alloc, digits)?)
+}
+
+/// The digits of `GKR1` and so many zeros.
+fn zero_digits(alloc: Global, zeros: usize) -> Result<Vec<u8>, AllocError> {
+    let mut digits = Vec::from_slice(alloc, b"474b5231")?;
+    for _ in 0..zeros {
+        digits.extend_from_slice(b"00")?;
+    }
+    Ok(digits)
+}
+
+#[test]
+fn proves_zeros_by_zeros(rt: HostRuntime) -> Result<(), Fail> {
+    for row in [
+        stated(b"input a; output a;", b"1 0", b"1 0", 68),
+        stated(b"input a; input b; output a*b;", b"2 0 0", b"1 0", 188),
+    ] {
+        let digits = proves(&rt, &row)?;
+        let zeros = zero_digits(rt.alloc(), row.proof.saturating_sub(4))?;
+        assert_eq!(rt; digits.as_slice(), zeros.as_slice());
+    }
+    Ok(())
+}
+
+#[test]
+fn verifies_what_it_proves(rt: HostRuntime) -> Result<(), Fail> {
+    for row in [
+        stated(b"input a; input b; output a*b;", b"2 3 4", b"1 12", 188),
+        stated(b"input a; output a;", b"1 5", b"1 5", 68),
+        stated(b"output 7;", b"0", b"1 7", 68),
+        stated(b"input a; output a; output a;", b"1 5", b"2 5 5", 68),
+        stated(
+            b"input a; input b; output a-b;",
+            b"2 0 1",
+            b"1 2147483646",
+            308,
+        ),
+        stated(b"input v[3]; output sum(v);", b"3 1 2 3", b"1 6", 308),
+        stated(
+            b"input v[2]; output dot(v,v+v); output scale(2,v)*v; output -v[0];",
+            b"2 1 2",
+            b"4 10 2 8 2147483646",
+            708,
+        ),
+        stated(
+            b"input a[2][3]; input b[3][2]; output matmul(a,b);",
+            b"12 1 2 3 4 5 6 1 2 3 4 5 6",
+            b"4 22 28 49 64",
+            876,
+        ),
+        stated(
+            b"input a[2][2]; output transpose(a); output (a[0][1]-3)*4;",
+            b"4 1 2 3 4",
+            b"5 1 3 2 4 2147483643",
+            708,
+        ),
+        stated(
+            b"input v[3]; let s = 0; for i in 0..3 { s = s+v[i]*i; } output s;",
+            b"3 4 5 6",
+            b"1 17",
+            660,
+        ),
+        stated(
+            b"input v[2]; let w = v; for i in 0..2 { w[i] = v[1-i]; } output w;",
+            b"2 8 9",
+            b"2 9 8",
+            124,
+        ),
+    ] {
+        proves(&rt, &row)?;
+    }
+    Ok(())
+}
+
+/// The circuit has the greatest height: 255 sums above each other, and the input carried beside them.
+#[test]
+fn proves_at_the_greatest_height(rt: HostRuntime) -> Result<(), Fail> {
+    let program = b"input a; let s = a; for i in 0..255 { s = s+a; } output s;";
+    proves(&rt, &stated(program, b"1 1", b"1 256", 30_612))?;
+    Ok(())
+}
+
+#[test]
+fn refuses_what_it_cannot_prove(rt: HostRuntime) -> Result<(), Fail> {
+    for (program, inputs, status, reply) in [
+        (
+            &b"output 3 4;"[..],
+            &b"0"[..],
+            Status::BadProgram,
+            &b"refused program syntax 9\n"[..],
+        ),
+        (
+            b"input a[256][256]; output sum(a);",
+            b"0",
+            Status::BadProgram,
+            b"refused program wide 0 65537\n",
+        ),
+        (
+            b"input a; let s = a; for i in 0..300 { s = s+a; } output s;",
+            b"0",
+            Status::BadProgram,
+            b"refused program deep 301\n",
+        ),
+        (
+            b"input a; input b; output a*b;",
+            b"1 3",
+            Status::BadCount,
+            b"refused count input 1 2\n",
+        ),
+        (
+            b"input a; output a;",
+            b"1 05",
+            Status::BadCase,
+            b"refused case number 50\n",
+        ),
+        (
+            b"input a; output a;",
+            b"1 5\noutput 1 5",
+            Status::BadCase,
+            b"refused case section 51\n",
+        ),
+    ] {
+        let case = plain(rt.alloc(), program, inputs)?;
+        let text = written(&rt, &["gkr", "prove"], &case, status)?;
+        assert_eq!(rt; text.as_slice(), reply);
+    }
+    Ok(())
+}
+
+/// The value of a hex digit in lower case.
+fn digit(byte: u8) -> u8 {
+    if byte.is_ascii_digit() {
+        byte.wrapping_sub(b'0')
+    } else {
+        byte.wrapping_sub(b'a').wrapping_add(10)
+    }
+}
+
+/// The line of the digest of the bytes that these digits spell.
+fn digest_line(alloc: Global, digits: &[u8]) -> Result<Vec<u8>, AllocError> {
+    let mut bytes = Vec::new(alloc);
+    for pair in digits.chunks_exact(2) {
+        if let [high, low] = pair {
+            bytes.push(digit(*high).wrapping_mul(16).wrapping_add(digit(*low)))?;
+        }
+    }
+    let mut line = Vec::from_slice(alloc, b"digest ")?;
+    for byte in &Sha256::digest(bytes.as_slice()) {
+        line.extend_from_slice(format!(in alloc; "{:02x}", *byte)?.as_bytes())?;
+    }
+    line.push(b'\n')?;
+    Ok(line)
+}
+
+#[test]
+fn tells_of_the_generated_case(rt: HostRuntime) -> Result<(), Fail> {
+    let alloc = rt.alloc();
+    let program = b"input a[2][2]; input b[2][2]; output sum(matmul(a,b));";
+    for (number, inputs, output, lines) in [
+        (
+            "0",
+            &b"8 1 2 3 4 5 6 7 8"[..],
+            &b"1 134"[..],
+            &b"demo 0\nsize 2\noutput 134\nlayers 5\nproof 828\n"[..],
+        ),
+        (
+            "4294967295",
+            b"8 2 3 4 5 6 7 8 9",
+            b"1 214",
+            b"demo 4294967295\nsize 2\noutput 214\nlayers 5\nproof 828\n",
+        ),
+    ] {
+        let digits = proves(&rt, &stated(program, inputs, output, 828))?;
+        let mut want = Vec::from_slice(alloc, lines)?;
+        want.extend_from_slice(&digest_line(alloc, &digits)?)?;
+        want.extend_from_slice(b"accepted\n")?;
+        let text = written(&rt, &["gkr", "demo", number], b"", Status::Done)?;
+        assert_eq!(rt; text.as_slice(), want.as_slice());
+    }
+    Ok(())
+}
+
+#[test]
+fn accepts_the_generated_case_of_each_size(rt: HostRuntime) -> Result<(), Fail> {
+    let alloc = rt.alloc();
+    for number in 0..15u32 {
+        let word = format!(in alloc; "{}", number)?;
+        let text = written(&rt, &["gkr", "demo", word.as_str()], b"", Status::Done)?;
+        let front = format!(in alloc; "demo {}\nsize {}\noutput ", number, number + 2)?;
+        assert!(rt; text.starts_with(front.as_bytes()));
+        assert!(rt; text.ends_with(b"\naccepted\n"));
+    }
+    Ok(())
+}
+
+/// It reads nothing, so a source that fails changes nothing.
+#[test]
+fn reads_nothing_for_the_generated_case(rt: HostRuntime) -> Result<(), Fail> {
+    let alloc = rt.alloc();
+    let want = written(&rt, &["gkr", "demo", "1"], b"", Status::Done)?;
+    let mut words = Vec::new(alloc);
+    for word in ["gkr", "demo", "1"] {
+        words.push(String::from_str(alloc, word)?)?;
+    }
+    let mut source = MemorySource::new(alloc, b"x", 4096, &[1])?;
+    let mut sink = MemorySink::new(alloc, 4096, 5, &[])?;
+    let ended = sees_end(&rt, &words, &mut source, &mut sink);
+    assert_eq!(rt; ended, Status::Done);
+    assert_eq!(rt; sink.bytes(), want.as_slice());
+    Ok(())
+}
+
+fn sees_end<R: Threads + Wait + Sync + Abort + AllocGlobal>(
+    rt: &R,
+    words: &[String],
+    source: &mut MemorySource,
+    sink: &mut MemorySink,
+) -> Status {
+    gkr_run(rt, rt.alloc(), words, source, sink, &OpenGate)
+}
+
+#[test]
+fn refuses_words_that_name_no_number(rt: HostRuntime) -> Result<(), Fail> {
+    for number in ["4294967296", "x", "", "+3", "03", "-1", "0 ", "1e3"] {
+        let text = written(&rt, &["gkr", "demo", number], b"", Status::Usage)?;
+        assert_eq!(rt; text.as_slice(), &b"refused usage\n"[..]);
+    }
+    for words in [
+        &["gkr", "demo"][..],
+        &["gkr", "demo", "0", "0"],
+        &["gkr", "0", "demo"],
+        &["gkr", "prove", "0"],
+    ] {
+        let text = written(&rt, words, b"", Status::Usage)?;
+        assert_eq!(rt; text.as_slice(), &b"refused usage\n"[..]);
+    }
+    Ok(())
+}

@@ -1,0 +1,210 @@
+//! Texts that are no case, words that are no command, inputs that are too long, and ends that fail.
+
+use super::*;
+
+/// A case of 55 bytes, whose one input stands at byte 49.
+const COPIES: &[u8; 55] = b"gkr case 1\nprogram 18\ninput a; output a;\ninput 1 5\nend\n";
+
+#[test]
+fn refuses_texts_that_are_no_case(rt: HostRuntime) -> Result<(), Fail> {
+    for (text, reply) in [
+        (
+            &b"gkr case 1\nprogram 18\ninput a; output a;\ninput 1 5\nend\n "[..],
+            &b"refused case rest 55\n"[..],
+        ),
+        (&b"gkr case 2\n"[..], &b"refused case header 9\n"[..]),
+        (&b"gkr case 1\r\n"[..], &b"refused case header 10\n"[..]),
+        (
+            &b"gkr case 1\nprogram 65537\n"[..],
+            &b"refused case length 23\n"[..],
+        ),
+        (
+            &b"gkr case 1\nprogram 018\n"[..],
+            &b"refused case number 20\n"[..],
+        ),
+        (
+            &b"gkr case 1\nprogram  18\n"[..],
+            &b"refused case number 19\n"[..],
+        ),
+        (
+            &b"gkr case 1\nprogram 18\ninput a; output a;\ninput 1 05\nend\n"[..],
+            &b"refused case number 50\n"[..],
+        ),
+        (
+            &b"gkr case 1\nprogram 18\ninput a; output a;\ninput 2 5\nend\n"[..],
+            &b"refused case number 50\n"[..],
+        ),
+        (
+            &b"gkr case 1\nprogram 18\ninput a; output a;\ninput 1 2147483647\nend\n"[..],
+            &b"refused case range 58\n"[..],
+        ),
+        (
+            &b"gkr case 1\nprogram 18\ninput a; output a;\ninput 262145 5\nend\n"[..],
+            &b"refused case length 52\n"[..],
+        ),
+        (
+            &b"gkr case 1\nprogram 18\ninput a; output a;\ninput 1 5\noutput 1 5\nend\n"[..],
+            &b"refused case section 51\n"[..],
+        ),
+        (
+            &b"gkr case 1\nprogram 18\ninput a; output a;\ninput 1 \xff\nend\n"[..],
+            &b"refused case number 49\n"[..],
+        ),
+    ] {
+        sees(
+            &rt,
+            &["gkr", "eval"],
+            &Ends::steady(text),
+            Status::BadCase,
+            reply,
+        )?;
+    }
+    let alloc = rt.alloc();
+    for len in 0..COPIES.len() {
+        let reply = format!(in alloc; "refused case end {}\n", len)?;
+        sees(
+            &rt,
+            &["gkr", "eval"],
+            &Ends::steady(&COPIES[..len]),
+            Status::BadCase,
+            reply.as_bytes(),
+        )?;
+    }
+    Ok(())
+}
+
+#[test]
+fn refuses_words_and_long_inputs(rt: HostRuntime) -> Result<(), Fail> {
+    let case = Ends::steady(COPIES);
+    let usage = b"refused usage\n";
+    sees(&rt, &[], &case, Status::Usage, usage)?;
+    sees(&rt, &["gkr"], &case, Status::Usage, usage)?;
+    sees(&rt, &["gkr", "evil"], &case, Status::Usage, usage)?;
+    sees(&rt, &["gkr", "eval", "eval"], &case, Status::Usage, usage)?;
+    sees(&rt, &["", "eval"], &case, Status::Done, b"output 1 5\n")?;
+    let long = vec![in rt.alloc(); b'x'; 4_194_305]?;
+    sees(
+        &rt,
+        &["gkr", "eval"],
+        &Ends::steady(&long),
+        Status::TooLong,
+        b"refused long 4194304\n",
+    )?;
+    sees(
+        &rt,
+        &["gkr", "eval"],
+        &Ends::steady(&long[1..]),
+        Status::BadCase,
+        b"refused case header 0\n",
+    )
+}
+
+/// A case of 68 bytes, which takes six reads of 16 bytes, and whose reply of 12 bytes takes three writes of 5.
+const PRODUCT: &[u8; 68] =
+    b"gkr case 1\nprogram 29\ninput a; input b; output a*b;\ninput 2 3 4\nend\n";
+
+#[test]
+fn tells_failures_of_source_and_sink(rt: HostRuntime) -> Result<(), Fail> {
+    let words = ["gkr", "eval"];
+    for read in 1..8u64 {
+        let ends = Ends {
+            input: PRODUCT,
+            piece: 16,
+            failing_reads: &[read],
+            failing_writes: &[],
+        };
+        if read < 7 {
+            sees(&rt, &words, &ends, Status::ReadFault, b"")?;
+        } else {
+            sees(&rt, &words, &ends, Status::Done, b"output 1 12\n")?;
+        }
+    }
+    for (write, status, written) in [
+        (1u64, Status::WriteFault, &b""[..]),
+        (2, Status::WriteFault, &b"outpu"[..]),
+        (3, Status::WriteFault, &b"output 1 1"[..]),
+        (4, Status::Done, &b"output 1 12\n"[..]),
+    ] {
+        let ends = Ends {
+            input: PRODUCT,
+            piece: 16,
+            failing_reads: &[],
+            failing_writes: &[write],
+        };
+        sees(&rt, &words, &ends, status, written)?;
+    }
+    Ok(())
+}
+
+/// A front, a part again and again up to a length, and an end.
+fn repeated(
+    alloc: Global,
+    front: &[u8],
+    part: &[u8],
+    len: usize,
+    end: &[u8],
+) -> Result<Vec<u8>, AllocError> {
+    let mut text = Vec::new(alloc);
+    text.extend_from_slice(front)?;
+    for _ in 0..65_536u32 {
+        if text.len() + part.len() <= len {
+            text.extend_from_slice(part)?;
+        }
+    }
+    text.extend_from_slice(end)?;
+    Ok(text)
+}
+
+#[test]
+fn ends_at_the_longest_programs(rt: HostRuntime) -> Result<(), Fail> {
+    for (front, part, end, status, reply) in [
+        (
+            &b"output "[..],
+            &b"("[..],
+            &b""[..],
+            Status::BadProgram,
+            &b"refused program nesting 71\n"[..],
+        ),
+        (
+            &b"output "[..],
+            &b"-"[..],
+            &b""[..],
+            Status::BadProgram,
+            &b"refused program nesting 71\n"[..],
+        ),
+        (
+            &b"input v[2]; output v["[..],
+            &b"("[..],
+            &b""[..],
+            Status::BadProgram,
+            &b"refused program nesting 84\n"[..],
+        ),
+        (
+            &b""[..],
+            &b"for i in 0..1{"[..],
+            &b""[..],
+            Status::BadProgram,
+            &b"refused program nesting 909\n"[..],
+        ),
+        (
+            &b"output 1"[..],
+            &b"+1"[..],
+            &b";"[..],
+            Status::Done,
+            &b"output 1 32764\n"[..],
+        ),
+        (
+            &b"output 1"[..],
+            &b"*1"[..],
+            &b";"[..],
+            Status::Done,
+            &b"output 1 1\n"[..],
+        ),
+    ] {
+        let program = repeated(rt.alloc(), front, part, 65_535, end)?;
+        assert!(rt; program.len() <= 65_536);
+        let input = case_of(rt.alloc(), &program, b"0")?;
+        sees(&rt, &["gkr", "eval"], &Ends::steady(&input), status, reply)?;
+    }
+    Ok(())
+}

@@ -1,0 +1,157 @@
+//! Verdicts on proofs.
+
+use super::*;
+use sha2::{Digest, Sha256};
+
+/// A case with outputs and a proof.
+#[derive(Clone, Copy)]
+struct Claim<'a> {
+    program: &'a [u8],
+    inputs: &'a [u8],
+    outputs: &'a [u8],
+    proof: &'a [u8],
+}
+
+impl<'a> Claim<'a> {
+    /// The text of the case.
+    fn text(&self, alloc: Global) -> Result<Vec<u8>, AllocError> {
+        let mut text = case_of(alloc, self.program, self.inputs)?;
+        text.truncate(text.len().saturating_sub(4));
+        text.extend_from_slice(b"output ")?;
+        text.extend_from_slice(self.outputs)?;
+        text.extend_from_slice(format!(in alloc; "\nproof {}\n", self.proof.len())?.as_bytes())?;
+        for byte in self.proof {
+            text.extend_from_slice(format!(in alloc; "{:02x}", *byte)?.as_bytes())?;
+        }
+        text.extend_from_slice(b"\nend\n")?;
+        Ok(text)
+    }
+}
+
+/// A front, and so many zeros.
+fn with_zeros(alloc: Global, front: &[u8], count: usize) -> Result<Vec<u8>, AllocError> {
+    let mut proof = Vec::from_slice(alloc, front)?;
+    for _ in 0..count {
+        proof.push(0)?;
+    }
+    Ok(proof)
+}
+
+/// A proof of so many zeros.
+fn zeros(alloc: Global, count: usize) -> Result<Vec<u8>, AllocError> {
+    with_zeros(alloc, b"GKR1", count)
+}
+
+fn verifies<R: Threads + Wait + Sync + Abort + AllocGlobal>(
+    rt: &R,
+    claim: Claim,
+    status: Status,
+    reply: &[u8],
+) -> Result<(), Fail> {
+    let input = claim.text(rt.alloc())?;
+    sees(rt, &["gkr", "verify"], &Ends::steady(&input), status, reply)
+}
+
+#[test]
+fn verifies_proofs_of_zeros(rt: HostRuntime) -> Result<(), Fail> {
+    let alloc = rt.alloc();
+    let proof_of_copy = zeros(alloc, 64)?;
+    let proof_of_product = zeros(alloc, 184)?;
+    let copy = Claim {
+        program: b"input a; output a;",
+        inputs: b"1 0",
+        outputs: b"1 0",
+        proof: &proof_of_copy,
+    };
+    verifies(&rt, copy, Status::Done, b"accepted\n")?;
+    let product = Claim {
+        program: b"input a; input b; output a*b;",
+        inputs: b"2 0 0",
+        outputs: b"1 0",
+        proof: &proof_of_product,
+    };
+    verifies(&rt, product, Status::Done, b"accepted\n")?;
+    let two = Claim {
+        outputs: b"2 0 0",
+        ..product
+    };
+    verifies(&rt, two, Status::BadCount, b"refused count output 2 1\n")?;
+    let one = Claim {
+        inputs: b"1 0",
+        ..two
+    };
+    verifies(&rt, one, Status::BadCount, b"refused count input 1 2\n")?;
+    let deep = Claim {
+        program: b"input a; let s = a; for i in 0..300 { s = s+a; } output s;",
+        ..one
+    };
+    verifies(&rt, deep, Status::BadProgram, b"refused program deep 301\n")
+}
+
+#[test]
+fn refuses_bytes_that_are_no_proof(rt: HostRuntime) -> Result<(), Fail> {
+    let alloc = rt.alloc();
+    let product = Claim {
+        program: b"input a; input b; output a*b;",
+        inputs: b"2 0 0",
+        outputs: b"1 0",
+        proof: b"",
+    };
+    let short = zeros(alloc, 183)?;
+    let long = zeros(alloc, 185)?;
+    let out_of_range = with_zeros(alloc, b"GKR1\xff\xff\xff\x7f", 180)?;
+    let other = with_zeros(alloc, b"GKR2", 184)?;
+    for (proof, reply) in [
+        (short.as_slice(), &b"refused proof short 187 188\n"[..]),
+        (long.as_slice(), &b"refused proof long 1\n"[..]),
+        (&b""[..], &b"refused proof short 0 188\n"[..]),
+        (out_of_range.as_slice(), &b"refused proof range 4\n"[..]),
+        (other.as_slice(), &b"refused proof magic 3\n"[..]),
+    ] {
+        verifies(&rt, Claim { proof, ..product }, Status::BadProof, reply)?;
+    }
+    Ok(())
+}
+
+/// The first challenge of the transcript of `input a; output a;` on 0 with the output 1, by SHA-256 alone.
+fn first_challenge() -> (u64, u64) {
+    let mut hasher = Sha256::new();
+    hasher.update(b"gkr-transcript-1\n".as_slice());
+    hasher.update(b"\x12\0\0\0input a; output a;".as_slice());
+    hasher.update(b"\x01\0\0\0\0\0\0\0\x01\0\0\0\x01\0\0\0".as_slice());
+    let state = hasher.finalize();
+    let mut hasher = Sha256::new();
+    hasher.update(state.as_slice());
+    hasher.update(b"\x02".as_slice());
+    let drawn = hasher.finalize();
+    let re = u64::from_le_bytes([
+        drawn[0], drawn[1], drawn[2], drawn[3], drawn[4], drawn[5], drawn[6], drawn[7],
+    ]);
+    let im = u64::from_le_bytes([
+        drawn[8], drawn[9], drawn[10], drawn[11], drawn[12], drawn[13], drawn[14], drawn[15],
+    ]);
+    (re % 2_147_483_647, im % 2_147_483_647)
+}
+
+#[test]
+fn rejects_false_claims(rt: HostRuntime) -> Result<(), Fail> {
+    let alloc = rt.alloc();
+    let one = with_zeros(alloc, b"GKR1\x01", 63)?;
+    let five = Claim {
+        program: b"input a; output a;",
+        inputs: b"1 5",
+        outputs: b"1 0",
+        proof: &one,
+    };
+    verifies(&rt, five, Status::Rejected, b"rejected sum 0 1 2,0 0,0\n")?;
+    let (re, im) = first_challenge();
+    let reply = format!(in alloc; "rejected sum 0 1 0,0 {},{}\n", re, im)?;
+    let proof = zeros(alloc, 64)?;
+    let zero = Claim {
+        inputs: b"1 0",
+        outputs: b"1 1",
+        proof: &proof,
+        ..five
+    };
+    verifies(&rt, zero, Status::Rejected, reply.as_bytes())
+}

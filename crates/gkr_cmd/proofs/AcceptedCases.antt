@@ -1,0 +1,53 @@
+-- Where `verify` ends well the case is accepted, and if its outputs aren't the meaning, some challenge is exceptional.
+use Rattle.std.proofs.Common.{◌≡◌, ℕ, List, subst, Option, Some, Result, Ok, refl}
+use Rattle.case_text.specs.declared.form.Form.TheVariants.{Full}
+use Rattle.case_text.specs.Content.{Content}
+use Rattle.case_text.specs.Reading.{reading}
+use Rattle.case_text.specs.declared.refusal.BadCase.{BadCase}
+use Rattle.case_text.specs.declared.reply.Reply.{Reply}
+use Rattle.case_text.specs.declared.reply.Reply.TheVariants as replies
+use Rattle.arr_compile.specs.declared.refused.BadProgram.TheVariants.{At, Deep, Wide}
+use Rattle.case_prove.specs.Sound.{HasExceptionalChallenge, HasMeaning}
+use Rattle.case_prove.specs.Verified.{IsVerdictOn}
+use Rattle.gkr_verify.specs.declared.verdict.Verdict.TheVariants as verdicts
+use Rattle.gkr_cmd.specs.declared.status.Status.TheVariants.{Done}
+use Rattle.gkr_cmd.specs.declared.words.Command.{Command}
+use Rattle.gkr_cmd.specs.declared.words.CaseCommand.TheVariants.{Verify}
+use Rattle.gkr_cmd.specs.declared.words.Command.TheVariants.{OfCase}
+use Rattle.gkr_cmd.specs.Replies.{IsCommandReply, IsOfCase, IsVerifyAnswer, status_of}
+use Rattle.gkr_cmd.specs.Runs.{HasAcceptedProof}
+use Rattle.gkr_cmd.proofs.OneReply.{Found, found, long, no_case, of_case}
+use Rattle.gkr_cmd.proofs.VerifyAnswers.{Answer, answer, refused, miscounted, outputs_miscounted, bad_proof, verdict}
+
+by_answer : (c : Content) {reply : Reply} → Answer c reply → status_of reply ≡ Done → (reply ≡ replies.Accepted) × IsVerdictOn c verdicts.Accepted
+by_answer c (refused (At at kind) is) e = absurd cc
+by_answer c (refused (Deep levels) is) e = absurd cc
+by_answer c (refused (Wide height width) is) e = absurd cc
+by_answer c (miscounted have need is) e = absurd cc
+by_answer c (outputs_miscounted have need is) e = absurd cc
+by_answer c (bad_proof bad is) e = absurd cc
+by_answer c (verdict verdicts.Accepted is) e = (refl, is)
+by_answer c (verdict (verdicts.Sum layer round had claim) is) e = absurd cc
+by_answer c (verdict (verdicts.End layer had want) is) e = absurd cc
+by_answer c (verdict (verdicts.Input had want) is) e = absurd cc
+
+by_input : (input : List ℕ) {reply : Reply} → Found Full IsVerifyAnswer input reply → status_of reply ≡ Done → (reply ≡ replies.Accepted) × IsOfCase Full input HasAcceptedProof
+by_input input (long limit is) e = absurd cc
+by_input input (no_case bad is) e = absurd cc
+by_input input {reply} (of_case c within read is) e =
+    let accepted = by_answer c (answer c reply is) e in (accepted.0, record { within = within; content = c; read = read; holds = accepted.1 })
+
+-- the reply of `verify` with status 0
+pub accepted_of : (command : Option Command) (input : List ℕ) (reply : Reply) → command ≡ Some (OfCase Verify) → IsCommandReply command input reply → status_of reply ≡ Done →
+    (reply ≡ replies.Accepted) × IsOfCase Full input HasAcceptedProof
+accepted_of command input reply is replied done =
+    by_input input (found Full IsVerifyAnswer input reply (subst (λ c. IsCommandReply c input reply) is replied)) done
+
+one_case : (r : Result Content BadCase) (c d : Content) → r ≡ Ok c → r ≡ Ok d → c ≡ d
+one_case r c d is is' = cc
+
+-- the law of soundness, for the case that the input spells
+pub sound_of : ((c : Content) → IsVerdictOn c verdicts.Accepted → ¬ HasMeaning c → (n : ℕ) × HasExceptionalChallenge c n)
+    → (input : List ℕ) (content : Content) → IsOfCase Full input HasAcceptedProof → reading Full input ≡ Ok content → ¬ HasMeaning content → (n : ℕ) × HasExceptionalChallenge content n
+sound_of law input content case read wrong =
+    law content (subst HasAcceptedProof (one_case (reading Full input) case.content content case.read read) case.holds) wrong

@@ -1,0 +1,132 @@
+-- The case that `demo` generates, and what is told of it.
+use Rattle.std.proofs.Common.{◌≡◌, ℕ, ◌+◌, ◌-◌, ◌*◌, ◌<◌, ◌≤◌, List, [], ◌∷◌, ◌++◌, length, get_or, decimal, subst, Option, Some, None, sym, ap, ◌∙◌, arith, length-append}
+use Rattle.std.proofs.lemmas.Fmt.{length-decimal-le}
+use Rattle.std.proofs.lemmas.List.FromFn.{length-map-range_with_len, map-range_with_len_more}
+use Rattle.std.proofs.Math.Nat.{mul-le-mul}
+use Rattle.std.specs.List.{concat}
+use Rattle.std.specs.Prelude.{codes}
+use Rattle.field_ext.specs.Field.{F, of}
+use Rattle.sha2.specs.Sha256.{sha256}
+use Rattle.circuit_core.specs.Parts.{Parts, height}
+use Rattle.arr_ast.specs.ProgramTree.{ProgramTree}
+use Rattle.arr_check.specs.Program.{input_count}
+use Rattle.arr_compile.specs.Programs.{IsRead}
+use Rattle.arr_compile.specs.Circuits.{IsCompiled, Computes}
+use Rattle.arr_eval.specs.Meaning.{meaning}
+use Rattle.gkr_verify.specs.declared.verdict.Verdict.TheVariants.{Accepted}
+use Rattle.case_text.specs.Content.{Content, Fits}
+use Rattle.case_text.specs.Sizes.{Sizes}
+use Rattle.case_text.specs.declared.sizes.LayerSize.{LayerSize}
+use Rattle.case_text.specs.declared.demo.DemoSummary.{DemoSummary}
+use Rattle.case_prove.specs.Circuits.{IsLaidOut, layer_size, sizes_of}
+use Rattle.case_prove.specs.Proved.{IsProved}
+use Rattle.case_prove.specs.Verified.{IsVerdictOn}
+use Rattle.gkr_cmd.specs.Demo.{HasFirst, IsDemo, square_text, demo_case, demo_size, demo_program, demo_inputs}
+
+-- ---- the case has a text
+
+square_short : (words : List ℕ) (n : ℕ) → n < 100 → length words ≤ 8 → length (square_text words n) ≤ 20
+unfolding square_text
+square_short words n small short =
+    let digits = length-decimal-le 2 n (omega arith) small (omega arith) in
+    let last : List ℕ = concat (codes "]; " ∷ []) in
+    let second : List ℕ = decimal n ++ last in
+    let between : List ℕ = codes "][" ++ second in
+    let first : List ℕ = decimal n ++ between in
+    omega (arith, digits, short, length-append words first, length-append (decimal n) between, length-append (decimal n) last)
+
+pub demo_fits : (number : ℕ) → Fits (demo_case number)
+demo_fits number =
+    let n = demo_size number in
+    let most : n ≤ 16 = omega arith in
+    let square : n * n ≤ 16 * 16 = mul-le-mul {n₁ = n} {m₁ = n} {n₂ = 16} {m₂ = 16} most most in
+    let last : List ℕ = concat (codes "output sum(matmul(a,b));" ∷ []) in
+    let first = square_short (codes "input a[") n (omega arith) (omega arith) in
+    let second = square_short (codes "input b[") n (omega arith) (omega arith) in
+    let whole = length-append (square_text (codes "input a[") n) (square_text (codes "input b[") n ++ last) in
+    let back = length-append (square_text (codes "input b[") n) last in
+    let values = length-map-range_with_len (λ j. of (1 + number + j)) 0 (2 * (n * n)) in
+    record { program = omega (arith, first, second, whole, back); inputs = omega (arith, square, values); outputs = tt; proof = tt }
+
+abbrev case_of : List ℕ → List F → Content
+case_of program inputs = record { program = program; inputs = inputs; outputs = None; proof = None }
+
+pub fits_as : (number n : ℕ) (program : List ℕ) (inputs : List F) → n ≡ demo_size number → program ≡ demo_program n → inputs ≡ demo_inputs number (2 * (n * n)) → Fits (case_of program inputs)
+fits_as number n program inputs size program_is inputs_are =
+    let sized : Fits (case_of (demo_program n) (demo_inputs number (2 * (n * n)))) =
+    subst (λ m. Fits (case_of (demo_program m) (demo_inputs number (2 * (m * m))))) (sym size) (demo_fits number) in
+    subst (λ text. Fits (case_of text inputs)) (sym program_is) (subst (λ xs. Fits (case_of (demo_program n) xs)) (sym inputs_are) sized)
+
+-- ---- its inputs, one more
+
+pub one_more : (number j : ℕ) (x : F) (old new : List F) → old ≡ demo_inputs number j → new ≡ old ++ x ∷ [] → x ≡ of (1 + number + j) → new ≡ demo_inputs number (j + 1)
+one_more number j x old new was put is =
+    put
+    ∙ ap (λ (xs : List F). xs ++ x ∷ []) was
+    ∙ ap (λ (y : F). demo_inputs number j ++ y ∷ []) is
+    ∙ sym (map-range_with_len_more (λ i. of (1 + number + i)) 0 j j (omega arith))
+
+-- ---- the first output
+
+-- a text has one tree, and its circuit computes what the program means
+pub record IsComputed : Type 0 where
+  pub tree : (text : List ℕ) (a b : ProgramTree) → IsRead text a → IsRead text b → a ≡ b
+  pub inputs : (text : List ℕ) (parts : Parts) (is : IsCompiled text parts) → parts.inputs ≡ input_count is.tree.inputs
+  pub computes : (text : List ℕ) (parts : Parts) (is : IsCompiled text parts) (inputs : List F) → length inputs ≡ parts.inputs → Computes is.tree parts inputs
+
+same_some : {A : Type 0} (o : Option A) (a b : A) → o ≡ Some a → o ≡ Some b → a ≡ b
+same_some o a b is is' = cc
+
+-- a case that is proved has an output
+pub some_output : IsComputed → (c p : Content) (is : IsProved c p) → 1 ≤ length is.outputs
+some_output laws c p is =
+    let accepted = is.evaluated in
+    let same = laws.tree c.program is.compiled.tree accepted.tree is.compiled.lowered.accepted.read accepted.accepted.read in
+    let counted : length c.inputs ≡ is.parts.inputs =
+    accepted.counted ∙ ap (λ (t : ProgramTree). input_count t.inputs) (sym same) ∙ sym (laws.inputs c.program is.parts is.compiled) in
+    let computed = laws.computes c.program is.parts is.compiled c.inputs counted in
+    let outputs = same_some (meaning is.compiled.tree c.inputs) computed.outputs is.outputs computed.meaning_is (ap (λ (t : ProgramTree). meaning t c.inputs) same ∙ accepted.meaning_is) in
+    let has_one = is.compiled.lowered.in_order.has_output in
+    let as_many : length is.outputs ≡ length is.compiled.nodes.outputs =
+    ap length (sym outputs) ∙ computed.as_many ∙ ap (λ (q : Parts). q.outputs) is.compiled.laid_out in
+    omega (arith, has_one, as_many)
+
+pub has_output : IsComputed → (c p : Content) → IsProved c p → (o : List F) → Some o ≡ p.outputs → 0 < length o
+has_output laws c p is o told =
+    let same = same_some p.outputs o is.outputs (sym told) (ap (λ (q : Content). q.outputs) is.proved_is) in
+    let some = some_output laws c p is in
+    omega (arith, some, ap length same)
+
+pub first_is : (outputs : Option (List F)) (o : List F) (x d : F) → outputs ≡ Some o → 0 < length o → x ≡ get_or o 0 d → HasFirst outputs x
+first_is outputs [] x d is some read = absurd (omega (arith, some))
+first_is outputs (y ∷ ys) x d is some read = record { others = ys; outputs_are = is ∙ ap (λ (z : F). Some (z ∷ ys)) (sym read) }
+
+-- ---- what is told
+
+pub some_layer : (c : Content) (sizes : Sizes) (layers : List LayerSize) → IsLaidOut c sizes → layers ≡ sizes.layers → 1 ≤ length layers
+some_layer c sizes layers is same =
+    let counted = length-map-range_with_len (layer_size is.parts) 0 (height is.parts + 1) in
+    let all : length layers ≡ length (sizes_of is.parts).layers = ap length same ∙ ap (λ (z : Sizes). length z.layers) is.sizes_are in
+    omega (arith, counted, all)
+
+pub told : (number : ℕ) (s : DemoSummary) (c p : Content) (sizes : Sizes) (proof : List ℕ) → c ≡ demo_case number → IsLaidOut c sizes → IsProved c p → IsVerdictOn p Accepted → HasFirst p.outputs s.output → p.proof ≡ Some proof
+    → s.number ≡ number → s.size ≡ demo_size number → s.layers ≡ length sizes.layers - 1 → s.proof ≡ length proof → s.digest ≡ sha256 proof → IsDemo number s
+told number s c p sizes proof case laid_out proved accepted first proof_is number_is size_is layers_are length_is digest_is =
+    let parts = laid_out.parts in
+    let counted = length-map-range_with_len (layer_size parts) 0 (height parts + 1) in
+    let one_fewer : length (sizes_of parts).layers - 1 ≡ height parts = omega (arith, counted) in
+    record {
+      number_is = number_is;
+      size_is = size_is;
+      parts = parts;
+      compiled = subst (λ (d : Content). IsCompiled d.program parts) case laid_out.compiled;
+      layers_are = layers_are ∙ ap (λ (z : Sizes). length z.layers - 1) laid_out.sizes_are ∙ one_fewer;
+      proved = p;
+      is_proved = subst (λ (d : Content). IsProved d p) case proved;
+      is_accepted = accepted;
+      output_is = first;
+      proof = proof;
+      proof_is = proof_is;
+      length_is = length_is;
+      digest_is = digest_is;
+    }

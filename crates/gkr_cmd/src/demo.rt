@@ -1,0 +1,173 @@
+//! The case that `demo` generates from a number, and what is told of its proof.
+
+ghost use Rattle.std.specs.Prelude.{◌≡◌, ◌≢◌, ◌++◌, ◌≤◌, ◌-◌, length, IfOk, OnOk, IsSome, Some};
+ghost use Rattle.sha2.specs.Sha256.{sha256};
+ghost use Rattle.gkr_verify.specs.declared.verdict.Verdict.TheVariants.{Accepted};
+ghost use Rattle.case_prove.specs.Circuits.{IsLaidOut};
+ghost use Rattle.case_prove.specs.Proved.{IsProved};
+ghost use Rattle.case_prove.specs.Verified.{IsVerdictOn};
+ghost use Rattle.gkr_cmd.specs.Demo.{HasFirst, IsDemo, demo_case, demo_inputs, demo_program, demo_size, square_text};
+ghost use Rattle.gkr_cmd.specs.Replies.{IsDemoAnswer};
+
+use crate::answering::refused_reply;
+use crate::reply_error::ReplyError;
+use arr_compile::laws::{
+    circuit_computes, compiled_or_refused, one_circuit, one_circuit_refusal, one_tree,
+};
+use case_prove::laws::proved_is_accepted;
+use case_prove::{Refused, circuit_case, prove_case, verify_case};
+use case_text::{Case, CircuitSizes, DemoSummary, Reply};
+use field_ext::Fp;
+use gkr_verify::Verdict;
+use io_edge::Gate;
+use itoa::Buffer;
+use proof_wire::laws::{no_trouble, one_reading, one_trouble};
+use sha2::{Digest, Sha256};
+use std::alloc::{AllocError, Global};
+use std::marker::Sync;
+use std::thread::Threads;
+
+/// The reply of `demo`: its case is generated, proved and verified.
+#[tactic(auto, using(crate::proofs::Replied::demo_refused))]
+pub fn demo<R: Threads + Sync, G: Gate>(
+    rt: &R,
+    alloc: Global,
+    number: u32,
+    gate: &G,
+) -> Result<Reply, ReplyError>
+    ensures reply { IfOk result (λ reply. IsDemoAnswer number reply) }
+    ensures fault { result ≢ Err ReplyError.ReadFault }
+{
+    let case = demo_case(alloc, number)?;
+    let sizes = match circuit_case(alloc, &case) {
+        Ok(sizes) => sizes,
+        Err(refused) => return refused_reply(refused),
+    };
+    let proved = match prove_case(rt, alloc, &case, 1, gate) {
+        Ok(proved) => proved,
+        Err(refused) => return refused_reply(refused),
+    };
+    accept(alloc, &case, &proved)?;
+    Ok(Reply::Demo(summary(number, &sizes, &case, &proved)))
+}
+
+/// How many rows, and columns, each of the two matrices has.
+fn demo_size(number: u32) -> u32
+    ensures { result ≡ demo_size number }
+{
+    2 + number % 15
+}
+
+/// The case of a number.
+fn demo_case(alloc: Global, number: u32) -> Result<Case, AllocError>
+    ensures { IfOk result (λ case. case ≡ demo_case number) }
+{
+    let size = demo_size(number);
+    let program = demo_program(alloc, size)?;
+    let inputs = demo_inputs(alloc, number, 2 * (size * size))?;
+    Ok(Case::new(program, inputs, None, None))
+}
+
+/// The program that sums the elements of the product of two matrices of a size.
+fn demo_program(alloc: Global, size: u32) -> Result<Vec<u8>, AllocError>
+    ensures { IfOk result (λ program. program.items ≡ demo_program size) }
+{
+    let mut program = Vec::new(alloc);
+    put_square(&mut program, b"input a[", size)?;
+    put_square(&mut program, b"input b[", size)?;
+    program.extend_from_slice(b"output sum(matmul(a,b));")?;
+    Ok(program)
+}
+
+/// The declaration of a square matrix, behind its first words.
+#[tactic(auto, unfolding(crate::specs::Demo::square_text))]
+fn put_square(out: &mut Vec<u8>, words: &[u8], size: u32) -> Result<(), AllocError>
+    ensures { OnOk result (out.new.items ≡ out.old.items ++ square_text words.now size) }
+{
+    let mut buffer = Buffer::new();
+    let digits = buffer.format(size).as_bytes();
+    out.extend_from_slice(words)?;
+    out.extend_from_slice(digits)?;
+    out.extend_from_slice(b"][")?;
+    out.extend_from_slice(digits)?;
+    out.extend_from_slice(b"]; ")
+}
+
+/// As many inputs, in order, from one past the number on.
+fn demo_inputs(alloc: Global, number: u32, count: u32) -> Result<Vec<Fp>, AllocError>
+    ensures { IfOk result (λ inputs. inputs.items ≡ demo_inputs number count) }
+{
+    let mut inputs = Vec::with_capacity(alloc, count as usize)?;
+    for j in 0..count {
+        inputs.push(Fp::reduce(1 + u64::from(number) + u64::from(j)))?;
+    }
+    Ok(inputs)
+}
+
+/// Verifies a case that was proved, which is always accepted.
+fn accept(alloc: Global, case: &Case, proved: &Case) -> Result<(), ReplyError>
+    requires proved { IsProved case.now proved.now }
+    ensures accepted { OnOk result (IsVerdictOn proved.now Accepted) }
+    ensures fault { result ≢ Err ReplyError.ReadFault }
+{
+    one_circuit();
+    one_circuit_refusal();
+    compiled_or_refused();
+    one_reading();
+    one_trouble();
+    no_trouble();
+    proved_is_accepted();
+    match verify_case(alloc, proved) {
+        Ok(verdict) => match verdict {
+            Verdict::Accepted => Ok(()),
+            _ => unreachable!(),
+        },
+        Err(refused) => match refused {
+            Refused::Memory => Err(ReplyError::Memory),
+            _ => unreachable!(),
+        },
+    }
+}
+
+/// The first output of a case that was proved.
+fn first_output(case: &Case, proved: &Case) -> Fp
+    requires { IsProved case.now proved.now }
+    ensures { HasFirst proved.now.outputs result }
+{
+    one_tree();
+    circuit_computes();
+    let Some(outputs) = proved.outputs() else {
+        unreachable!()
+    };
+    outputs[0]
+}
+
+/// The bytes of the proof of a case that was proved.
+fn proof_of(proved: &Case) -> &[u8]
+    requires { IsSome proved.now.proof }
+    ensures { proved.now.proof ≡ Some result.now }
+{
+    match proved.proof() {
+        Some(proof) => proof,
+        None => unreachable!(),
+    }
+}
+
+/// What is told of the case of a number that was proved and accepted, where its circuit has these sizes.
+fn summary(number: u32, sizes: &CircuitSizes, case: &Case, proved: &Case) -> DemoSummary
+    requires case { case.now ≡ demo_case number }
+    requires laid_out { IsLaidOut case.now sizes.now }
+    requires proved { IsProved case.now proved.now }
+    requires accepted { IsVerdictOn proved.now Accepted }
+    ensures { IsDemo number result }
+{
+    let proof = proof_of(proved);
+    DemoSummary {
+        number,
+        size: demo_size(number),
+        output: first_output(case, proved),
+        layers: sizes.layers().len() - 1,
+        proof: proof.len(),
+        digest: Sha256::digest(proof),
+    }
+}

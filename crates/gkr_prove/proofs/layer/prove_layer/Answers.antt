@@ -1,0 +1,102 @@
+-- The rounds and the line make a layer's messages
+use Rattle.std.proofs.Common.{◌≡◌, ℕ, ◌+◌, ◌++◌, List, [], IsTrue, length, take, drop, arith, ◌∙◌, ap, sym, subst}
+use Rattle.std.proofs.lemmas.List.{length-map}
+use Rattle.field_ext.specs.Field.{K, k_ops}
+use Rattle.field_ext.specs.Polynomial.{coefficients}
+use Rattle.wiring_poly.proofs.Identity.{take-front}
+use Rattle.wiring_poly.proofs.Coefficients.{length-coefficients}
+use Rattle.wiring_poly.specs.Sumcheck.{line_polynomial, point_between}
+use Rattle.round_tables.specs.LayerSum.{LayerSum}
+use Rattle.transcript_fs.specs.Source.{Source, state_after}
+use Rattle.proof_wire.specs.Spelling.{coefficients_of}
+use Rattle.gkr_verify.specs.Shapes.{round_messages}
+use Rattle.gkr_verify.proofs.LayerSteps.{has_behind, has_front}
+use Rattle.gkr_prove.specs.Honest.{AreHonestRounds}
+use Rattle.gkr_prove.proofs.HonestSteps.{honest_layer, layer_point, state-more}
+use Rattle.gkr_prove.proofs.layer.prove_layer.Goals as goal
+
+pub prove_rounds-requires-clause-has : goal.prove_rounds-requires-clause-has
+prove_rounds-requires-clause-has g c κs within =
+    let source : Source = g.C.Challenges.source in
+    let s = g.C.Challenges.state c.args.challenges.now in
+    let k = c.args.values.now.k in
+    subst (λ (n : ℕ). IsTrue (source.has s (n + n))) (sym c.in_ok-tables.ensures.k) (has_front source s (k + k) 1 c.requires.has)
+
+pub challenge-challenge-requires : goal.challenge-challenge-requires
+challenge-challenge-requires g c =
+    let source : Source = g.C.Challenges.source in
+    let s = g.C.Challenges.state c.args.challenges.now in
+    let k = c.args.values.now.k in
+    let rounds = c.in_ok-messages.ensures in
+    let messages = c.in_ok-messages.field-0.messages in
+    let qs : List (List K) = round_messages c.in_ok-messages.field-0.messages.items in
+    let size : length (round_messages c.in_ok-messages.field-0.messages.items) ≡ k + k =
+    length-map messages.items coefficients_of ∙ sym messages.ok.0 ∙ rounds.count ∙ (λ i. c.in_ok-tables.ensures.k i + c.in_ok-tables.ensures.k i) in
+    let before : IsTrue (source.has (state_after source s qs) 1) = has_behind source s qs 1 (subst (λ (n : ℕ). IsTrue (source.has s (n + 1))) (sym size) c.requires.has) in
+    rw (c.absorb.ensures, rounds.state) (source.has_absorbed (state_after source s qs) _ 1 before)
+
+pub split_at-requires : goal.split_at-requires
+split_at-requires g c = omega (arith, c.in_ok-tables.ensures.k, c.in_ok-messages.ensures.challenges)
+
+pub returns-clause-honest : goal.returns-clause-honest
+returns-clause-honest g c =
+    let k = c.args.values.now.k in
+    let started = c.in_ok-tables.ensures in
+    let rounds = c.in_ok-messages.ensures in
+    let source : Source = g.C.Challenges.source in
+    let s = g.C.Challenges.state c.args.challenges.now in
+    let messages = c.in_ok-messages.field-0.messages in
+    let drawn = c.in_ok-messages.field-0.drawn in
+    let qs : List (List K) = round_messages c.in_ok-messages.field-0.messages.items in
+    let rs : List K = c.in_ok-messages.field-0.drawn.items in
+    let sum : LayerSum = record { k = c.args.values.now.k; gates = c.args.gates.now; values = c.args.values.now.items; point = c.args.point.now; bound = [] } in
+    let is : c.in_ok-tables.tables ≡ sum = λ i. record { k = started.k i; gates = started.gates i; values = started.values i; point = started.point i; bound = started.bound i } in
+    let honest : AreHonestRounds c.args.values.now.k c.args.gates.now c.args.values.now.items c.args.point.now (c.args.values.now.k + c.args.values.now.k) qs rs =
+    subst (λ (t : LayerSum). AreHonestRounds t.k t.gates t.values t.point (t.k + t.k) qs rs) is rounds.honest in
+    honest_layer k c.args.gates.now c.args.values.now.items c.args.point.now source s qs rs c.in_ok-line.line.items
+    (length-map messages.items coefficients_of ∙ sym messages.ok.0 ∙ rounds.count ∙ (λ i. started.k i + started.k i))
+    (sym drawn.ok.0 ∙ rounds.challenges ∙ (λ i. started.k i + started.k i))
+    rounds.drawn honest
+    (c.in_ok-line.ensures.items ∙ c.coefficients.ensures ∙ c.in_ok-polynomial.ensures
+    ∙ (λ i. coefficients k_ops (k + 1) (line_polynomial k_ops c.args.values.now.items (c.split_at.ensures.front i) (c.split_at.ensures.back i)))
+    ∙ (λ i. coefficients k_ops (k + 1) (line_polynomial k_ops c.args.values.now.items (take (c.k-k.ensures i) (c.as_slice.ensures.value i)) (drop (c.k-k.ensures i) (c.as_slice.ensures.value i)))))
+
+pub returns-clause-shape : goal.returns-clause-shape
+returns-clause-shape g c =
+    let k = c.args.values.now.k in
+    let line = c.in_ok-line.ensures.items ∙ c.coefficients.ensures ∙ c.in_ok-polynomial.ensures in
+    record {
+      rounds = sym c.in_ok-messages.field-0.messages.ok.0 ∙ c.in_ok-messages.ensures.count ∙ (λ i. c.in_ok-tables.ensures.k i + c.in_ok-tables.ensures.k i);
+      line = ap length line ∙ length-coefficients k_ops (k + 1) _;
+    }
+
+pub returns-clause-point : goal.returns-clause-point
+returns-clause-point g c =
+    let k = c.args.values.now.k in
+    let source : Source = g.C.Challenges.source in
+    let s = g.C.Challenges.state c.args.challenges.now in
+    let drawn = c.in_ok-messages.field-0.drawn in
+    let qs : List (List K) = round_messages c.in_ok-messages.field-0.messages.items in
+    let rs : List K = c.in_ok-messages.field-0.drawn.items in
+    let line : List K = c.in_ok-line.line.items in
+    let rounds = c.in_ok-messages.ensures in
+    let started = c.in_ok-tables.ensures in
+    let new = c.point_at.new.point in
+    let size : length c.point_at.new.point ≡ c.in_ok-next.next.len = c.point_at.auto.point ∙ c.deref_mut.ensures.len in
+    let last : c.challenge-challenge.result ≡ source.draw (source.absorb (state_after source s qs) line) =
+    c.challenge-challenge.ensures.value ∙ ap source.draw (c.absorb.ensures ∙ (λ i. source.absorb (rounds.state i) (c.deref.ensures.value i))) in
+    ap (λ n. take n (c.point_at.new.point ++ drop (length c.point_at.new.point) c.in_ok-next.next.items)) (sym size)
+    ∙ take-front new (drop (length new) c.in_ok-next.next.items)
+    ∙ c.point_at.ensures
+    ∙ (λ i. point_between k_ops (c.split_at.ensures.front i) (c.split_at.ensures.back i) (last i))
+    ∙ (λ i. point_between k_ops (take (c.k-k.ensures i) (c.as_slice.ensures.value i)) (drop (c.k-k.ensures i) (c.as_slice.ensures.value i)) (source.draw (source.absorb (state_after source s qs) line)))
+    ∙ layer_point k c.args.gates.now c.args.values.now.items c.args.point.now source s qs rs line (sym drawn.ok.0 ∙ rounds.challenges ∙ (λ i. started.k i + started.k i)) rounds.drawn
+
+pub returns-clause-state : goal.returns-clause-state
+returns-clause-state g c =
+    let source : Source = g.C.Challenges.source in
+    let s = g.C.Challenges.state c.args.challenges.now in
+    let qs : List (List K) = round_messages c.in_ok-messages.field-0.messages.items in
+    let line : List K = c.in_ok-line.line.items in
+    c.challenge-challenge.ensures.state ∙ ap source.after (c.absorb.ensures ∙ (λ i. source.absorb (c.in_ok-messages.ensures.state i) (c.deref.ensures.value i)))
+    ∙ sym (state-more source s qs line)

@@ -1,0 +1,102 @@
+-- One layer more
+use Rattle.std.proofs.Common.{◌≡◌, ℕ, ◌+◌, ◌<◌, ◌≤◌, ◌++◌, List, [], ◌∷◌, IsTrue, length, get_or, arith, ◌∙◌, ap, sym, subst, append-nil, append_assoc}
+use Rattle.field_ext.specs.Field.{K, k_ops}
+use Rattle.circuit_core.specs.Parts.{Parts, height}
+use Rattle.circuit_core.specs.Sound.{exponent_at}
+use Rattle.mle_table.specs.Shape.{Values}
+use Rattle.wiring_poly.specs.Layers.{GateLayer, layers_of, message_count, next_point}
+use Rattle.transcript_fs.specs.Source.{Source, draws, state_after}
+use Rattle.proof_wire.specs.declared.messages.LayerMessages.{LayerMessages}
+use Rattle.gkr_verify.specs.Shapes.{messages_of, all_messages, layers_below, layer_at, HasShape, HaveShape}
+use Rattle.gkr_verify.proofs.LayerSteps.{length-draws, state-append}
+use Rattle.gkr_verify.proofs.BelowSteps.{below_more, below_none, length-messages, has_layer, has_below}
+use Rattle.gkr_prove.specs.Honest.{AreHonest, IsHonestLayer, input_table}
+use Rattle.gkr_prove.proofs.LayerSteps.{messages-more, table_values, layers_more, length-next}
+use Rattle.gkr_prove.proofs.TableShapes.{table_exponent, is_layer, shape_more}
+use Rattle.gkr_prove.proofs.layers.prove_layers.Goals as goal
+
+-- challenges for the layers from one on
+has_here : (p : Parts) (source : Source) (s : List ℕ) (i : ℕ) → i < height p → IsTrue (source.has s (message_count (layers_below p i))) → IsTrue (source.has s (message_count (layer_at p i ∷ layers_below p (i + 1))))
+has_here p source s i u h = subst (λ (layers : List GateLayer). IsTrue (source.has s (message_count layers))) (below_more p i u) h
+
+pub prove_layer-requires-clause-layer : goal.prove_layer-requires-clause-layer
+prove_layer-requires-clause-layer g c κs within =
+    let circuit = c.args.circuit.now in
+    let i = c.loop-layer.layer in
+    let u : c.loop-layer.layer < height c.args.circuit.now.parts = omega (arith, c.loop-layer-test.true, c.height-layer-end.ensures) in
+    let e = table_exponent circuit c.requires.values.0 c.args.values.now (i + 1) c.table.result.now c.requires.values.1 (omega arith) c.table.ensures in
+    is_layer circuit i c.table.result.now c.gates.result.now c.deref.result.now u e c.gates.ensures.value (ap length c.deref.ensures.value ∙ c.loop-layer.invariant.position)
+
+pub prove_layer-requires-clause-has : goal.prove_layer-requires-clause-has
+prove_layer-requires-clause-has g c κs within =
+    let source : Source = g.C.Challenges.source in
+    let circuit = c.args.circuit.now in
+    let p : Parts = c.args.circuit.now.parts in
+    let i = c.loop-layer.layer in
+    let s : List ℕ = g.C.Challenges.state c.loop-layer.challenges in
+    let u : c.loop-layer.layer < height c.args.circuit.now.parts = omega (arith, c.loop-layer-test.true, c.height-layer-end.ensures) in
+    let e = table_exponent circuit c.requires.values.0 c.args.values.now (i + 1) c.table.result.now c.requires.values.1 (omega arith) c.table.ensures in
+    subst (λ (k : ℕ). IsTrue (source.has s (k + k + 1))) (sym e) (has_layer source s (layer_at p i) (layers_below p (i + 1)) (has_here p source s i u c.loop-layer.invariant.has))
+
+pub loop-layer-preserved : goal.loop-layer-preserved
+loop-layer-preserved g c =
+    let source : Source = g.C.Challenges.source in
+    let s : List ℕ = g.C.Challenges.state c.args.challenges.now in
+    let now : List ℕ = g.C.Challenges.state c.loop-layer.challenges in
+    let circuit = c.args.circuit.now in
+    let p : Parts = c.args.circuit.now.parts in
+    let i = c.loop-layer.layer in
+    let before = c.loop-layer.invariant in
+    let proved = c.in_ok-proved.ensures in
+    let table : Values = c.table.result.now in
+    let m : LayerMessages = c.in_ok-proved.proved.messages in
+    let ms : List LayerMessages = c.loop-layer.messages.items in
+    let M : List (List K) = messages_of m in
+    let d : List K = draws source (state_after source s (all_messages ms)) M in
+    let k : ℕ = exponent_at c.args.circuit.now.parts (c.loop-layer.layer + 1) in
+    let u : c.loop-layer.layer < height c.args.circuit.now.parts = omega (arith, c.loop-layer-test.true, c.height-layer-end.ensures) in
+    let v : c.loop-layer.layer + 1 ≤ height c.args.circuit.now.parts = omega arith in
+    let e : table.k ≡ k = table_exponent circuit c.requires.values.0 c.args.values.now (i + 1) table c.requires.values.1 v c.table.ensures in
+    let noted : c.push.new.self.items ≡ ms ++ m ∷ [] = c.in_ok-push.ensures.items in
+    let shape : HasShape k m = subst (λ (n : ℕ). HasShape n m) e proved.shape in
+    let next : c.in_ok-proved.proved.point.items ≡ next_point k_ops k d =
+    proved.point ∙ (λ j. next_point k_ops (e j) (draws source (before.state j) M)) in
+    let count : length d ≡ k + k + 1 = length-draws source (state_after source s (all_messages ms)) M ∙ length-messages k m shape in
+    let honest : IsHonestLayer k (get_or p.layers i []) table.items c.loop-layer.point.items M d =
+    coe 0 1 (j. IsHonestLayer (e j) (c.gates.ensures.value j) table.items (c.deref.ensures.value j) M (draws source (before.state j) M)) proved.honest in
+    let joined : all_messages c.push.new.self.items ≡ all_messages ms ++ M = (λ j. all_messages (noted j)) ∙ messages-more ms m in
+    let first : List K = c.args.point.items in
+    let point : List K = c.in_ok-proved.proved.point.items in
+    record {
+      position = ap length next ∙ length-next k d count;
+      has = subst (λ (t : List ℕ). IsTrue (source.has t (message_count (layers_below p (i + 1))))) (sym proved.state)
+          (has_below source now (layer_at p i) (layers_below p (i + 1)) (has_here p source now i u before.has) m shape);
+      state = proved.state ∙ (λ j. state_after source (before.state j) M) ∙ sym (state-append source s (all_messages ms) M) ∙ (λ j. state_after source s (sym joined j));
+      shape = λ rest h.
+          subst (λ (xs : List LayerMessages). HaveShape (layers_of p) xs) (sym (append_assoc ms (m ∷ []) rest) ∙ ap (λ (xs : List LayerMessages). xs ++ rest) (sym noted))
+          (before.shape (m ∷ rest) (shape_more p i m rest u shape h));
+      whole = λ inputs tables qs rs rest.
+          coe 0 1 (j. AreHonest (layers_of p) (input_table p inputs) first (all_messages (sym noted j) ++ qs) (draws source s (all_messages (sym noted j)) ++ rs))
+          (layers_more p inputs source s i ms m table.items first c.loop-layer.point.items point u shape (table_values p inputs c.args.values.now (i + 1) table.items tables v c.table.ensures) next honest
+          (before.whole inputs tables) qs rs rest);
+    }
+
+pub returns-clause-honest : goal.returns-clause-honest
+returns-clause-honest g c inputs tables =
+    let source : Source = g.C.Challenges.source in
+    let s : List ℕ = g.C.Challenges.state c.args.challenges.now in
+    let p : Parts = c.args.circuit.now.parts in
+    let ms : List LayerMessages = c.loop-layer.messages.items in
+    let u : height c.args.circuit.now.parts ≤ c.loop-layer.layer = omega (arith, c.loop-layer-test.false, c.height-layer-end.ensures) in
+    let nothing : AreHonest (layers_below p c.loop-layer.layer) (input_table p inputs) c.loop-layer.point.items [] [] =
+    subst (λ (layers : List GateLayer). AreHonest layers (input_table p inputs) c.loop-layer.point.items [] []) (sym (below_none p c.loop-layer.layer u)) tt in
+    coe 0 1 (j. AreHonest (layers_of p) (input_table p inputs) c.args.point.items (append-nil (all_messages ms) j) (append-nil (draws source s (all_messages ms)) j))
+    (c.loop-layer.invariant.whole inputs tables [] [] nothing)
+
+pub returns-clause-shape : goal.returns-clause-shape
+returns-clause-shape g c =
+    let p : Parts = c.args.circuit.now.parts in
+    let ms : List LayerMessages = c.loop-layer.messages.items in
+    let u : height c.args.circuit.now.parts ≤ c.loop-layer.layer = omega (arith, c.loop-layer-test.false, c.height-layer-end.ensures) in
+    let nothing : HaveShape (layers_below p c.loop-layer.layer) [] = subst (λ (layers : List GateLayer). HaveShape layers []) (sym (below_none p c.loop-layer.layer u)) tt in
+    subst (λ (xs : List LayerMessages). HaveShape (layers_of p) xs) (append-nil ms) (c.loop-layer.invariant.shape [] nothing)

@@ -1,0 +1,50 @@
+-- The coordinates of the output point come first
+use Rattle.std.proofs.Common.{◌≡◌, ℕ, ◌++◌, List, IsTrue, length, take, drop, ◌∙◌, ap, sym, subst}
+use Rattle.field_ext.specs.Field.{K}
+use Rattle.circuit_core.specs.Parts.{Parts}
+use Rattle.circuit_core.specs.Sound.{exponent_at}
+use Rattle.wiring_poly.specs.Layers.{layers_of, message_count}
+use Rattle.round_tables.proofs.PhaseSteps.{written_back}
+use Rattle.transcript_fs.specs.Source.{Source, coordinates, state_after_coordinates, draws}
+use Rattle.gkr_verify.specs.Shapes.{all_messages}
+use Rattle.gkr_verify.proofs.LayerSteps.{has_front}
+use Rattle.gkr_verify.proofs.PointSteps.{has_after_point}
+use Rattle.gkr_prove.specs.Honest.{AreHonest, input_table}
+use Rattle.gkr_prove.proofs.TableShapes.{are_of}
+use Rattle.gkr_prove.proofs.prover.prove.Goals as goal
+
+pub draw_point-requires : goal.draw_point-requires
+draw_point-requires g c =
+    let source : Source = g.C.Challenges.source in
+    let s : List ℕ = g.C.Challenges.state c.args.challenges.now in
+    let p : Parts = c.args.circuit.now.parts in
+    subst (λ (n : ℕ). IsTrue (source.has s n)) (sym (c.deref_mut.ensures.len ∙ c.in_ok-point.ensures.len ∙ c.coordinates.ensures.value)) (has_front source s (exponent_at p 0) (message_count (layers_of p)) c.requires.has)
+
+pub prove_layers-requires-clause-position : goal.prove_layers-requires-clause-position
+prove_layers-requires-clause-position g c κs within =
+    let count : length c.deref_mut.result.now ≡ exponent_at c.args.circuit.now.parts 0 = c.deref_mut.ensures.len ∙ c.in_ok-point.ensures.len ∙ c.coordinates.ensures.value in
+    ap length (written_back c.in_ok-point.point.items c.draw_point.new.point c.in_ok-point.point.len (c.draw_point.auto.point ∙ c.deref_mut.ensures.len)) ∙ c.draw_point.auto.point ∙ count
+
+pub prove_layers-requires-clause-has : goal.prove_layers-requires-clause-has
+prove_layers-requires-clause-has g c κs within =
+    let source : Source = g.C.Challenges.source in
+    let s : List ℕ = g.C.Challenges.state c.args.challenges.now in
+    let p : Parts = c.args.circuit.now.parts in
+    let count = c.deref_mut.ensures.len ∙ c.in_ok-point.ensures.len ∙ c.coordinates.ensures.value in
+    let after = c.draw_point.ensures.state ∙ ap (state_after_coordinates source s) count in
+    subst (λ (t : List ℕ). IsTrue (source.has t (message_count (layers_of p)))) (sym after) (has_after_point source s (exponent_at p 0) (message_count (layers_of p)) c.requires.has)
+
+pub returns-clause-honest : goal.returns-clause-honest
+returns-clause-honest g c inputs tables =
+    let source : Source = g.C.Challenges.source in
+    let s : List ℕ = g.C.Challenges.state c.args.challenges.now in
+    let p : Parts = c.args.circuit.now.parts in
+    let qs : List (List K) = all_messages c.in_ok-layers.layers.items in
+    let count : length c.deref_mut.result.now ≡ exponent_at c.args.circuit.now.parts 0 = c.deref_mut.ensures.len ∙ c.in_ok-point.ensures.len ∙ c.coordinates.ensures.value in
+    let after : g.C.Challenges.state c.draw_point.new.challenges ≡ state_after_coordinates source s (exponent_at p 0) = c.draw_point.ensures.state ∙ ap (state_after_coordinates source s) count in
+    let z : take c.in_ok-point.point.len (c.draw_point.new.point ++ drop (length c.draw_point.new.point) c.in_ok-point.point.items) ≡ coordinates source s (exponent_at p 0) =
+    written_back c.in_ok-point.point.items c.draw_point.new.point c.in_ok-point.point.len (c.draw_point.auto.point ∙ c.deref_mut.ensures.len) ∙ c.draw_point.ensures.point ∙ ap (coordinates source s) count in
+    coe 0 1 (j. AreHonest (layers_of p) (input_table p inputs) (z j) qs (draws source (after j) qs)) (c.in_ok-layers.ensures.honest inputs tables)
+
+pub returns-clause-shape : goal.returns-clause-shape
+returns-clause-shape g c = are_of c.args.circuit.now.parts _ c.in_ok-layers.ensures.shape

@@ -1,0 +1,71 @@
+// The messages of one layer.
+
+ghost use Rattle.std.specs.Prelude.{◌≡◌, ◌+◌, IfOk, IsTrue};
+ghost use Rattle.field_ext.specs.Field.{K, k_ops};
+ghost use Rattle.wiring_poly.specs.Layers.{next_point};
+ghost use Rattle.round_tables.specs.Phase.{IsLayer};
+ghost use Rattle.transcript_fs.specs.Source.{draws, state_after};
+ghost use Rattle.gkr_verify.specs.Shapes.{messages_of, HasShape};
+ghost use Rattle.gkr_prove.specs.Honest.{IsHonestLayer};
+
+use crate::rounds::{Rounds, prove_rounds};
+use circuit_core::CircuitGate;
+use field_ext::Ext;
+use io_edge::Gate;
+use line_reduce::{line_poly, point_at};
+use mle_table::Table;
+use proof_wire::LayerMessages;
+use round_tables::{GateTables, Room};
+use std::alloc::{AllocError, Global};
+use transcript_fs::Challenges;
+
+/// A layer's messages, the point of the claim that they lead to, and the room that it used.
+#[derive(Drop)]
+pub(crate) struct ProvedLayer {
+    pub(crate) messages: LayerMessages,
+    pub(crate) point: Vec<Ext>,
+    pub(crate) room: Room,
+}
+
+/// Proves a layer of gates over the values of the layer below, at the point of the claim on it.
+pub(crate) fn prove_layer<C: Challenges, G: Gate>(
+    alloc: Global,
+    room: Room,
+    gates: &[CircuitGate],
+    values: &Table,
+    point: &[Ext],
+    challenges: &mut C,
+    workers: u32,
+    gate: &G,
+) -> Result<ProvedLayer, AllocError>
+    requires one_worker { workers ≡ 1 }
+    requires layer { IsLayer K values.now.k gates.now values.now.items point.now }
+    requires has { IsTrue (C.source.has (C.state challenges.old) (values.now.k + values.now.k + 1)) }
+    ensures honest { IfOk result (λ proved. let qs = messages_of proved.messages in IsHonestLayer values.now.k gates.now values.now.items point.now qs (draws C.source (C.state challenges.old) qs)) }
+    ensures shape { IfOk result (λ proved. HasShape values.now.k proved.messages) }
+    ensures point { IfOk result (λ proved. proved.point.items ≡ next_point k_ops values.now.k (draws C.source (C.state challenges.old) (messages_of proved.messages))) }
+    ensures state { IfOk result (λ proved. C.state challenges.new ≡ state_after C.source (C.state challenges.old) (messages_of proved.messages)) }
+{
+    let k = values.k() as usize;
+    let tables = GateTables::start_in(room, gates, values, point)?;
+    let Rounds {
+        messages,
+        drawn,
+        room,
+    } = prove_rounds(alloc, tables, challenges, workers, gate)?;
+    let (left, right) = drawn.as_slice().split_at(k);
+    let polynomial = line_poly(alloc, values, left, right)?;
+    let line = Vec::from_slice(alloc, polynomial.coefficients())?;
+    challenges.absorb(&line);
+    let challenge = challenges.challenge();
+    let mut next = vec![in alloc; Ext::zero(); k]?;
+    point_at(left, right, challenge, &mut next);
+    Ok(ProvedLayer {
+        messages: LayerMessages {
+            rounds: messages,
+            line,
+        },
+        point: next,
+        room,
+    })
+}

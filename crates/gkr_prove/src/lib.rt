@@ -1,0 +1,22 @@
+//! The prover of the Goldwasser-Kalai-Rothblum protocol.
+//!
+//! [`prove`] gives the honest messages of all layers, the output layer first: the true polynomial of each round of
+//! sumcheck, and of the line between the two operands' points, at the challenges that the source gives behind the
+//! messages before. They are the only honest messages, and the verifier accepts them. Source: Thaler, "Proofs, Arguments,
+//! and Zero-Knowledge", 4.6.
+//!
+//! ```text
+//! let values = layer_values(&rt, alloc, &circuit, &inputs)?;
+//! let messages = prove(alloc, &circuit, &values, &mut challenges, 1, &OpenGate)?;
+//! ```
+#![tactic(auto)]
+
+pub mod laws;
+mod layer;
+mod layers;
+mod prover;
+mod rounds;
+#[cfg(test)]
+mod tests;
+
+pub use prover::prove;

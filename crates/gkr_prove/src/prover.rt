@@ -1,0 +1,69 @@
+// The prover.
+
+ghost use Rattle.std.specs.Prelude.{◌≡◌, ◌+◌, List, IfOk, IsTrue, length};
+ghost use Rattle.field_ext.specs.Field.{F};
+ghost use Rattle.circuit_core.specs.Sound.{exponent_at, exponents};
+ghost use Rattle.circuit_eval.specs.Tables.{AreTables};
+ghost use Rattle.wiring_poly.specs.Layers.{layers_of, message_count};
+ghost use Rattle.transcript_fs.specs.Source.{coordinates, state_after_coordinates};
+ghost use Rattle.proof_wire.specs.Spelling.{AreOf};
+ghost use Rattle.gkr_verify.specs.Shapes.{all_messages};
+ghost use Rattle.gkr_prove.specs.Honest.{IsHonestProof};
+
+use crate::layers::prove_layers;
+use circuit_core::Circuit;
+use circuit_eval::Values;
+use field_ext::Ext;
+use io_edge::Gate;
+use proof_wire::Messages;
+use round_tables::Room;
+use std::alloc::{AllocError, Global};
+use transcript_fs::Challenges;
+use wiring_poly::coordinates;
+
+/// The honest messages of a circuit with these values of its layers, which are its values for some inputs, and challenges
+/// from a source that has enough of them. They are of the circuit's shape. Err only where no memory is found; the
+/// challenges have then moved on. So far one worker proves: `workers` is 1, and the gate is not passed.
+pub fn prove<C: Challenges, G: Gate>(
+    alloc: Global,
+    circuit: &Circuit,
+    values: &Values,
+    challenges: &mut C,
+    workers: u32,
+    gate: &G,
+) -> Result<Messages, AllocError>
+    requires one_worker { workers ≡ 1 }
+    requires values { (inputs : List F) × AreTables circuit.now.parts inputs values.now }
+    requires has { IsTrue (C.source.has (C.state challenges.old) (exponent_at circuit.now.parts 0 + message_count (layers_of circuit.now.parts))) }
+    ensures honest { IfOk result (λ messages. (inputs : List F) → AreTables circuit.now.parts inputs values.now →
+        IsHonestProof circuit.now.parts inputs C.source (C.state challenges.old) (all_messages messages.layers.items)) }
+    ensures shape { IfOk result (λ messages. AreOf (exponents circuit.now.parts) messages) }
+{
+    let mut point = vec![in alloc; Ext::zero(); coordinates(circuit, 0)]?;
+    draw_point(&mut point, challenges);
+    let room = room_for(alloc, circuit)?;
+    let layers = prove_layers(
+        alloc, circuit, values, room, point, challenges, workers, gate,
+    )?;
+    Ok(Messages { layers })
+}
+
+// Room for the widest layer.
+fn room_for(alloc: Global, circuit: &Circuit) -> Result<Room, AllocError> {
+    let mut widest = 0;
+    for layer in 0..circuit.height() + 1 {
+        widest = widest.max(circuit.width(layer));
+    }
+    Room::new(alloc, widest, widest)
+}
+
+// Draws the coordinates of the output point.
+fn draw_point<C: Challenges>(point: &mut [Ext], challenges: &mut C)
+    requires { IsTrue (C.source.has (C.state challenges.old) (length point.old)) }
+    ensures point { point.new ≡ coordinates C.source (C.state challenges.old) (length point.old) }
+    ensures state { C.state challenges.new ≡ state_after_coordinates C.source (C.state challenges.old) (length point.old) }
+{
+    for coordinate in point.iter_mut() {
+        *coordinate = challenges.challenge();
+    }
+}

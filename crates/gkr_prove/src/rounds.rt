@@ -1,0 +1,58 @@
+// The rounds of a layer.
+
+ghost use Rattle.std.specs.Prelude.{◌≡◌, ◌+◌, IfOk, [], vec_len, IsTrue};
+ghost use Rattle.transcript_fs.specs.Source.{draws, state_after};
+ghost use Rattle.gkr_verify.specs.Shapes.{round_messages};
+ghost use Rattle.gkr_prove.specs.Honest.{AreHonestRounds};
+
+use field_ext::Ext;
+use io_edge::Gate;
+use proof_wire::Round;
+use round_tables::{GateTables, Room};
+use std::alloc::{AllocError, Global};
+use sumcheck_prove::round;
+use transcript_fs::Challenges;
+
+/// The messages of all rounds of a layer, the challenge after each, and the room that the layer used.
+#[derive(Drop)]
+pub(crate) struct Rounds {
+    pub(crate) messages: Vec<Round>,
+    pub(crate) drawn: Vec<Ext>,
+    pub(crate) room: Room,
+}
+
+/// Proves all rounds of a layer.
+pub(crate) fn prove_rounds<C: Challenges, G: Gate>(
+    alloc: Global,
+    mut tables: GateTables<'_>,
+    challenges: &mut C,
+    workers: u32,
+    gate: &G,
+) -> Result<Rounds, AllocError>
+    requires one_worker { workers ≡ 1 }
+    requires begun { tables.bound ≡ [] }
+    requires has { IsTrue (C.source.has (C.state challenges.old) (tables.k + tables.k)) }
+    ensures honest { IfOk result (λ rounds. AreHonestRounds tables.entry.k tables.entry.gates tables.entry.values tables.entry.point (tables.entry.k + tables.entry.k) (round_messages rounds.messages.items) rounds.drawn.items) }
+    ensures count { IfOk result (λ rounds. vec_len rounds.messages ≡ tables.entry.k + tables.entry.k) }
+    ensures challenges { IfOk result (λ rounds. vec_len rounds.drawn ≡ tables.entry.k + tables.entry.k) }
+    ensures drawn { IfOk result (λ rounds. rounds.drawn.items ≡ draws C.source (C.state challenges.old) (round_messages rounds.messages.items)) }
+    ensures state { IfOk result (λ rounds. C.state challenges.new ≡ state_after C.source (C.state challenges.old) (round_messages rounds.messages.items)) }
+{
+    let mut messages = Vec::new(alloc);
+    let mut drawn = Vec::new(alloc);
+    let count = tables.rounds_left();
+    for _number in 0..count {
+        let message = round(&tables, workers, gate)?;
+        challenges.absorb(&message);
+        let challenge = challenges.challenge();
+        tables.bind(challenge);
+        messages.push(Round::of(message))?;
+        drawn.push(challenge)?;
+    }
+    let room = tables.into_room();
+    Ok(Rounds {
+        messages,
+        drawn,
+        room,
+    })
+}

@@ -1,0 +1,11 @@
+-- The gates and the table make a layer
+use Rattle.round_tables.proofs.gate_tables.GateTables.start_in.Goals as goal
+
+pub new-requires : goal.new-requires
+new-requires c = record {
+  least = c.requires.least;
+  most = c.requires.most;
+  size = c.args.values.now.whole;
+  width = c.requires.width;
+  operands = c.requires.operands;
+}

@@ -1,0 +1,57 @@
+-- The sum of a layer's summand over both operands, with some of its coordinates bound to challenges
+use Rattle.std.specs.Prelude.{ℕ, ◌+◌, ◌-◌, ◌*◌, ◌/◌, ◌^◌, min, List, [], ◌∷◌, ◌++◌, map, length, if◌then◌else◌, nat_lt, ◌==◌}
+use Rattle.field_ext.specs.Ring.{Ops}
+use Rattle.field_ext.specs.Field.{K, k_ops}
+use Rattle.field_ext.specs.Sums.{sum_below, sum_cube}
+use Rattle.field_ext.specs.Multilinear.{bits_of}
+use Rattle.circuit_core.specs.declared.gate.CircuitGate.{CircuitGate}
+use Rattle.field_ext.specs.Polynomial.{polynomial_ops, constant}
+use Rattle.wiring_poly.specs.Wiring.{summand_at}
+use Rattle.wiring_poly.specs.Sumcheck.{round_polynomial}
+
+-- a layer of gates over the 2 ^ k values of the layer below, its output point, and the challenges that are bound
+pub record LayerSum : Type 0 where
+  pub k : ℕ
+  pub gates : List CircuitGate
+  pub values : List K
+  pub point : List K
+  pub bound : List K
+
+-- the coordinates of the phase that are left once n of the 2 k are bound: first those of the left operand, then those of the right one
+abbrev pub left_in_phase : ℕ → ℕ → ℕ
+left_in_phase k n = if nat_lt n k then k - n else k + k - n
+
+-- the coordinates of a later phase
+abbrev pub after_phase : ℕ → ℕ → ℕ
+after_phase k n = if nat_lt n k then k else 0
+
+-- the part of a round's true polynomial in which the other coordinates of the phase are the bits of a number from `from` to before `to`
+abbrev pub part_of_round : {A : Type 0} → Ops A → ℕ → List CircuitGate → List A → List A → List A → ℕ → ℕ → List A
+part_of_round o k gates values point bound from to =
+    let n = length bound in
+    sum_below (polynomial_ops o) (to - from) (λ j.
+    sum_cube (polynomial_ops o) (after_phase k n) (λ c.
+    summand_at (polynomial_ops o) o (constant o) k gates values (map (constant o) point) (map (constant o) bound ++ (o.zero ∷ o.one ∷ []) ∷ (bits_of (polynomial_ops o) (left_in_phase k n - 1) (from + j) ++ c))))
+
+-- how many numbers the other coordinates of the phase have
+abbrev pub pairs_of : LayerSum → ℕ
+pairs_of s = 2 ^ (left_in_phase s.k (length s.bound) - 1)
+
+-- a round is summed in pieces of 1024 numbers
+abbrev pub pieces_of : LayerSum → ℕ
+pieces_of s = (pairs_of s + 1023) / 1024
+
+abbrev pub piece_poly : LayerSum → ℕ → List K
+piece_poly s piece = part_of_round k_ops s.k s.gates s.values s.point s.bound (1024 * piece) (min (1024 * piece + 1024) (pairs_of s))
+
+-- how many pairs a piece has
+abbrev pub piece_pairs : LayerSum → ℕ → ℕ
+piece_pairs s piece = min (1024 * piece + 1024) (pairs_of s) - 1024 * piece
+
+-- the steps that bind a challenge: three for each pair, and one for each gate where the second phase begins
+abbrev pub bind_steps : LayerSum → ℕ
+bind_steps s = 3 * pairs_of s + (if length s.bound + 1 == s.k then length s.gates else 0)
+
+-- the true polynomial of the next round
+abbrev pub next_poly : LayerSum → List K
+next_poly s = round_polynomial k_ops s.k s.gates s.values s.point s.bound (s.k + s.k - length s.bound - 1)

@@ -1,0 +1,5 @@
+pub mod Tables
+pub mod LayerSum
+pub mod Phase
+pub mod Working
+pub mod LazySum

@@ -1,0 +1,178 @@
+// The public face of a layer's working tables.
+
+ghost use Rattle.std.specs.Prelude.{◌≡◌, ◌<◌, ◌≤◌, ◌+◌, ◌^◌, All, IfOk, [], ◌∷◌, ◌++◌, length};
+ghost use Rattle.field_ext.specs.Field.{k_ops};
+ghost use Rattle.circuit_core.specs.Parts.{IsOver};
+ghost use Rattle.field_ext.specs.Polynomial.{coefficients};
+ghost use Rattle.round_tables.specs.LayerSum.{pieces_of, piece_pairs, piece_poly, bind_steps};
+
+use crate::layer_gates::LayerGates;
+use crate::room::Room;
+use crate::steps::Steps;
+use crate::working::{Working, pair_count};
+use circuit_core::CircuitGate;
+use field_ext::Ext;
+use mle_table::Table;
+use std::alloc::{AllocError, Global};
+use std::marker::{Brand, Model};
+use std::sync::ledger::{Blank, Ledger};
+
+/// How many pairs a piece of a round has, the last one aside.
+pub const PIECE: usize = 1024;
+
+/// The sumcheck of a layer, with some of its challenges bound.
+#[derive(Drop)]
+pub struct GateTables<'a> {
+    layer: LayerGates<'a>,
+    working: Working,
+}
+
+impl<'a> Model for GateTables<'a> {
+    ghost use Rattle.round_tables.specs.LayerSum.{LayerSum};
+    ghost use Rattle.round_tables.specs.Working.{IsLayerGates, WorksFor, bound_of};
+
+    ghost Value = { LayerSum };
+
+    ghost view = { λ a. record { k = a.layer.k; gates = a.layer.gates.now; values = a.layer.values.now.items; point = a.layer.point.now; bound = bound_of a.working } };
+
+    ghost invariant = { λ a. IsLayerGates a.layer × WorksFor a.layer a.working };
+}
+
+impl<'a> GateTables<'a> {
+    /// The sumcheck of a layer of gates over the table of the layer below, at a point of the layer, with no challenge
+    /// bound. Err only where no memory is found; no later call takes any.
+    pub fn start(
+        alloc: Global,
+        gates: &'a [CircuitGate],
+        values: &'a Table,
+        point: &'a [Ext],
+    ) -> Result<GateTables<'a>, AllocError>
+        requires least { 1 ≤ values.now.k }
+        requires most { values.now.k ≤ 16 }
+        requires width { length gates.now ≡ 2 ^ length point.now }
+        requires operands { All (IsOver (2 ^ values.now.k)) gates.now }
+        ensures k { IfOk result (λ sum. sum.k ≡ values.now.k) }
+        ensures gates { IfOk result (λ sum. sum.gates ≡ gates.now) }
+        ensures values { IfOk result (λ sum. sum.values ≡ values.now.items) }
+        ensures point { IfOk result (λ sum. sum.point ≡ point.now) }
+        ensures bound { IfOk result (λ sum. sum.bound ≡ []) }
+    {
+        let room = Room::new(alloc, gates.len(), 1 << values.k())?;
+        GateTables::start_in(room, gates, values, point)
+    }
+
+    /// The same sumcheck in room that is there. Err only where it isn't enough and no memory is found.
+    pub fn start_in(
+        room: Room,
+        gates: &'a [CircuitGate],
+        values: &'a Table,
+        point: &'a [Ext],
+    ) -> Result<GateTables<'a>, AllocError>
+        requires least { 1 ≤ values.now.k }
+        requires most { values.now.k ≤ 16 }
+        requires width { length gates.now ≡ 2 ^ length point.now }
+        requires operands { All (IsOver (2 ^ values.now.k)) gates.now }
+        ensures k { IfOk result (λ sum. sum.k ≡ values.now.k) }
+        ensures gates { IfOk result (λ sum. sum.gates ≡ gates.now) }
+        ensures values { IfOk result (λ sum. sum.values ≡ values.now.items) }
+        ensures point { IfOk result (λ sum. sum.point ≡ point.now) }
+        ensures bound { IfOk result (λ sum. sum.bound ≡ []) }
+    {
+        let Room {
+            point_equality,
+            working,
+        } = room;
+        let layer = LayerGates::new(point_equality, gates, values, point)?;
+        let working = working.begin(&layer)?;
+        Ok(GateTables { layer, working })
+    }
+
+    /// The room, for another layer.
+    pub fn into_room(self) -> Room {
+        let GateTables { layer, working } = self;
+        let LayerGates { point_equality, .. } = layer;
+        Room {
+            point_equality,
+            working,
+        }
+    }
+
+    /// How many challenges are still to be bound.
+    pub fn rounds_left(&self) -> usize
+        ensures { result + length self.now.bound ≡ self.now.k + self.now.k }
+    {
+        2 * self.layer.k - self.working.count
+    }
+
+    /// How many pieces the next round has.
+    pub fn pieces(&self) -> usize
+        requires { length self.now.bound < self.now.k + self.now.k }
+        ensures { result ≡ pieces_of self.now }
+    {
+        (pair_count(self.layer.k, self.working.count) + (PIECE - 1)) / PIECE
+    }
+
+    /// The coefficients of 1, X and X² of a piece of the next round, at one step for each pair.
+    pub fn piece_sum_counted<L: Ledger>(&self, piece: usize, steps: &mut Steps<L>) -> [Ext; 3]
+        requires left { length self.now.bound < self.now.k + self.now.k }
+        requires piece { piece < pieces_of self.now }
+        ensures sum { result ≡ coefficients k_ops 3 (piece_poly self.now piece) }
+        ensures steps { steps.new ≡ steps.old + piece_pairs self.now piece }
+    {
+        let pairs = pair_count(self.layer.k, self.working.count);
+        let from = PIECE * piece;
+        let to = (from + PIECE).min(pairs);
+        let part = self.working.part(&self.layer, from, to, steps);
+        [part.constant, part.linear, part.square]
+    }
+
+    /// The coefficients of 1, X and X² of a piece of the next round.
+    pub fn piece_sum(&self, piece: usize) -> [Ext; 3]
+        requires left { length self.now.bound < self.now.k + self.now.k }
+        requires piece { piece < pieces_of self.now }
+        ensures { result ≡ coefficients k_ops 3 (piece_poly self.now piece) }
+    {
+        self.piece_sum_from::<Brand>(piece, Blank::new(1))
+    }
+
+    fn piece_sum_from<L: Ledger>(&self, piece: usize, blank: Blank) -> [Ext; 3]
+        requires left { length self.now.bound < self.now.k + self.now.k }
+        requires piece { piece < pieces_of self.now }
+        requires name { blank.name ≡ L.name }
+        requires parts { blank.parts ≡ L.parts }
+        requires some { 0 < L.parts }
+        ensures { result ≡ coefficients k_ops 3 (piece_poly self.now piece) }
+    {
+        let mut steps = Steps::<L>::start(blank);
+        self.piece_sum_counted(piece, &mut steps)
+    }
+
+    /// Binds the next coordinate to the challenge `r`, at three steps for each pair of the round,
+    /// and one for each gate where the second phase begins.
+    pub fn bind_counted<L: Ledger>(&mut self, r: Ext, steps: &mut Steps<L>)
+        requires { length self.old.bound < self.old.k + self.old.k }
+        ensures bound { self.new ≡ record self.old { bound = self.old.bound ++ r ∷ [] } }
+        ensures steps { steps.new ≡ steps.old + bind_steps self.old }
+    {
+        self.working.bind(&self.layer, r, steps);
+    }
+
+    /// Binds the next coordinate to the challenge `r`.
+    pub fn bind(&mut self, r: Ext)
+        requires { length self.old.bound < self.old.k + self.old.k }
+        ensures { self.new ≡ record self.old { bound = self.old.bound ++ r ∷ [] } }
+    {
+        self.bind_from::<Brand>(r, Blank::new(1));
+    }
+
+    fn bind_from<L: Ledger>(&mut self, r: Ext, blank: Blank)
+        requires left { length self.old.bound < self.old.k + self.old.k }
+        requires name { blank.name ≡ L.name }
+        requires parts { blank.parts ≡ L.parts }
+        requires some { 0 < L.parts }
+        ensures { self.new ≡ record self.old { bound = self.old.bound ++ r ∷ [] } }
+    {
+        let mut steps = Steps::<L>::start(blank);
+        self.bind_counted(r, &mut steps);
+    }
+}

@@ -1,0 +1,4 @@
+mod Positive
+mod ScriptTexts
+mod JobLoop
+mod Readings

@@ -1,0 +1,38 @@
+-- What reading a script answers.
+use Rattle.std.proofs.Common.{◌≡◌, ℕ, ◌≤◌, List, [], ◌++◌, length, Result, Ok, Err, subst}
+use Rattle.std.specs.Prelude.{IfOk}
+use Rattle.case_text.specs.declared.refusal.CaseRefused.{CaseRefused}
+use Rattle.case_text.specs.declared.refusal.BadCase.{BadCase}
+use Rattle.case_text.specs.declared.stop.Stop.{Stop}
+use Rattle.case_text.specs.Reading.{Answers}
+use Rattle.case_text.specs.Places.{IsPlace}
+use Rattle.case_text.proofs.Exact.{IsExact, same_texts}
+use Rattle.case_text.proofs.Readings.{answers_found}
+use Rattle.case_text.proofs.Whole.{whole_one, whole_alone, stop_place, refused_at, answer_found, answer_only}
+use Rattle.script_text.specs.declared.script.ScriptJob.{ScriptJob}
+use Rattle.script_text.specs.Scripts.{SpellsScript, jobs_at, script_in, script_reading}
+use Rattle.script_text.proofs.ScriptTexts.{AreUpTo, jobs_exact}
+
+abbrev pub ScriptText : List ScriptJob → List ℕ → Type 0
+ScriptText jobs text = SpellsScript text jobs
+
+script_exact : IsExact ScriptText (jobs_at 256)
+script_exact = same_texts (AreUpTo 256) ScriptText (jobs_at 256) (λ jobs text h. record { count = h.0; text = h.1 }) (λ jobs text h. (h.count, h.text)) (jobs_exact 256)
+
+pub script_found : (bytes : List ℕ) (result : Result (List ScriptJob) CaseRefused) → Answers result (script_reading bytes) → IfOk result (λ jobs. SpellsScript bytes jobs)
+script_found bytes result h = answers_found ScriptText bytes (script_reading bytes) result (answer_found ScriptText (jobs_at 256) script_exact bytes) h
+
+pub script_only : (bytes : List ℕ) (result : Result (List ScriptJob) CaseRefused) → Answers result (script_reading bytes) → (jobs : List ScriptJob) → SpellsScript bytes jobs → Answers result (Ok jobs)
+script_only bytes result h jobs spelled = subst (Answers result) (answer_only ScriptText (jobs_at 256) script_exact bytes jobs spelled) h
+
+pub script_one : (bytes : List ℕ) (js ks : List ScriptJob) → SpellsScript bytes js → SpellsScript bytes ks → js ≡ ks
+script_one = whole_one ScriptText (jobs_at 256) script_exact
+
+pub script_alone : (text more : List ℕ) (js ks : List ScriptJob) → SpellsScript text js → SpellsScript (text ++ more) ks → more ≡ []
+script_alone = whole_alone ScriptText (jobs_at 256) script_exact
+
+pub script_stop_within : (bytes : List ℕ) (s : Stop) → script_in bytes ≡ Err s → s.left ≤ length bytes
+script_stop_within bytes s e = (stop_place ScriptText (jobs_at 256) script_exact bytes s e).0
+
+pub script_refused_at : (bytes : List ℕ) (bad : BadCase) → script_reading bytes ≡ Err bad → IsPlace ScriptText bytes bad.at
+script_refused_at = refused_at ScriptText (jobs_at 256) script_exact

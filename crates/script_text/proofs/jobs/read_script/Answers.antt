@@ -1,0 +1,9 @@
+use Rattle.script_text.specs.Scripts.{jobs_of}
+use Rattle.script_text.proofs.Readings.{script_found, script_only}
+use Rattle.script_text.proofs.jobs.read_script.Goals as goal
+
+pub returns-clause-found : goal.returns-clause-found
+returns-clause-found c = script_found c.args.bytes.now (jobs_of c.placed_script.result) c.placed_script.ensures
+
+pub returns-clause-only : goal.returns-clause-only
+returns-clause-only c = script_only c.args.bytes.now (jobs_of c.placed_script.result) c.placed_script.ensures

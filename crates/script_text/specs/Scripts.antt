@@ -1,0 +1,74 @@
+-- A script: cases of clients, one after another.
+use Rattle.std.specs.Prelude.{◌≡◌, ℕ, zero, suc, ◌<◌, ◌≤◌, List, [], ◌∷◌, ◌++◌, length, codes, Bool, false, Result, Ok, Err, ◌==◌, if◌then◌else◌}
+use Rattle.std.specs.List.{concat}
+use Rattle.case_text.specs.declared.form.Form.TheVariants.{Plain}
+use Rattle.case_text.specs.declared.refusal.Kind.TheVariants.{Section, Length, End}
+use Rattle.case_text.specs.declared.refusal.BadCase.{BadCase}
+use Rattle.std.specs.Global.{Vec}
+use Rattle.case_text.specs.declared.refusal.CaseRefused.{CaseRefused}
+use Rattle.script_text.specs.declared.script.ScriptJob.{ScriptJob}
+use Rattle.case_text.specs.declared.stop.Stop.{Stop}
+use Rattle.case_text.specs.declared.rule.Rule.{Rule}
+use Rattle.case_text.specs.Spelling.{Spells, number}
+use Rattle.case_text.specs.Due.{Taking, ◌>>=◌, stopped, word_at, decimal_at, in_order, choice_at}
+use Rattle.case_text.specs.Reading.{case_at, at_end, refused}
+
+abbrev pub client_number : Rule
+client_number = record { limit = 65; over = Length; behind_zero = 10; behind_other = 10 }
+
+-- a decimal that isn't 0
+unfoldable pub positive_at : Rule → List ℕ → Taking ℕ
+positive_at rule [] = Err (stopped End [])
+positive_at rule (b ∷ bytes) = if b == 48 then Err (stopped rule.over (b ∷ bytes)) else decimal_at rule (b ∷ bytes)
+
+-- the text of a job: its client's line, and its case
+abbrev pub IsJob : ScriptJob → List ℕ → Type 0
+IsJob job text = (0 < job.client) × (job.client < 65) × (case : List ℕ) × Spells Plain case job.case × (text ≡ concat (codes "client " ∷ number job.client 10 ∷ case ∷ []))
+
+abbrev pub done : List ℕ
+done = codes "done" ++ 10 ∷ []
+
+-- jobs, and then the last line
+abbrev pub AreJobs : List ScriptJob → List ℕ → Type 0
+AreJobs [] text = text ≡ done
+AreJobs (job ∷ jobs) text = (s : List ℕ) × (t : List ℕ) × IsJob job s × AreJobs jobs t × (text ≡ s ++ t)
+
+-- These bytes are a text of the script.
+pub record SpellsScript (bytes : List ℕ) (jobs : List ScriptJob) : Type 0 where
+  pub count : length jobs ≤ 256
+  pub text : AreJobs jobs bytes
+
+unfoldable pub job_at : List ℕ → Taking ScriptJob
+job_at bytes = do
+  name ← word_at Section (codes "client ") bytes
+  client ← positive_at client_number name.1
+  case ← case_at Plain client.1
+  Ok (record { client = client.0; case = case.0 }, case.1)
+
+abbrev pub done_at : List ℕ → Taking (List ScriptJob)
+done_at bytes = word_at Section done bytes >>= λ x. Ok ([], x.1)
+
+-- at most this many jobs, and then the last line
+unfoldable pub jobs_at : ℕ → List ℕ → Taking (List ScriptJob)
+jobs_at zero bytes = done_at bytes
+jobs_at (suc more) bytes =
+    choice_at 99 (in_order job_at (λ job. in_order (jobs_at more) (λ jobs rest. Ok (job ∷ jobs, rest)))) done_at bytes
+
+-- whether a job follows, where this many more may
+abbrev pub follows : ℕ → List ℕ → Result Bool Stop
+follows zero bytes = Ok false
+follows (suc more) [] = Err (stopped End [])
+follows (suc more) (b ∷ bytes) = Ok (b == 99)
+
+-- the jobs that all of the bytes spell
+abbrev pub script_in : List ℕ → Result (List ScriptJob) Stop
+script_in bytes = at_end (jobs_at 256 bytes)
+
+-- The jobs of the script that bytes spell, or the refusal.
+abbrev pub script_reading : List ℕ → Result (List ScriptJob) BadCase
+script_reading bytes = refused (length bytes) (script_in bytes)
+
+-- the jobs of an answer, as a list
+abbrev pub jobs_of : Result (Vec ScriptJob) CaseRefused → Result (List ScriptJob) CaseRefused
+jobs_of (Ok jobs) = Ok jobs.items
+jobs_of (Err e) = Err e

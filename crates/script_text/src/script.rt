@@ -1,0 +1,12 @@
+//! Scripts: cases of clients.
+
+use case_text::Case;
+
+/// A case, and the client that it is of.
+#[derive(Debug, Drop)]
+pub struct ScriptJob {
+    /// The number of the client, from 1 to 64.
+    pub client: u32,
+    /// The case, of the form Plain.
+    pub case: Case,
+}

@@ -1,0 +1,10 @@
+-- The sums so far are those of the pieces passed
+use Rattle.std.proofs.Common.{◌≡◌, [], ◌∷◌}
+use Rattle.field_ext.specs.Field.{K, k_ops}
+use Rattle.field_ext.specs.Polynomial.{value_at}
+use Rattle.field_ext.specs.Sums.{sum_below}
+use Rattle.round_tables.specs.LayerSum.{piece_poly}
+use Rattle.sumcheck_prove.proofs.message.round.Given as goal
+
+abbrev pub invariant-loop-piece : goal.invariant-loop-piece
+invariant-loop-piece g l = (e : K) → value_at k_ops (l.constant ∷ l.linear ∷ l.square ∷ []) e ≡ sum_below k_ops l.piece (λ piece. value_at k_ops (piece_poly l.tables piece) e)

@@ -1,0 +1,14 @@
+//! The prover's message of a round of sumcheck.
+//!
+//! The message is the true polynomial of the round, of degree at most 2, as its three coefficients: the sum of what the
+//! pieces of the round give, in any order. Source: Thaler, "Proofs, Arguments, and Zero-Knowledge", 4.1 and 4.6.
+//!
+//! ```text
+//! let message = round(&tables, 1, &OpenGate)?;     // the coefficients of 1, X and X²
+//! tables.bind(challenge);
+//! ```
+#![tactic(auto)]
+
+mod message;
+
+pub use message::round;
