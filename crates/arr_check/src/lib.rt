@@ -6,7 +6,7 @@
 //! the names in scope, and a loop is run turn by turn, never unrolled in memory.
 //! The rules stand in `specs/Program.antt` and the files that it names; `laws` says that a loop's turns come in order.
 //!
-//! `input v[2]; output v + 1;` is refused as Shape at the `+`, byte 20.
+//! `input v[2]; output v+1;` is refused as Shape at the `+`, byte 20.
 #![tactic(auto)]
 
 mod binding;

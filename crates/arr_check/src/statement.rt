@@ -135,7 +135,8 @@ fn run_all(run: &mut Run, alloc: Global, statements: &[Statement]) -> Result<(),
     Ok(())
 }
 
-/// The bounds of a loop.
+/// The first turn of a loop and the one past its last. Refused as `Bounds` at the lower bound's first byte where that is
+/// above the upper one, and before that as the index expressions are.
 pub fn bounds(
     scope: &Scope,
     low: &IndexExpression,

@@ -8,7 +8,7 @@
 //! ```text
 //! read_program(alloc, b"input a; output a;")?.inputs      // 1
 //! read_program(alloc, b"output 3 4;")                     // refused as Syntax at 9
-//! compile(alloc, b"input a; output a;")?.circuit          // a circuit of two layers
+//! compile(alloc, b"input a; output a;")?.circuit          // one layer above the inputs
 //! ```
 #![tactic(auto)]
 

@@ -1,4 +1,5 @@
--- What a program puts out: its run over blocks of names with shapes and lists of numbers. There is none where the run over shapes is refused.
+-- What a program puts out: its run over blocks of names with shapes and lists of numbers.
+-- There is none where the run meets something that is missing; it may be there where the checks refuse a program for what they count.
 use Rattle.std.specs.Prelude.{ℕ, zero, suc, ◌+◌, ◌-◌, ◌*◌, ◌==◌, List, [], ◌∷◌, ◌++◌, map, take, drop, set, length, Option, Some, None, option_map, Ok, Err, if◌then◌else◌}
 use Rattle.arr_ast.specs.declared.expression.Sign.{Sign}
 use Rattle.arr_ast.specs.declared.expression.Sign.TheVariants.{Plus, Minus}

@@ -13,7 +13,7 @@ use crate::token::{Symbol, Token};
 use crate::word::word_of;
 use std::alloc::Global;
 
-/// The tokens of a text.
+/// The tokens of a text, or `Lex` at the first byte that is none's. `Memory` comes only where no memory is found.
 #[tactic(auto, using(crate::proofs::Passed::of_tokens))]
 pub fn tokens(alloc: Global, text: &[u8]) -> Result<Vec<Token>, LexRefused>
     requires { length text.now ≤ 65536 }

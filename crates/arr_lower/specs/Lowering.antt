@@ -1,4 +1,5 @@
--- The nodes of a program: its run over names and nodes, in order of making. There are none where the run over shapes is refused.
+-- The nodes of a program: its run over names and nodes, in order of making.
+-- There are none where the run meets something that is missing; they may be there where the checks refuse a program for what they count.
 use Rattle.std.specs.Prelude.{ℕ, zero, suc, ◌+◌, ◌-◌, ◌*◌, ◌==◌, ◌&&◌, List, [], ◌∷◌, ◌++◌, map, set, slice_get, length, Option, Some, None, if◌then◌else◌}
 use Rattle.std.specs.List.{zip, range_with_len}
 use Rattle.arr_ast.specs.declared.expression.Sign.{Sign}

@@ -17,7 +17,7 @@ use std::marker::Model;
 ///
 /// A map from each constant to its node stands beside the list, so a constant is found in time
 /// logarithmic in their number. A node's number is a `u32`: where there are as many nodes as that
-/// has numbers, a call answers as for want of memory. An accepted program has far fewer.
+/// has numbers, a call answers as for want of memory. The checks let far fewer pass.
 #[derive(Drop)]
 pub struct Nodes {
     nodes: Vec<Node>,

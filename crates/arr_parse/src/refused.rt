@@ -8,7 +8,7 @@ use thiserror::Error;
 /// Why a text is no program. Places are byte positions, from 0.
 #[derive(Clone, Copy, PartialEq, Eq, Debug, Error)]
 pub enum ParseRefused {
-    /// The first byte of the first token with which no program goes on, or the text's length where it ends too soon.
+    /// The first byte of the first token that what is due can't take, or the text's length where it ends too soon.
     #[error("byte {at} continues no program")]
     Syntax { at: usize },
     /// The first byte of a token that begins a 65th level of open brackets and unary minuses.

@@ -31,7 +31,8 @@ use transcript_fs::{Statement, Transcript};
 
 /// The case with its program's meaning on its inputs as outputs, and with the one honest proof of them. It is refused as
 /// `Program` exactly where the program's text or its layout is refused so, and else as `Input` exactly where the numbers of
-/// inputs differ. Outputs and proof of the given case play no part. The worker passes no gate.
+/// inputs differ. Outputs and proof of the given case play no part. So far one worker proves: `workers` is 1, and
+/// the gate is not passed.
 pub fn prove_case<R: Threads + Sync, G: Gate>(
     rt: &R,
     alloc: Global,

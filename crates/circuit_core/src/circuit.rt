@@ -33,7 +33,8 @@ impl Model for Circuit {
 impl Circuit {
     ghost use Rattle.circuit_core.specs.Faults.{IsCauseOf};
 
-    /// A circuit of layers, the output layer first, over a padded input layer of leaves.
+    /// A circuit of layers, the output layer first, over a padded input layer of leaves. `Bad` comes with the first fault, in
+    /// the order depth, widths, zero gates, operands, leaves; `Memory` only where no memory is found.
     pub fn of(
         alloc: Global,
         layers: Vec<Layer>,
@@ -60,18 +61,22 @@ impl Circuit {
         Ok(Circuit { lists, shape })
     }
 
+    /// The sizes of its layers.
     pub fn shape(&self) -> &Shape
         ensures { result.now.ks ≡ exponents self.now.parts }
     {
         &self.shape
     }
 
+    /// How many layers stand above the input layer.
     pub fn height(&self) -> usize
         ensures { result ≡ height self.now.parts }
     {
         self.lists.height()
     }
 
+    /// How many positions a layer has, padding included. Layer 0 is that of the outputs, and layer `height` that of the
+    /// inputs.
     pub fn width(&self, layer: usize) -> usize
         requires { layer ≤ height self.now.parts }
         ensures { result ≡ width_of self.now.parts layer }
@@ -79,6 +84,7 @@ impl Circuit {
         self.lists.width(layer)
     }
 
+    /// The gate at a position of a layer.
     pub fn gate_at(&self, layer: usize, gate: usize) -> CircuitGate
         requires layer_in { layer < height self.now.parts }
         requires gate_in { gate < width_of self.now.parts layer }
@@ -117,12 +123,14 @@ impl Circuit {
         self.lists.leaves.get(position - 1).copied()
     }
 
+    /// How many inputs its leaves may name.
     pub fn inputs(&self) -> u32
         ensures { result ≡ self.now.parts.inputs }
     {
         self.lists.inputs
     }
 
+    /// How many outputs it has, which stand from position 1 of layer 0 on.
     pub fn outputs(&self) -> u32
         ensures value { result ≡ self.now.parts.outputs }
         ensures some { 1 ≤ result }

@@ -5,23 +5,28 @@ use std::alloc::AllocError;
 /// The first fault of a circuit.
 #[derive(Clone, Copy, Debug, PartialEq, Eq)]
 pub enum BadCircuit {
+    /// There is no layer of gates, or more than 256.
     Depth {
         layers: usize,
     },
+    /// A layer's size is no power of two from 2 to 65,536, or the layer can't hold position 0 and its outputs or leaves.
     Width {
         layer: usize,
         width: usize,
     },
+    /// Gate 0 of a layer, or a gate of layer 0 past the outputs, isn't `add(0, 0)`.
     Zero {
         layer: usize,
         gate: usize,
     },
+    /// An operand isn't a position of the layer below, which has `width` of them. Left comes before right.
     Operand {
         layer: usize,
         gate: usize,
         operand: u32,
         width: usize,
     },
+    /// The leaf at a position names an input that there isn't.
     Leaf {
         position: usize,
     },
@@ -30,7 +35,9 @@ pub enum BadCircuit {
 /// Why there is no circuit.
 #[derive(Clone, Copy, Debug, PartialEq, Eq)]
 pub enum CircuitRefused {
+    /// The first fault.
     Bad(BadCircuit),
+    /// No memory was found. Nothing is known of the circuit.
     Memory,
 }
 

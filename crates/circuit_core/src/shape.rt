@@ -27,6 +27,7 @@ impl Model for Shape {
 }
 
 impl Shape {
+    /// The shape of these exponents: from two layers up, each of at least 2 positions, within the limits of every circuit.
     pub fn of(ks: Vec<u32>) -> Shape
         requires long { 2 ≤ vec_len ks }
         requires short { vec_len ks ≤ GREATEST_HEIGHT + 1 }
@@ -36,12 +37,14 @@ impl Shape {
         Shape { ks }
     }
 
+    /// How many layers there are, that of the inputs among them.
     pub fn layers(&self) -> usize
         ensures { result ≡ length self.now.ks }
     {
         self.ks.len()
     }
 
+    /// The k of a layer of `2^k` positions.
     pub fn k(&self, layer: usize) -> u32
         requires { layer < length self.now.ks }
         ensures { result ≡ slice_index self.now.ks layer }

@@ -1,7 +1,7 @@
 //! The values of a circuit's layers, as tables of elements of K.
 //!
 //! The value of a leaf is its input or constant, and the value of a gate the sum or product of its operands' values in the
-//! layer below; position 0 and padding hold 0. Layers are evaluated from the leaves up, and their tables stay as they are.
+//! layer below; position 0 and padding hold 0. Layers are evaluated from the leaves up, and all their tables are kept.
 //! Source: Thaler, "Proofs, Arguments, and Zero-Knowledge", 4.6.1 (the functions V_i).
 //!
 //! ```text

@@ -36,7 +36,7 @@ impl Values {
     }
 }
 
-/// The values of every layer, for inputs of the right count.
+/// The values of every layer, for inputs of the right count. Err only where no memory is found.
 pub fn layer_values<R: Threads + Sync>(
     rt: &R,
     alloc: Global,

@@ -17,7 +17,7 @@ use std::sync::Wait;
 use std::test::Fail;
 use std::thread::Threads;
 
-/// A program, the words of its line of inputs, and what `eval` answers.
+/// A program, the words of its line of inputs, and what the command answers.
 #[derive(Clone, Copy)]
 struct Row {
     program: &'static [u8],
@@ -47,6 +47,32 @@ impl<'a> Ends<'a> {
     }
 }
 
+/// How many bytes a sink in memory holds, and takes a write.
+#[derive(Clone, Copy)]
+struct Room {
+    most: usize,
+    piece: usize,
+    ghost some: { 0 < piece },
+}
+
+/// Runs the program with these words; answers how it ended and what it wrote.
+fn ended<R: Threads + Wait + Sync + Abort + AllocGlobal>(
+    rt: &R,
+    words: &[&str],
+    ends: &Ends,
+    room: Room,
+) -> Result<(Status, Vec<u8>), Fail> {
+    let alloc = rt.alloc();
+    let mut owned = Vec::new(alloc);
+    for word in words {
+        owned.push(String::from_str(alloc, word)?)?;
+    }
+    let mut source = MemorySource::new(alloc, ends.input, ends.piece, ends.failing_reads)?;
+    let mut sink = MemorySink::new(alloc, room.most, room.piece, ends.failing_writes)?;
+    let status = gkr_run(rt, alloc, &owned, &mut source, &mut sink, &OpenGate);
+    Ok((status, Vec::from_slice(alloc, sink.bytes())?))
+}
+
 /// Runs the program with these words into a sink that takes at most 5 bytes a write, and sees how it ends and what it
 /// writes.
 fn sees<R: Threads + Wait + Sync + Abort + AllocGlobal>(
@@ -56,21 +82,18 @@ fn sees<R: Threads + Wait + Sync + Abort + AllocGlobal>(
     status: Status,
     reply: &[u8],
 ) -> Result<(), Fail> {
-    let alloc = rt.alloc();
-    let mut owned = Vec::new(alloc);
-    for word in words {
-        owned.push(String::from_str(alloc, word)?)?;
-    }
-    let mut source = MemorySource::new(alloc, ends.input, ends.piece, ends.failing_reads)?;
-    let mut sink = MemorySink::new(alloc, 4096, 5, ends.failing_writes)?;
-    let ended = gkr_run(rt, alloc, &owned, &mut source, &mut sink, &OpenGate);
-    assert_eq!(rt; ended, status);
-    assert_eq!(rt; sink.bytes(), reply);
+    let room = Room {
+        most: 4096,
+        piece: 5,
+    };
+    let (found, written) = ended(rt, words, ends, room)?;
+    assert_eq!(rt; found, status);
+    assert_eq!(rt; written.as_slice(), reply);
     Ok(())
 }
 
-/// The text of a case.
-fn case_of(alloc: Global, program: &[u8], inputs: &[u8]) -> Result<Vec<u8>, AllocError> {
+/// The text of a case up to its last line.
+fn opened(alloc: Global, program: &[u8], inputs: &[u8]) -> Result<Vec<u8>, AllocError> {
     let mut text = Vec::new(alloc);
     text.extend_from_slice(b"gkr case 1\nprogram ")?;
     text.extend_from_slice(format!(in alloc; "{}", program.len())?.as_bytes())?;
@@ -78,7 +101,29 @@ fn case_of(alloc: Global, program: &[u8], inputs: &[u8]) -> Result<Vec<u8>, Allo
     text.extend_from_slice(program)?;
     text.extend_from_slice(b"\ninput ")?;
     text.extend_from_slice(inputs)?;
-    text.extend_from_slice(b"\nend\n")?;
+    text.push(b'\n')?;
+    Ok(text)
+}
+
+/// The text of a case.
+fn case_of(alloc: Global, program: &[u8], inputs: &[u8]) -> Result<Vec<u8>, AllocError> {
+    let mut text = opened(alloc, program, inputs)?;
+    text.extend_from_slice(b"end\n")?;
+    Ok(text)
+}
+
+/// The text of a case with outputs and a proof of so many bytes, up to the proof's digits.
+fn claimed(
+    alloc: Global,
+    program: &[u8],
+    inputs: &[u8],
+    outputs: &[u8],
+    proof: usize,
+) -> Result<Vec<u8>, AllocError> {
+    let mut text = opened(alloc, program, inputs)?;
+    text.extend_from_slice(b"output ")?;
+    text.extend_from_slice(outputs)?;
+    text.extend_from_slice(format!(in alloc; "\nproof {}\n", proof)?.as_bytes())?;
     Ok(text)
 }
 

@@ -4,7 +4,8 @@ use crate::measure::{microseconds, numbers};
 use arr_compile::compile;
 use circuit_core::Circuit;
 use circuit_eval::layer_values;
-use std::alloc::Global;
+use field_ext::Ext;
+use std::alloc::{AllocError, Global};
 use std::io;
 use std::marker::Sync;
 use std::thread::Threads;
@@ -59,6 +60,30 @@ fn evaluating<R: Threads + Sync>(
     Ok(taken)
 }
 
+/// Room for the values of all layers, filled with zeros.
+fn zeros(alloc: Global, circuit: &Circuit) -> Result<Vec<Vec<Ext>>, AllocError> {
+    let mut tables = Vec::with_capacity(alloc, circuit.height() + 1)?;
+    for layer in 0..circuit.height() + 1 {
+        tables.push(vec![in alloc; Ext::zero(); circuit.width(layer)]?)?;
+    }
+    Ok(tables)
+}
+
+/// How many microseconds it took to take as much room and fill it with zeros, the best of five.
+fn filling(rt: &HostRuntime, circuit: &Circuit) -> io::Result<u64> {
+    let alloc = rt.alloc();
+    let mut taken = u64::MAX;
+    for _ in 0..5u32 {
+        let begun = Instant::now(rt)?;
+        let tables = zeros(alloc, circuit);
+        let time = microseconds(begun.elapsed(rt)?);
+        if tables.is_ok() {
+            taken = taken.min(time);
+        }
+    }
+    Ok(taken)
+}
+
 /// How many gates a circuit has, padding included.
 fn gates(circuit: &Circuit) -> u64 {
     let mut count = 0u64;
@@ -81,16 +106,18 @@ pub fn circuit<R: Threads + Sync>(
     };
     let compiling = compiling(rt, text)?;
     let evaluating = evaluating(rt, threads, &circuit)?;
+    let filling = filling(rt, &circuit)?;
     let gates = gates(&circuit).max(1);
     let tenths = evaluating.min(1_000_000_000_000).saturating_mul(10_000) / gates;
     println!(rt;
-        "{}: {} layers of {} gates, laid out in {} us, evaluated in {} us, {}.{} ns a gate",
+        "{}: {} layers of {} gates, laid out in {} us, evaluated in {} us, {}.{} ns a gate, as much room filled in {} us",
         kind,
         circuit.height(),
         gates,
         compiling,
         evaluating,
         tenths / 10,
-        tenths % 10
+        tenths % 10,
+        filling
     )
 }

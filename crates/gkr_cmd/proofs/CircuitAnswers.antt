@@ -8,7 +8,9 @@ use Rattle.case_text.specs.Content.{Content}
 use Rattle.case_text.specs.Sizes.{Sizes}
 use Rattle.case_text.specs.declared.reply.Reply.{Reply}
 use Rattle.case_text.specs.declared.reply.Reply.TheVariants as replies
-use Rattle.case_prove.specs.Circuits.{IsLaidOut, IsCircuitMiscounted, sizes_of}
+use Rattle.case_prove.specs.Circuits.{IsLaidOut, IsCircuitMiscounted, RefusesCircuit, sizes_of}
+use Rattle.case_prove.specs.declared.refused.Refused.{Refused}
+use Rattle.case_prove.specs.declared.refused.Refused.TheVariants as refusals
 use Rattle.gkr_cmd.specs.declared.status.Status.TheVariants.{Done}
 use Rattle.gkr_cmd.specs.Replies.{IsCircuitAnswer, status_of}
 use Rattle.gkr_cmd.specs.Runs.{HasCircuit}
@@ -86,3 +88,11 @@ answer_done one c is (laid_out sizes value) = refl
 
 pub circuit_done : IsOne → (c : Content) (reply : Reply) → HasCircuit c → IsCircuitAnswer c reply → status_of reply ≡ Done
 circuit_done one c reply is found = answer_done one c is (answer c reply found)
+
+-- a case whose program has a circuit with as many inputs is refused for want of memory alone
+pub memory_alone : IsOne → (c : Content) (refused : Refused) → HasCircuit c → RefusesCircuit c refused → refused ≡ refusals.Memory
+memory_alone one c (refusals.Program bad) has is = absurd (one.either c.program has.parts bad has.compiled is)
+memory_alone one c (refusals.Input have need) has is = absurd (counted_or_not one c have need has.parts has.compiled has.counted is)
+memory_alone one c (refusals.Output have need) has is = absurd is
+memory_alone one c (refusals.Proof bad) has is = absurd is
+memory_alone one c refusals.Memory has is = refl

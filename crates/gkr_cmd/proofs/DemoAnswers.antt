@@ -1,5 +1,5 @@
 -- A number has at most one answer of `demo`.
-use Rattle.std.proofs.Common.{◌≡◌, ◌≢◌, ℕ, List, ◌∷◌, length, subst, Option, Some, refl, sym, ap, ◌∙◌}
+use Rattle.std.proofs.Common.{◌≡◌, ℕ, List, ◌∷◌, length, subst, Option, Some, refl, sym, ap, ◌∙◌}
 use Rattle.field_ext.specs.Field.{F}
 use Rattle.sha2.specs.Sha256.{sha256}
 use Rattle.circuit_core.specs.Parts.{height}
@@ -8,35 +8,10 @@ use Rattle.case_text.specs.declared.demo.DemoSummary.{DemoSummary}
 use Rattle.case_text.specs.declared.reply.Reply.{Reply}
 use Rattle.case_text.specs.declared.reply.Reply.TheVariants as replies
 use Rattle.gkr_cmd.specs.Demo.{IsDemo, demo_case}
-use Rattle.gkr_cmd.specs.Replies.{IsDemoAnswer, IsProveAnswer, status_of}
+use Rattle.gkr_cmd.specs.Replies.{IsDemoAnswer, status_of}
 use Rattle.gkr_cmd.specs.declared.status.Status.TheVariants.{Done}
-use Rattle.gkr_cmd.specs.Runs.{HasCircuit}
 use Rattle.gkr_cmd.proofs.CircuitAnswers.{IsOne}
-use Rattle.gkr_cmd.proofs.ProveAnswers.{IsOneProved, one_prove, prove_done}
-
--- what is said of a number
-data Answer (number : ℕ) : Reply → Type 0 where
-  told : (summary : DemoSummary) → IsDemo number summary → Answer number (replies.Demo summary)
-  refused : {reply : Reply} → ((p : Content) → reply ≢ replies.Proved p) → IsProveAnswer (demo_case number) reply → Answer number reply
-
-answer : (number : ℕ) (reply : Reply) → IsDemoAnswer number reply → Answer number reply
-answer number replies.Usage is = absurd is
-answer number (replies.TooLong limit) is = absurd is
-answer number (replies.Case bad) is = absurd is
-answer number (replies.Program kind at) is = refused (λ p e. cc) is
-answer number (replies.Deep levels) is = refused (λ p e. cc) is
-answer number (replies.Wide height width) is = refused (λ p e. cc) is
-answer number (replies.InputCount have need) is = refused (λ p e. cc) is
-answer number (replies.Outputs outputs) is = absurd is
-answer number (replies.Circuit sizes) is = absurd is
-answer number (replies.Proved p) is = absurd is
-answer number (replies.Demo summary) is = told summary is
-answer number (replies.OutputCount have need) is = absurd is
-answer number (replies.Proof bad) is = absurd is
-answer number replies.Accepted is = absurd is
-answer number (replies.RejectedSum layer round had claim) is = absurd is
-answer number (replies.RejectedEnd layer had want) is = absurd is
-answer number (replies.RejectedInput had want) is = absurd is
+use Rattle.gkr_cmd.proofs.ProveAnswers.{IsOneProved}
 
 same_some : {A : Type 0} (o : Option A) (a b : A) → o ≡ Some a → o ≡ Some b → a ≡ b
 same_some o a b is is' = cc
@@ -70,33 +45,38 @@ same_summary one proofs number a b is is' =
     ∙ ap (λ d. summary_of b.number b.size b.output b.layers b.proof d) same_digest in
     whole
 
+-- what is said of a number
+data Answer (number : ℕ) : Reply → Type 0 where
+  told : (summary : DemoSummary) → IsDemo number summary → Answer number (replies.Demo summary)
+
+answer : (number : ℕ) (reply : Reply) → IsDemoAnswer number reply → Answer number reply
+answer number (replies.Demo summary) is = told summary is
+answer number replies.Usage is = absurd is
+answer number (replies.TooLong limit) is = absurd is
+answer number (replies.Case bad) is = absurd is
+answer number (replies.Program kind at) is = absurd is
+answer number (replies.Deep levels) is = absurd is
+answer number (replies.Wide height width) is = absurd is
+answer number (replies.InputCount have need) is = absurd is
+answer number (replies.Outputs outputs) is = absurd is
+answer number (replies.Circuit sizes) is = absurd is
+answer number (replies.Proved proved) is = absurd is
+answer number (replies.OutputCount have need) is = absurd is
+answer number (replies.Proof bad) is = absurd is
+answer number replies.Accepted is = absurd is
+answer number (replies.RejectedSum layer round had claim) is = absurd is
+answer number (replies.RejectedEnd layer had want) is = absurd is
+answer number (replies.RejectedInput had want) is = absurd is
+
 one_answer : IsOne → IsOneProved → (number : ℕ) {a b : Reply} → Answer number a → Answer number b → a ≡ b
 one_answer one proofs number (told s is) (told t is') = ap replies.Demo (same_summary one proofs number s t is is')
-one_answer one proofs number {a} {b} (told s is) (refused none is') =
-    absurd (none is.proved (one_prove one proofs (demo_case number) b (replies.Proved is.proved) is' is.is_proved))
-one_answer one proofs number {a} {b} (refused none is) (told s is') =
-    absurd (none is'.proved (one_prove one proofs (demo_case number) a (replies.Proved is'.proved) is is'.is_proved))
-one_answer one proofs number {a} {b} (refused none is) (refused none' is') = one_prove one proofs (demo_case number) a b is is'
 
 pub one_demo : IsOne → IsOneProved → (number : ℕ) (a b : Reply) → IsDemoAnswer number a → IsDemoAnswer number b → a ≡ b
 one_demo one proofs number a b is is' = one_answer one proofs number (answer number a is) (answer number b is')
 
--- the answer to a number whose case has a circuit with as many inputs is a success
-pub demo_done : IsOne → (number : ℕ) (reply : Reply) → HasCircuit (demo_case number) → IsDemoAnswer number reply → status_of reply ≡ Done
-demo_done one number (replies.Outputs values) has is = absurd is
-demo_done one number replies.Usage has is = absurd is
-demo_done one number (replies.TooLong limit) has is = absurd is
-demo_done one number (replies.Case bad) has is = absurd is
-demo_done one number (replies.Program kind at) has is = prove_done one (demo_case number) (replies.Program kind at) has is
-demo_done one number (replies.Deep levels) has is = prove_done one (demo_case number) (replies.Deep levels) has is
-demo_done one number (replies.Wide height width) has is = prove_done one (demo_case number) (replies.Wide height width) has is
-demo_done one number (replies.InputCount have need) has is = prove_done one (demo_case number) (replies.InputCount have need) has is
-demo_done one number (replies.Circuit sizes) has is = absurd is
-demo_done one number (replies.Proved proved) has is = absurd is
-demo_done one number (replies.Demo summary) has is = refl
-demo_done one number (replies.OutputCount have need) has is = absurd is
-demo_done one number (replies.Proof bad) has is = absurd is
-demo_done one number replies.Accepted has is = absurd is
-demo_done one number (replies.RejectedSum layer round had claim) has is = absurd is
-demo_done one number (replies.RejectedEnd layer had want) has is = absurd is
-demo_done one number (replies.RejectedInput had want) has is = absurd is
+answer_done : (number : ℕ) {reply : Reply} → Answer number reply → status_of reply ≡ Done
+answer_done number (told summary is) = refl
+
+-- the answer to a number is a success
+pub demo_done : (number : ℕ) (reply : Reply) → IsDemoAnswer number reply → status_of reply ≡ Done
+demo_done number reply is = answer_done number (answer number reply is)

@@ -1,6 +1,8 @@
 mod AcceptedCases
 mod CircuitAnswers
 mod DemoAnswers
+mod DemoNodes
+mod DemoPrograms
 mod Demos
 mod Ends
 mod EvalAnswers
@@ -9,4 +11,5 @@ mod OneReply
 mod ProveAnswers
 mod ProvedCases
 mod Replied
+mod SumLevels
 mod VerifyAnswers

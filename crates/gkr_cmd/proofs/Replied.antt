@@ -26,10 +26,9 @@ use Rattle.gkr_cmd.specs.declared.words.Command.TheVariants.{OfCase, Demo}
 use Rattle.gkr_cmd.specs.declared.words.CaseCommand.{CaseCommand}
 use Rattle.gkr_cmd.specs.declared.words.CaseCommand.TheVariants.{Eval, Circuit, Prove, Verify}
 use Rattle.io_edge.specs.Written.{Grows}
-use Rattle.gkr_cmd.specs.Demo.{demo_case}
 use Rattle.gkr_cmd.specs.Reached.{ReadsUpTo, WritesFront}
 use Rattle.gkr_cmd.specs.Replies.{case_limit, IsWithinLimit, IsTooLong, IsCommandReply, IsCaseReply, IsAnswer, IsCircuitAnswer, IsDemoAnswer, IsEvalAnswer, IsProveAnswer, IsVerifyAnswer, IsOfCase, form_of, refused_reply, verdict_reply, status_of}
-use Rattle.gkr_cmd.specs.Runs.{HasCircuit, IsInput, IsReplied, WritesNoMore, WritesReplyFront}
+use Rattle.gkr_cmd.specs.Runs.{IsInput, IsReplied, WritesNoMore, WritesReplyFront}
 
 front_of : (most : ℕ) (left new : Option (List ℕ)) (bytes input : List ℕ) → ReadsUpTo most left new bytes → left ≡ Some input → bytes ≡ take most input
 front_of most None new bytes input h e = absurd cc
@@ -67,11 +66,11 @@ pub done_of : (form : Form) (named : CaseCommand) (P : Content → Type 0) → (
 done_of form named P law command input reply is replied case = law input reply (subst (λ c. IsCommandReply c input reply) is replied) case
 
 -- the same for `demo`, whose reply is one to any input
-pub demo_done_of : (number : ℕ) → ((reply : Reply) → IsDemoAnswer number reply → HasCircuit (demo_case number) → status_of reply ≡ statuses.Done)
+pub demo_done_of : (number : ℕ) → ((reply : Reply) → IsDemoAnswer number reply → status_of reply ≡ statuses.Done)
     → (command : Option Command) (left : Option (List ℕ)) (reply : Reply) → command ≡ Some (Demo number) → ((input : List ℕ) → IsInput command left input → IsCommandReply command input reply)
-    → HasCircuit (demo_case number) → status_of reply ≡ statuses.Done
-demo_done_of number law command left reply is replied has =
-    law reply (subst (λ c. IsCommandReply c [] reply) is (replied [] (subst (λ c. IsInput c left []) (sym is) tt))) has
+    → status_of reply ≡ statuses.Done
+demo_done_of number law command left reply is replied =
+    law reply (subst (λ c. IsCommandReply c [] reply) is (replied [] (subst (λ c. IsInput c left []) (sym is) tt)))
 
 -- the status of a reply is none of a run that wrote none
 pub replied : (reply : Reply) → IsReplied (status_of reply)
@@ -143,26 +142,16 @@ prove_refused (refusals.Output have need) c is = absurd is
 prove_refused (refusals.Proof bad) c is = absurd is
 prove_refused refusals.Memory c is = tt
 
--- what is made of a refusal of the case of `demo` is its answer
-pub demo_refused : (refused : Refused) (number : ℕ) → RefusesCircuit (demo_case number) refused → IfOk (refused_reply refused) (λ reply. IsDemoAnswer number reply)
-demo_refused (refusals.Program (At at kind)) number is = is
-demo_refused (refusals.Program (Deep levels)) number is = is
-demo_refused (refusals.Program (Wide height width)) number is = is
-demo_refused (refusals.Input have need) number is = is
-demo_refused (refusals.Output have need) number is = absurd is
-demo_refused (refusals.Proof bad) number is = absurd is
-demo_refused refusals.Memory number is = tt
-
 -- the answer of `demo` doesn't refuse the words
 pub demo_named : (number : ℕ) (reply : Reply) → IsDemoAnswer number reply → status_of reply ≢ statuses.Usage
 demo_named number (replies.Outputs values) is = absurd is
 demo_named number replies.Usage is = absurd is
 demo_named number (replies.TooLong limit) is = absurd is
 demo_named number (replies.Case bad) is = absurd is
-demo_named number (replies.Program kind at) is = λ e. cc
-demo_named number (replies.Deep levels) is = λ e. cc
-demo_named number (replies.Wide height width) is = λ e. cc
-demo_named number (replies.InputCount have need) is = λ e. cc
+demo_named number (replies.Program kind at) is = absurd is
+demo_named number (replies.Deep levels) is = absurd is
+demo_named number (replies.Wide height width) is = absurd is
+demo_named number (replies.InputCount have need) is = absurd is
 demo_named number (replies.Circuit sizes) is = absurd is
 demo_named number (replies.Proved proved) is = absurd is
 demo_named number (replies.Demo summary) is = λ e. cc

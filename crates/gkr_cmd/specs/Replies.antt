@@ -28,7 +28,7 @@ use Rattle.gkr_cmd.specs.declared.words.CaseCommand.TheVariants as commands
 use Rattle.gkr_cmd.specs.declared.words.Command.{Command}
 use Rattle.gkr_cmd.specs.declared.words.Command.TheVariants.{OfCase, Demo}
 use Rattle.gkr_cmd.specs.Commands.{command_of}
-use Rattle.gkr_cmd.specs.Demo.{IsDemo, demo_case}
+use Rattle.gkr_cmd.specs.Demo.{IsDemo}
 
 -- the most bytes of a case
 abbrev pub case_limit : ℕ
@@ -115,11 +115,10 @@ IsAnswer commands.Circuit = IsCircuitAnswer
 IsAnswer commands.Prove = IsProveAnswer
 IsAnswer commands.Verify = IsVerifyAnswer
 
--- when a reply is the one of `demo`: that of `prove` to the number's case, but for what is told where it is proved
+-- when a reply is the one of `demo`, whose case is always proved and accepted
 abbrev pub IsDemoAnswer : ℕ → Reply → Type 0
 IsDemoAnswer number (replies.Demo summary) = IsDemo number summary
-IsDemoAnswer number (replies.Proved proved) = ⊥
-IsDemoAnswer number reply = IsProveAnswer (demo_case number) reply
+IsDemoAnswer number reply = ⊥
 
 -- when a reply is the one of a command, or of words that name none
 abbrev pub IsCommandReply : Option Command → List ℕ → Reply → Type 0

@@ -146,7 +146,7 @@ fn verdict_reply(verdict: Verdict) -> Reply
 }
 
 /// The reply to a case that is refused.
-pub fn refused_reply(refused: Refused) -> Result<Reply, ReplyError>
+fn refused_reply(refused: Refused) -> Result<Reply, ReplyError>
     ensures { result ≡ refused_reply refused }
 {
     match refused {

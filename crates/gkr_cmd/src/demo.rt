@@ -3,13 +3,13 @@
 ghost use Rattle.std.specs.Prelude.{◌≡◌, ◌≢◌, ◌++◌, ◌≤◌, ◌-◌, length, IfOk, OnOk, IsSome, Some};
 ghost use Rattle.sha2.specs.Sha256.{sha256};
 ghost use Rattle.gkr_verify.specs.declared.verdict.Verdict.TheVariants.{Accepted};
-ghost use Rattle.case_prove.specs.Circuits.{IsLaidOut};
+ghost use Rattle.case_prove.specs.Circuits.{IsLaidOut, RefusesCircuit};
 ghost use Rattle.case_prove.specs.Proved.{IsProved};
 ghost use Rattle.case_prove.specs.Verified.{IsVerdictOn};
 ghost use Rattle.gkr_cmd.specs.Demo.{HasFirst, IsDemo, demo_case, demo_inputs, demo_program, demo_size, square_text};
 ghost use Rattle.gkr_cmd.specs.Replies.{IsDemoAnswer};
 
-use crate::answering::refused_reply;
+use crate::laws::demo_has_circuit;
 use crate::reply_error::ReplyError;
 use arr_compile::laws::{
     circuit_computes, compiled_or_refused, one_circuit, one_circuit_refusal, one_tree,
@@ -28,7 +28,6 @@ use std::marker::Sync;
 use std::thread::Threads;
 
 /// The reply of `demo`: its case is generated, proved and verified.
-#[tactic(auto, using(crate::proofs::Replied::demo_refused))]
 pub fn demo<R: Threads + Sync, G: Gate>(
     rt: &R,
     alloc: Global,
@@ -41,14 +40,29 @@ pub fn demo<R: Threads + Sync, G: Gate>(
     let case = demo_case(alloc, number)?;
     let sizes = match circuit_case(alloc, &case) {
         Ok(sizes) => sizes,
-        Err(refused) => return refused_reply(refused),
+        Err(refused) => return Err(want_of_memory(number, refused)),
     };
     let proved = match prove_case(rt, alloc, &case, 1, gate) {
         Ok(proved) => proved,
-        Err(refused) => return refused_reply(refused),
+        Err(refused) => return Err(want_of_memory(number, refused)),
     };
     accept(alloc, &case, &proved)?;
     Ok(Reply::Demo(summary(number, &sizes, &case, &proved)))
+}
+
+/// Why the case of a number wasn't laid out or proved, which is want of memory alone.
+fn want_of_memory(number: u32, refused: Refused) -> ReplyError
+    requires { RefusesCircuit (demo_case number) refused }
+    ensures { result ≡ ReplyError.Memory }
+{
+    demo_has_circuit();
+    one_circuit();
+    one_circuit_refusal();
+    compiled_or_refused();
+    match refused {
+        Refused::Memory => ReplyError::Memory,
+        _ => unreachable!(),
+    }
 }
 
 /// How many rows, and columns, each of the two matrices has.

@@ -13,6 +13,7 @@ use arr_compile::laws::{
     accepted_or_refused, circuit_computes, compiled_or_refused, one_circuit, one_circuit_refusal,
     one_refusal, one_tree,
 };
+use arr_lower::laws::nodes_in_order;
 use case_prove::laws::proved_is_one;
 use proof_wire::laws::{no_trouble, one_reading, one_trouble};
 
@@ -65,13 +66,16 @@ pub fn provable_is_done()
     compiled_or_refused();
 }
 
-/// The reply of `demo` to a number whose case has a circuit with as many inputs tells of its proof.
-pub fn demonstrable_is_done()
-    ensures { (number : ℕ) (reply : Reply) → IsDemoAnswer number reply → HasCircuit (demo_case number) → status_of reply ≡ Done }
+/// The reply of `demo` tells of a proof that is accepted.
+pub fn demo_is_done()
+    ensures { (number : ℕ) (reply : Reply) → IsDemoAnswer number reply → status_of reply ≡ Done }
+{}
+
+/// The case of every number has a circuit, with as many inputs.
+pub fn demo_has_circuit()
+    ensures { (number : ℕ) → HasCircuit (demo_case number) }
 {
-    one_circuit();
-    one_circuit_refusal();
-    compiled_or_refused();
+    nodes_in_order();
 }
 
 /// The reply to a case whose proof meets every equation of acceptance is that it is accepted.

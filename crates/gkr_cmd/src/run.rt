@@ -8,13 +8,12 @@ ghost use Rattle.case_text.specs.Reading.{reading};
 ghost use Rattle.case_text.specs.Replies.{reply_text};
 ghost use Rattle.case_prove.specs.Sound.{HasExceptionalChallenge, HasMeaning};
 ghost use Rattle.gkr_cmd.specs.Commands.{ReadsCase, command_of};
-ghost use Rattle.gkr_cmd.specs.Demo.{demo_case};
 ghost use Rattle.gkr_cmd.specs.Reached.{IsReadUpTo};
 ghost use Rattle.gkr_cmd.specs.Replies.{case_limit, IsOfCase};
 ghost use Rattle.gkr_cmd.specs.Runs.{EndsWithReply, HasAcceptedProof, HasCircuit, IsEvaluable, IsInput, IsReplied, WritesHonestProof, WritesNoMore};
 
 use crate::laws::{
-    accepted_is_done, demonstrable_is_done, evaluable_is_done, laid_out_is_done, provable_is_done,
+    accepted_is_done, demo_is_done, evaluable_is_done, laid_out_is_done, provable_is_done,
 };
 use crate::output::write_output;
 use crate::reply_error::ReplyError;
@@ -75,9 +74,9 @@ pub fn gkr_run<R: Threads + Wait + Sync, S: Source, K: Sink, G: Gate>(
     // What is written then is the text of the case with its program's meaning as outputs and the one honest proof; `verify` accepts it.
     ensures honest { (input : List ℕ) (content : Content) → command_of (map string_bytes words.now) ≡ Some (Command.OfCase CaseCommand.Prove) → S.left source.old ≡ Some input
         → reading Form.Plain input ≡ Ok content → result ≡ Status.Done → WritesHonestProof content (K.written sink.old) (K.written sink.new) }
-    // A number whose case has a circuit with as many inputs is answered with what is told of the proof.
+    // Every number is answered with what is told of its case's proof.
     ensures demonstrated { (number : ℕ) → command_of (map string_bytes words.now) ≡ Some (Command.Demo number)
-        → HasCircuit (demo_case number) → IsReplied result → result ≡ Status.Done }
+        → IsReplied result → result ≡ Status.Done }
     // A case is accepted exactly where its proof meets every equation of acceptance; then this is written.
     ensures accepted { (input : List ℕ) → command_of (map string_bytes words.now) ≡ Some (Command.OfCase CaseCommand.Verify) → S.left source.old ≡ Some input
         → IsReplied result → (result ≡ Status.Done) ↔ IsOfCase Form.Full input HasAcceptedProof }
@@ -92,7 +91,7 @@ pub fn gkr_run<R: Threads + Wait + Sync, S: Source, K: Sink, G: Gate>(
     evaluable_is_done();
     laid_out_is_done();
     provable_is_done();
-    demonstrable_is_done();
+    demo_is_done();
     accepted_is_done();
     sound();
     proved_is_accepted();

@@ -8,16 +8,27 @@ use case_text::Reply;
 /// The status that a run ends with.
 #[derive(Clone, Copy, Debug, PartialEq, Eq)]
 pub enum Status {
+    /// The command did what it was asked for.
     Done = 0,
+    /// The proof fails an equation of acceptance.
     Rejected = 1,
+    /// The words are no command.
     Usage = 2,
+    /// The input is no text of a case.
     BadCase = 3,
+    /// The case's program is refused, or its circuit is too large.
     BadProgram = 4,
+    /// The case has another number of inputs or outputs than its program.
     BadCount = 5,
+    /// The proof's bytes spell no messages of the circuit's shape.
     BadProof = 6,
+    /// The source failed; nothing is written.
     ReadFault = 7,
+    /// The sink failed; a front of the reply may be written.
     WriteFault = 8,
+    /// No memory was found; nothing is written.
     Memory = 9,
+    /// The input is longer than a case may be.
     TooLong = 10,
 }
 

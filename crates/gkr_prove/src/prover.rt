@@ -1,11 +1,10 @@
 // The prover.
 
-ghost use Rattle.std.specs.Prelude.{◌≡◌, ◌+◌, List, IfOk, IsTrue, length};
+ghost use Rattle.std.specs.Prelude.{◌≡◌, ◌+◌, List, IfOk, IsTrue};
 ghost use Rattle.field_ext.specs.Field.{F};
 ghost use Rattle.circuit_core.specs.Sound.{exponent_at, exponents};
 ghost use Rattle.circuit_eval.specs.Tables.{AreTables};
 ghost use Rattle.wiring_poly.specs.Layers.{layers_of, message_count};
-ghost use Rattle.transcript_fs.specs.Source.{coordinates, state_after_coordinates};
 ghost use Rattle.proof_wire.specs.Spelling.{AreOf};
 ghost use Rattle.gkr_verify.specs.Shapes.{all_messages};
 ghost use Rattle.gkr_prove.specs.Honest.{IsHonestProof};
@@ -14,6 +13,7 @@ use crate::layers::prove_layers;
 use circuit_core::Circuit;
 use circuit_eval::Values;
 use field_ext::Ext;
+use gkr_verify::draw_point;
 use io_edge::Gate;
 use proof_wire::Messages;
 use round_tables::Room;
@@ -23,7 +23,7 @@ use wiring_poly::coordinates;
 
 /// The honest messages of a circuit with these values of its layers, which are its values for some inputs, and challenges
 /// from a source that has enough of them. They are of the circuit's shape. Err only where no memory is found; the
-/// challenges have then moved on. So far one worker proves: `workers` is 1, and the gate is not passed.
+/// challenges may then have moved on. So far one worker proves: `workers` is 1, and the gate is not passed.
 pub fn prove<C: Challenges, G: Gate>(
     alloc: Global,
     circuit: &Circuit,
@@ -55,15 +55,4 @@ fn room_for(alloc: Global, circuit: &Circuit) -> Result<Room, AllocError> {
         widest = widest.max(circuit.width(layer));
     }
     Room::new(alloc, widest, widest)
-}
-
-// Draws the coordinates of the output point.
-fn draw_point<C: Challenges>(point: &mut [Ext], challenges: &mut C)
-    requires { IsTrue (C.source.has (C.state challenges.old) (length point.old)) }
-    ensures point { point.new ≡ coordinates C.source (C.state challenges.old) (length point.old) }
-    ensures state { C.state challenges.new ≡ state_after_coordinates C.source (C.state challenges.old) (length point.old) }
-{
-    for coordinate in point.iter_mut() {
-        *coordinate = challenges.challenge();
-    }
 }

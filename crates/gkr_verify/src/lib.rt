@@ -23,4 +23,4 @@ mod verdict;
 mod verifier;
 
 pub use verdict::Verdict;
-pub use verifier::{bound_sum, challenge_count, check};
+pub use verifier::{bound_sum, challenge_count, check, draw_point};

@@ -95,8 +95,8 @@ fn check_in<C: Challenges>(
     )
 }
 
-// Draws the coordinates of the output point.
-fn draw_point<C: Challenges>(point: &mut [Ext], challenges: &mut C)
+/// Draws the coordinates of the output point, one challenge each.
+pub fn draw_point<C: Challenges>(point: &mut [Ext], challenges: &mut C)
     requires { IsTrue (C.source.has (C.state challenges.old) (length point.old)) }
     ensures point { point.new ≡ coordinates C.source (C.state challenges.old) (length point.old) }
     ensures state { C.state challenges.new ≡ state_after_coordinates C.source (C.state challenges.old) (length point.old) }

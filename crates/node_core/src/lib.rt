@@ -3,7 +3,7 @@
 //! A node is an input, a constant, or an operation on nodes that were made before it, so a node's number is more than
 //! those of its operands. `NodeListBuilder` takes nodes and outputs one by one, and `NodeList` is what it makes: a program
 //! with at least one output, each of whose nodes has a value for given inputs.
-//! Source: Thaler, "Proofs, Arguments, and Zero-Knowledge", 2.3 and 4.1 (arithmetic circuits).
+//! Source: Thaler, "Proofs, Arguments, and Zero-Knowledge", 4.6 (layered arithmetic circuits).
 //!
 //! ```text
 //! let product = nodes.push(Node::Operation(CircuitGate { kind: Kind::Mul, left: a, right: b }))?;

@@ -9,7 +9,7 @@ use Rattle.circuit_core.specs.Parts.{IsOver}
 use Rattle.round_tables.specs.Tables.{StandFor}
 use Rattle.round_tables.specs.LayerSum.{left_in_phase, after_phase}
 
--- a layer of at most 2 ^ length point gates over 2 ^ k values
+-- a layer of 2 ^ length point gates over 2 ^ k values
 pub record IsLayer (A : Type 0) (k : ℕ) (gates : List CircuitGate) (values point : List A) : Type 0 where
   pub least : 1 ≤ k
   pub most : k ≤ 16

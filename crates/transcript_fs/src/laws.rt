@@ -3,7 +3,7 @@
 ghost use Rattle.std.specs.Prelude.{ℕ, List, IsTrue};
 ghost use Rattle.transcript_fs.specs.Transcript.{transcript};
 
-/// A transcript has always as many challenges as are asked for.
+/// A transcript always has as many challenges as are asked for.
 pub fn always_has()
     ensures { (state : List ℕ) (n : ℕ) → IsTrue (transcript.has state n) }
 {}

@@ -8,8 +8,8 @@ use crate::statement::Statement;
 use field_ext::Ext;
 use sha2::{Digest, Sha256};
 
-/// The Fiat-Shamir transcript: challenges that are hashes of the statement and of all messages before them. It has
-/// always more of them.
+/// The Fiat-Shamir transcript: challenges that are hashes of the statement and of all messages before them. There
+/// are always more of them.
 #[derive(Clone, Copy)]
 pub struct Transcript {
     state: [u8; 32],

@@ -1,14 +1,7 @@
 //! The commands `prove` and `demo` over inputs in memory, by status and bytes.
 
-use gkr_cmd::{Status, gkr_run};
-use io_edge::{MemorySink, MemorySource, OpenGate};
+use super::*;
 use sha2::{Digest, Sha256};
-use std::alloc::{AllocError, Global};
-use std::marker::Sync;
-use std::process::Abort;
-use std::sync::Wait;
-use std::test::Fail;
-use std::thread::Threads;
 
 /// A program, the words of its line of inputs and of its line of outputs, and how many bytes its proof has.
 #[derive(Clone, Copy)]
@@ -33,51 +26,19 @@ const fn stated(
     }
 }
 
-/// Runs the program with these words, and sees how it ends; answers what it writes.
+/// Runs the program with these words and sees how it ends; answers what it wrote.
 fn written<R: Threads + Wait + Sync + Abort + AllocGlobal>(
     rt: &R,
     words: &[&str],
     input: &[u8],
     status: Status,
 ) -> Result<Vec<u8>, Fail> {
-    let alloc = rt.alloc();
-    let mut owned = Vec::new(alloc);
-    for word in words {
-        owned.push(String::from_str(alloc, word)?)?;
-    }
-    let mut source = MemorySource::new(alloc, input, 4096, &[])?;
-    let mut sink = MemorySink::new(alloc, 262_144, 4096, &[])?;
-    let ended = gkr_run(rt, alloc, &owned, &mut source, &mut sink, &OpenGate);
-    assert_eq!(rt; ended, status);
-    Ok(Vec::from_slice(alloc, sink.bytes())?)
-}
-
-/// The text of a case up to its last line.
-fn opened(alloc: Global, program: &[u8], inputs: &[u8]) -> Result<Vec<u8>, AllocError> {
-    let mut text = Vec::new(alloc);
-    text.extend_from_slice(b"gkr case 1\nprogram ")?;
-    text.extend_from_slice(format!(in alloc; "{}", program.len())?.as_bytes())?;
-    text.push(b'\n')?;
-    text.extend_from_slice(program)?;
-    text.extend_from_slice(b"\ninput ")?;
-    text.extend_from_slice(inputs)?;
-    text.push(b'\n')?;
-    Ok(text)
-}
-
-/// The text of a case.
-fn plain(alloc: Global, program: &[u8], inputs: &[u8]) -> Result<Vec<u8>, AllocError> {
-    let mut text = opened(alloc, program, inputs)?;
-    text.extend_from_slice(b"end\n")?;
-    Ok(text)
-}
-
-/// The text of a proved case up to the digits of its proof.
-fn claimed(alloc: Global, row: &Claim) -> Result<Vec<u8>, AllocError> {
-    let mut text = opened(alloc, row.program, row.inputs)?;
-    text.extend_from_slice(b"output ")?;
-    text.extend_from_slice(row.outputs)?;
-    text.extend_from_slice(format!(in alloc; "\nproof {}\n", row.proof)?.as_bytes())?;
+    let room = Room {
+        most: 262_144,
+        piece: 4096,
+    };
+    let (found, text) = ended(rt, words, &Ends::steady(input), room)?;
+    assert_eq!(rt; found, status);
     Ok(text)
 }
 
@@ -87,9 +48,9 @@ fn proves<R: Threads + Wait + Sync + Abort + AllocGlobal>(
     row: &Claim,
 ) -> Result<Vec<u8>, Fail> {
     let alloc = rt.alloc();
-    let case = plain(alloc, row.program, row.inputs)?;
+    let case = case_of(alloc, row.program, row.inputs)?;
     let text = written(rt, &["gkr", "prove"], &case, Status::Done)?;
-    let front = claimed(alloc, row)?;
+    let front = claimed(alloc, row.program, row.inputs, row.outputs, row.proof)?;
     assert!(rt; text.starts_with(&front));
     let rest = text.get(front.len()..).unwrap_or(b"");
     assert!(rt; rest.ends_with(b"\nend\n"));
@@ -220,7 +181,7 @@ fn refuses_what_it_cannot_prove(rt: HostRuntime) -> Result<(), Fail> {
             b"refused case section 51\n",
         ),
     ] {
-        let case = plain(rt.alloc(), program, inputs)?;
+        let case = case_of(rt.alloc(), program, inputs)?;
         let text = written(&rt, &["gkr", "prove"], &case, status)?;
         assert_eq!(rt; text.as_slice(), reply);
     }
@@ -296,27 +257,15 @@ fn accepts_the_generated_case_of_each_size(rt: HostRuntime) -> Result<(), Fail> 
 /// It reads nothing, so a source that fails changes nothing.
 #[test]
 fn reads_nothing_for_the_generated_case(rt: HostRuntime) -> Result<(), Fail> {
-    let alloc = rt.alloc();
     let want = written(&rt, &["gkr", "demo", "1"], b"", Status::Done)?;
-    let mut words = Vec::new(alloc);
-    for word in ["gkr", "demo", "1"] {
-        words.push(String::from_str(alloc, word)?)?;
-    }
-    let mut source = MemorySource::new(alloc, b"x", 4096, &[1])?;
-    let mut sink = MemorySink::new(alloc, 4096, 5, &[])?;
-    let ended = sees_end(&rt, &words, &mut source, &mut sink);
-    assert_eq!(rt; ended, Status::Done);
-    assert_eq!(rt; sink.bytes(), want.as_slice());
-    Ok(())
-}
-
-fn sees_end<R: Threads + Wait + Sync + Abort + AllocGlobal>(
-    rt: &R,
-    words: &[String],
-    source: &mut MemorySource,
-    sink: &mut MemorySink,
-) -> Status {
-    gkr_run(rt, rt.alloc(), words, source, sink, &OpenGate)
+    let failing_reads = [1];
+    let ends = Ends {
+        input: b"x",
+        piece: 4096,
+        failing_reads: &failing_reads,
+        failing_writes: &[],
+    };
+    sees(&rt, &["gkr", "demo", "1"], &ends, Status::Done, &want)
 }
 
 #[test]

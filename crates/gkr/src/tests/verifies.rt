@@ -15,11 +15,13 @@ struct Claim<'a> {
 impl<'a> Claim<'a> {
     /// The text of the case.
     fn text(&self, alloc: Global) -> Result<Vec<u8>, AllocError> {
-        let mut text = case_of(alloc, self.program, self.inputs)?;
-        text.truncate(text.len().saturating_sub(4));
-        text.extend_from_slice(b"output ")?;
-        text.extend_from_slice(self.outputs)?;
-        text.extend_from_slice(format!(in alloc; "\nproof {}\n", self.proof.len())?.as_bytes())?;
+        let mut text = claimed(
+            alloc,
+            self.program,
+            self.inputs,
+            self.outputs,
+            self.proof.len(),
+        )?;
         for byte in self.proof {
             text.extend_from_slice(format!(in alloc; "{:02x}", *byte)?.as_bytes())?;
         }

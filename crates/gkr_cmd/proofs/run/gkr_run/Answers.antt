@@ -30,9 +30,9 @@ returns-in-Ok-write_output-clause-proved g c input is told case replied =
     (c.in-Ok.ensures.reply input (input_of Prove command (g.S.Source.left c.args.source.now) input is told)) case
 
 pub returns-in-Ok-write_output-clause-demonstrated : goal.returns-in-Ok-write_output-clause-demonstrated
-returns-in-Ok-write_output-clause-demonstrated g c number is has replied =
-    c.of.ensures ∙ demo_done_of number (c.demonstrable_is_done.ensures number) (command_of (map string_bytes c.args.words.now)) (g.S.Source.left c.args.source.now) c.in-Ok.reply is
-    c.in-Ok.ensures.reply has
+returns-in-Ok-write_output-clause-demonstrated g c number is replied =
+    c.of.ensures ∙ demo_done_of number (c.demo_is_done.ensures number) (command_of (map string_bytes c.args.words.now)) (g.S.Source.left c.args.source.now) c.in-Ok.reply is
+    c.in-Ok.ensures.reply
 
 pub returns-in-Ok-write_output-clause-honest : goal.returns-in-Ok-write_output-clause-honest
 returns-in-Ok-write_output-clause-honest g c input content is told read done =
