@@ -13,21 +13,21 @@ pub times-append : (x : ℕ) (a b : List ℕ) → times x (a ++ b) ≡ times x a
 times-append x [] b = omega arith
 times-append x (y ∷ a) b = omega (arith, times-append x a b)
 
-abbrev Splits : ℕ → List ℕ → Type 0
+abbrev pub Splits : ℕ → List ℕ → Type 0
 Splits x xs = (u : List ℕ) × (w : List ℕ) × (xs ≡ u ++ x ∷ w)
 
 split_here : (x y : ℕ) (ys : List ℕ) → 0 < times x (y ∷ ys) → (0 < times x ys → Splits x ys) → (b : Bool) → eqb x y ≡ b → Splits x (y ∷ ys)
 split_here x y ys h more true e = ([], ys, let same : y ≡ x = grind (arith, nat_tests) in ap (λ (z : ℕ). z ∷ ys) same)
 split_here x y ys h more false e = let none : times x (y ∷ ys) ≡ 0 + times x ys = ap (λ (b : Bool). cond b 1 0 + times x ys) e in let r = more (omega arith) in (y ∷ r.0, r.1, ap (λ (l : List ℕ). y ∷ l) r.2)
 
-split_at : (x : ℕ) (xs : List ℕ) → 0 < times x xs → Splits x xs
+pub split_at : (x : ℕ) (xs : List ℕ) → 0 < times x xs → Splits x xs
 split_at x [] h = absurd (omega arith)
 split_at x (y ∷ ys) h = split_here x y ys h (λ k. split_at x ys k) (eqb x y) refl
 
 pub self_one : (y : ℕ) → cond {A = ℕ} (eqb y y) 1 0 ≡ 1
 self_one y = grind (arith, nat_tests)
 
-empty : (xs : List ℕ) → ((x : ℕ) → times x xs ≡ 0) → xs ≡ []
+pub empty : (xs : List ℕ) → ((x : ℕ) → times x xs ≡ 0) → xs ≡ []
 empty [] h = refl
 empty (y ∷ ys) h = let z : times y (y ∷ ys) ≡ 0 = h y in absurd (omega (arith, self_one y))
 
@@ -78,7 +78,7 @@ permutation_once n xs p x h = permutation_counts n xs p x ∙ here x n h where
 pub each_once_permutation : (n : ℕ) (xs : List ℕ) → HasEachOnce n xs ↔ IsPermutation (range_with_len 0 n) xs
 each_once_permutation n xs = (once_permutation n xs, permutation_counts n xs)
 
-drawn_full : (x next n : ℕ) → n ≤ next → once_below x (min next n) ≡ once_below x n
+pub drawn_full : (x next n : ℕ) → n ≤ next → once_below x (min next n) ≡ once_below x n
 drawn_full x next n h = grind (arith, nat_tests)
 
 not_drawn : (next n : ℕ) → once_below next (min next n) ≡ 0
@@ -105,7 +105,7 @@ not_here x n h = grind (arith, nat_tests)
 none_below : (x : ℕ) → once_below x 0 ≡ 0
 none_below x = grind (arith, nat_tests)
 
-once_suc : (x n : ℕ) → once_below x (suc n) ≡ once_below x n + cond (eqb x n) 1 0
+pub once_suc : (x n : ℕ) → once_below x (suc n) ≡ once_below x n + cond (eqb x n) 1 0
 once_suc x n = grind (arith, nat_tests)
 
 no_more : (x n k : ℕ) → (x ≡ n → k ≡ 0) → k ≤ once_below x (suc n) → k ≤ once_below x n

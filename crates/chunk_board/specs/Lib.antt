@@ -1,0 +1,3 @@
+pub mod ClaimMachine
+pub mod Hands
+pub mod Board
