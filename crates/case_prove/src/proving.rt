@@ -7,6 +7,7 @@ ghost use Rattle.proof_wire.specs.Spelling.{AreOf};
 ghost use Rattle.transcript_fs.specs.Transcript.{start_state, transcript};
 ghost use Rattle.gkr_verify.specs.Shapes.{all_messages};
 ghost use Rattle.gkr_prove.specs.Honest.{IsHonestProof};
+ghost use Rattle.phase_run.specs.Work.{IsWorkerCount};
 ghost use Rattle.arr_compile.specs.Circuits.{IsCompiled};
 ghost use Rattle.case_prove.specs.Circuits.{RefusesCircuit};
 ghost use Rattle.case_prove.specs.Proved.{IsProved};
@@ -31,8 +32,8 @@ use transcript_fs::{Statement, Transcript};
 
 /// The case with its program's meaning on its inputs as outputs, and with the one honest proof of them. It is refused as
 /// `Program` exactly where the program's text or its layout is refused so, and else as `Input` exactly where the numbers of
-/// inputs differ. Outputs and proof of the given case play no part. So far one worker proves: `workers` is 1, and
-/// the gate is not passed.
+/// inputs differ. Outputs and proof of the given case play no part. The proof is the same for every number of workers; each
+/// enters the gate with a piece of a round before it sums it.
 pub fn prove_case<R: Threads + Sync, G: Gate>(
     rt: &R,
     alloc: Global,
@@ -40,7 +41,7 @@ pub fn prove_case<R: Threads + Sync, G: Gate>(
     workers: u32,
     gate: &G,
 ) -> Result<Case, Refused>
-    requires one_worker { workers ≡ 1 }
+    requires workers { IsWorkerCount workers }
     ensures proved { IfOk result (λ proved. IsProved case.now proved) }
     ensures refused { IfErr result (λ refused. RefusesCircuit case.now refused) }
 {
@@ -70,14 +71,14 @@ fn prove_claim<R: Threads + Sync, G: Gate>(
 ) -> Result<Case, AllocError>
     requires compiled { IsCompiled case.now.program circuit.now.parts }
     requires counted { length case.now.inputs ≡ circuit.now.parts.inputs }
-    requires one_worker { workers ≡ 1 }
+    requires workers { IsWorkerCount workers }
     ensures { IfOk result (λ proved. IsProved case.now proved) }
 {
     circuit_computes();
     one_length();
     let values = layer_values(rt, alloc, circuit, case.inputs())?;
     let outputs = real_parts(alloc, values.table(0), circuit.outputs() as usize)?;
-    let messages = honest_messages(alloc, case, circuit, &values, &outputs, workers, gate)?;
+    let messages = honest_messages(rt, alloc, case, circuit, &values, &outputs, workers, gate)?;
     let proof = encode(alloc, &messages)?;
     let program = Vec::from_slice(alloc, case.program())?;
     let inputs = Vec::from_slice(alloc, case.inputs())?;
@@ -98,7 +99,8 @@ fn real_parts(alloc: Global, table: &Table, count: usize) -> Result<Vec<Fp>, All
 
 /// The honest messages of the claim that the case's program has these outputs on its inputs, with the challenges of the
 /// transcript of these three.
-fn honest_messages<G: Gate>(
+fn honest_messages<R: Threads + Sync, G: Gate>(
+    rt: &R,
     alloc: Global,
     case: &Case,
     circuit: &Circuit,
@@ -107,7 +109,7 @@ fn honest_messages<G: Gate>(
     workers: u32,
     gate: &G,
 ) -> Result<Messages, AllocError>
-    requires one_worker { workers ≡ 1 }
+    requires workers { IsWorkerCount workers }
     requires tables { AreTables circuit.now.parts case.now.inputs values.now }
     requires few { length outputs.now < 2 ^ 32 }
     ensures honest { IfOk result (λ messages. IsHonestProof circuit.now.parts case.now.inputs transcript (start_state case.now.program case.now.inputs outputs.now) (all_messages messages.layers.items)) }
@@ -116,5 +118,5 @@ fn honest_messages<G: Gate>(
     always_has();
     let statement = Statement::of(case.program(), case.inputs(), outputs);
     let mut challenges = Transcript::start(&statement);
-    prove(alloc, circuit, values, &mut challenges, workers, gate)
+    prove(rt, alloc, circuit, values, &mut challenges, workers, gate)
 }

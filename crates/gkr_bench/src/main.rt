@@ -7,7 +7,8 @@
 //! and writing the longest proof N times. `gkr_bench wide ROWS`: laying out and evaluating element-wise operations on so
 //! many rows of 1,000 elements. `gkr_bench carried LEVELS`: the same of 60,000 values carried over so many layers.
 //! `gkr_bench layer K`: all rounds of one layer of `2^K` random gates, its line, and the verifier's wiring polynomials,
-//! beside plain loops that prove as many rounds.
+//! beside plain loops that prove as many rounds. `gkr_bench workers K`: all rounds of such a layer with one, two, three and
+//! four workers in turn.
 #![tactic(auto)]
 
 mod circuits;
@@ -16,11 +17,12 @@ mod plain_layer;
 mod programs;
 mod proving;
 mod texts;
+mod workers;
 
 use std::{env, io};
 
 const USAGE: &str =
-    "gkr_bench matmul N | steps N | names KIB | fold K | case KIB | proof N | wide ROWS | carried LEVELS | layer K";
+    "gkr_bench matmul N | steps N | names KIB | fold K | case KIB | proof N | wide ROWS | carried LEVELS | layer K | workers K";
 
 fn main(rt: HostRuntime) -> io::Result<()> {
     let alloc = rt.alloc();
@@ -49,7 +51,10 @@ fn main(rt: HostRuntime) -> io::Result<()> {
                 return circuits::circuit(&rt, &rt, "carried", text.as_bytes());
             }
             if kind.as_str() == "layer" {
-                return proving::layer(&rt, size);
+                return proving::layer(&rt, &rt, size);
+            }
+            if kind.as_str() == "workers" {
+                return workers::layer(&rt, &rt, size);
             }
             let text = match kind.as_str() {
                 "matmul" => programs::matrix_product(alloc, size)?,

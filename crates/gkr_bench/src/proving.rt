@@ -1,6 +1,8 @@
 //! What one layer of random gates takes: its rounds, beside plain loops with the same work, its line, and the verifier's
 //! wiring polynomials.
 
+ghost use Rattle.phase_run.specs.Work.{IsWorkerCount};
+
 use crate::plain_layer::{Plain, PlainRoom, ZERO, prove_layer};
 use circuit_core::{Circuit, CircuitGate, Kind, Layer, Leaf};
 use field_ext::{Ext, Fp};
@@ -10,6 +12,8 @@ use mle_table::Table;
 use round_tables::{GateTables, Room};
 use std::alloc::{AllocError, Global};
 use std::io;
+use std::marker::Sync;
+use std::thread::Threads;
 use std::time::{Duration, Instant};
 use sumcheck_prove::round;
 use wiring_poly::{coordinates, wiring_at};
@@ -59,7 +63,7 @@ impl Random {
 
 /// A layer of `2^k` gates over as many values of the base field, its output point, and the challenges of both phases.
 #[derive(Drop)]
-struct LayerCase {
+pub(crate) struct LayerCase {
     circuit: Circuit,
     values: Table,
     point: Vec<Ext>,
@@ -93,7 +97,7 @@ fn table_of(alloc: Global, random: &mut Random, k: u32) -> Result<Option<Table>,
     Ok(Table::of_values(values).ok())
 }
 
-fn case_of(alloc: Global, k: u32) -> Result<Option<LayerCase>, AllocError> {
+pub(crate) fn case_of(alloc: Global, k: u32) -> Result<Option<LayerCase>, AllocError> {
     let mut random = Random { seed: 1 };
     let Some(circuit) = circuit_of(alloc, &mut random, k)? else {
         return Ok(None);
@@ -129,20 +133,28 @@ fn started<'a>(
 
 /// The room that a layer used, and a digest of its messages.
 #[derive(Drop)]
-struct Proved {
-    room: Room,
-    seen: u32,
+pub(crate) struct Proved {
+    pub(crate) room: Room,
+    pub(crate) seen: u32,
 }
 
-/// All rounds of a layer.
-fn prove(room: Room, case: &LayerCase) -> Result<Option<Proved>, AllocError> {
+/// All rounds of a layer, with so many workers.
+pub(crate) fn prove<R: Threads + Sync>(
+    rt: &R,
+    alloc: Global,
+    room: Room,
+    case: &LayerCase,
+    workers: u32,
+) -> Result<Option<Proved>, AllocError>
+    requires { IsWorkerCount workers }
+{
     let Some(mut tables) = started(room, &case.circuit, &case.values, &case.point)? else {
         return Ok(None);
     };
     let mut seen = 0u32;
     for r in case.left.iter().chain(case.right.iter()) {
         if tables.rounds_left() > 0 {
-            let message = round(&tables, 1, &OpenGate)?;
+            let message = round(rt, alloc, &tables, workers, &OpenGate)?;
             let digest = message[0].re().value() ^ message[1].im().value();
             seen = seen.wrapping_add(digest ^ message[2].re().value());
             tables.bind(*r);
@@ -152,18 +164,23 @@ fn prove(room: Room, case: &LayerCase) -> Result<Option<Proved>, AllocError> {
     Ok(Some(Proved { room, seen }))
 }
 
-fn nanoseconds(time: Duration) -> u64 {
+pub(crate) fn nanoseconds(time: Duration) -> u64 {
     u64::try_from(time.as_nanos()).unwrap_or(u64::MAX)
 }
 
 /// The best of twenty times of the proved prover, which uses the same room again.
-fn time_proved(rt: &HostRuntime, case: &LayerCase, k: u32) -> io::Result<(u64, u32)> {
+fn time_proved<R: Threads + Sync>(
+    rt: &HostRuntime,
+    threads: &R,
+    case: &LayerCase,
+    k: u32,
+) -> io::Result<(u64, u32)> {
     let width = 1usize << k.min(16);
     let mut room = Room::new(rt.alloc(), width, width)?;
     let (mut best, mut seen) = (u64::MAX, 0);
     for _ in 0..20u32 {
         let begun = Instant::now(rt)?;
-        let Some(proved) = prove(room, case)? else {
+        let Some(proved) = prove(threads, rt.alloc(), room, case, 1)? else {
             return Ok((best, seen));
         };
         best = best.min(nanoseconds(begun.elapsed(rt)?));
@@ -301,13 +318,13 @@ fn print_time(
 }
 
 /// Prints what proving and checking a layer of `2^k` gates take.
-pub fn layer(rt: &HostRuntime, k: u32) -> io::Result<()> {
+pub fn layer<R: Threads + Sync>(rt: &HostRuntime, threads: &R, k: u32) -> io::Result<()> {
     let Some(case) = case_of(rt.alloc(), k)? else {
         println!(rt; "layer: no layer of that size")?;
         return Ok(());
     };
     let (plain, plain_seen) = time_plain(rt, &case)?;
-    let (proved, seen) = time_proved(rt, &case, k)?;
+    let (proved, seen) = time_proved(rt, threads, &case, k)?;
     let (line, line_seen) = time_line(rt, &case)?;
     let (wiring, wiring_seen) = time_wiring(rt, &case)?;
     print_time(rt, "plain loops", plain, plain, k, plain_seen)?;

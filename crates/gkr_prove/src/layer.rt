@@ -5,6 +5,7 @@ ghost use Rattle.field_ext.specs.Field.{K, k_ops};
 ghost use Rattle.wiring_poly.specs.Layers.{next_point};
 ghost use Rattle.round_tables.specs.Phase.{IsLayer};
 ghost use Rattle.transcript_fs.specs.Source.{draws, state_after};
+ghost use Rattle.phase_run.specs.Work.{IsWorkerCount};
 ghost use Rattle.gkr_verify.specs.Shapes.{messages_of, HasShape};
 ghost use Rattle.gkr_prove.specs.Honest.{IsHonestLayer};
 
@@ -17,6 +18,8 @@ use mle_table::Table;
 use proof_wire::LayerMessages;
 use round_tables::{GateTables, Room};
 use std::alloc::{AllocError, Global};
+use std::marker::Sync;
+use std::thread::Threads;
 use transcript_fs::Challenges;
 
 /// A layer's messages, the point of the claim that they lead to, and the room that it used.
@@ -28,7 +31,8 @@ pub(crate) struct ProvedLayer {
 }
 
 /// Proves a layer of gates over the values of the layer below, at the point of the claim on it.
-pub(crate) fn prove_layer<C: Challenges, G: Gate>(
+pub(crate) fn prove_layer<R: Threads + Sync, C: Challenges, G: Gate>(
+    rt: &R,
     alloc: Global,
     room: Room,
     gates: &[CircuitGate],
@@ -38,7 +42,7 @@ pub(crate) fn prove_layer<C: Challenges, G: Gate>(
     workers: u32,
     gate: &G,
 ) -> Result<ProvedLayer, AllocError>
-    requires one_worker { workers ≡ 1 }
+    requires workers { IsWorkerCount workers }
     requires layer { IsLayer K values.now.k gates.now values.now.items point.now }
     requires has { IsTrue (C.source.has (C.state challenges.old) (values.now.k + values.now.k + 1)) }
     ensures honest { IfOk result (λ proved. let qs = messages_of proved.messages in IsHonestLayer values.now.k gates.now values.now.items point.now qs (draws C.source (C.state challenges.old) qs)) }
@@ -52,7 +56,7 @@ pub(crate) fn prove_layer<C: Challenges, G: Gate>(
         messages,
         drawn,
         room,
-    } = prove_rounds(alloc, tables, challenges, workers, gate)?;
+    } = prove_rounds(rt, alloc, tables, challenges, workers, gate)?;
     let (left, right) = drawn.as_slice().split_at(k);
     let polynomial = line_poly(alloc, values, left, right)?;
     let line = Vec::from_slice(alloc, polynomial.coefficients())?;

@@ -6,6 +6,7 @@ ghost use Rattle.circuit_core.specs.Sound.{exponent_at};
 ghost use Rattle.circuit_eval.specs.Tables.{AreTables};
 ghost use Rattle.wiring_poly.specs.Layers.{layers_of, message_count};
 ghost use Rattle.transcript_fs.specs.Source.{draws};
+ghost use Rattle.phase_run.specs.Work.{IsWorkerCount};
 ghost use Rattle.gkr_verify.specs.Shapes.{all_messages, HaveShape};
 ghost use Rattle.gkr_prove.specs.Honest.{AreHonest, input_table};
 
@@ -17,10 +18,13 @@ use io_edge::Gate;
 use proof_wire::LayerMessages;
 use round_tables::Room;
 use std::alloc::{AllocError, Global};
+use std::marker::Sync;
+use std::thread::Threads;
 use transcript_fs::Challenges;
 
 /// Proves all layers, the output layer first, from a point of the output layer, in the same room.
-pub(crate) fn prove_layers<C: Challenges, G: Gate>(
+pub(crate) fn prove_layers<R: Threads + Sync, C: Challenges, G: Gate>(
+    rt: &R,
     alloc: Global,
     circuit: &Circuit,
     values: &Values,
@@ -30,7 +34,7 @@ pub(crate) fn prove_layers<C: Challenges, G: Gate>(
     workers: u32,
     gate: &G,
 ) -> Result<Vec<LayerMessages>, AllocError>
-    requires one_worker { workers ≡ 1 }
+    requires workers { IsWorkerCount workers }
     requires values { (inputs : List F) × AreTables circuit.now.parts inputs values.now }
     requires position { length point.items ≡ exponent_at circuit.now.parts 0 }
     requires has { IsTrue (C.source.has (C.state challenges.old) (message_count (layers_of circuit.now.parts))) }
@@ -41,6 +45,7 @@ pub(crate) fn prove_layers<C: Challenges, G: Gate>(
     let mut messages = Vec::new(alloc);
     for layer in 0..circuit.height() {
         let proved = prove_layer(
+            rt,
             alloc,
             room,
             circuit.gates(layer),

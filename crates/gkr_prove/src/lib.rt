@@ -7,7 +7,7 @@
 //!
 //! ```text
 //! let values = layer_values(&rt, alloc, &circuit, &inputs)?;
-//! let messages = prove(alloc, &circuit, &values, &mut challenges, 1, &OpenGate)?;
+//! let messages = prove(&rt, alloc, &circuit, &values, &mut challenges, 4, &OpenGate)?;
 //! ```
 #![tactic(auto)]
 

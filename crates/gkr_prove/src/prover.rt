@@ -5,6 +5,7 @@ ghost use Rattle.field_ext.specs.Field.{F};
 ghost use Rattle.circuit_core.specs.Sound.{exponent_at, exponents};
 ghost use Rattle.circuit_eval.specs.Tables.{AreTables};
 ghost use Rattle.wiring_poly.specs.Layers.{layers_of, message_count};
+ghost use Rattle.phase_run.specs.Work.{IsWorkerCount};
 ghost use Rattle.proof_wire.specs.Spelling.{AreOf};
 ghost use Rattle.gkr_verify.specs.Shapes.{all_messages};
 ghost use Rattle.gkr_prove.specs.Honest.{IsHonestProof};
@@ -18,13 +19,17 @@ use io_edge::Gate;
 use proof_wire::Messages;
 use round_tables::Room;
 use std::alloc::{AllocError, Global};
+use std::marker::Sync;
+use std::thread::Threads;
 use transcript_fs::Challenges;
 use wiring_poly::coordinates;
 
 /// The honest messages of a circuit with these values of its layers, which are its values for some inputs, and challenges
 /// from a source that has enough of them. They are of the circuit's shape. Err only where no memory is found; the
-/// challenges may then have moved on. So far one worker proves: `workers` is 1, and the gate is not passed.
-pub fn prove<C: Challenges, G: Gate>(
+/// challenges may then have moved on. They are the same for every number of workers, which sum the pieces of a round side by
+/// side where there are many, and enter the gate with each.
+pub fn prove<R: Threads + Sync, C: Challenges, G: Gate>(
+    rt: &R,
     alloc: Global,
     circuit: &Circuit,
     values: &Values,
@@ -32,7 +37,7 @@ pub fn prove<C: Challenges, G: Gate>(
     workers: u32,
     gate: &G,
 ) -> Result<Messages, AllocError>
-    requires one_worker { workers ≡ 1 }
+    requires workers { IsWorkerCount workers }
     requires values { (inputs : List F) × AreTables circuit.now.parts inputs values.now }
     requires has { IsTrue (C.source.has (C.state challenges.old) (exponent_at circuit.now.parts 0 + message_count (layers_of circuit.now.parts))) }
     ensures honest { IfOk result (λ messages. (inputs : List F) → AreTables circuit.now.parts inputs values.now →
@@ -43,7 +48,7 @@ pub fn prove<C: Challenges, G: Gate>(
     draw_point(&mut point, challenges);
     let room = room_for(alloc, circuit)?;
     let layers = prove_layers(
-        alloc, circuit, values, room, point, challenges, workers, gate,
+        rt, alloc, circuit, values, room, point, challenges, workers, gate,
     )?;
     Ok(Messages { layers })
 }

@@ -2,6 +2,7 @@
 
 ghost use Rattle.std.specs.Prelude.{◌≡◌, ◌+◌, IfOk, [], vec_len, IsTrue};
 ghost use Rattle.transcript_fs.specs.Source.{draws, state_after};
+ghost use Rattle.phase_run.specs.Work.{IsWorkerCount};
 ghost use Rattle.gkr_verify.specs.Shapes.{round_messages};
 ghost use Rattle.gkr_prove.specs.Honest.{AreHonestRounds};
 
@@ -10,6 +11,8 @@ use io_edge::Gate;
 use proof_wire::Round;
 use round_tables::{GateTables, Room};
 use std::alloc::{AllocError, Global};
+use std::marker::Sync;
+use std::thread::Threads;
 use sumcheck_prove::round;
 use transcript_fs::Challenges;
 
@@ -22,14 +25,15 @@ pub(crate) struct Rounds {
 }
 
 /// Proves all rounds of a layer.
-pub(crate) fn prove_rounds<C: Challenges, G: Gate>(
+pub(crate) fn prove_rounds<R: Threads + Sync, C: Challenges, G: Gate>(
+    rt: &R,
     alloc: Global,
     mut tables: GateTables<'_>,
     challenges: &mut C,
     workers: u32,
     gate: &G,
 ) -> Result<Rounds, AllocError>
-    requires one_worker { workers ≡ 1 }
+    requires workers { IsWorkerCount workers }
     requires begun { tables.bound ≡ [] }
     requires has { IsTrue (C.source.has (C.state challenges.old) (tables.k + tables.k)) }
     ensures honest { IfOk result (λ rounds. AreHonestRounds tables.entry.k tables.entry.gates tables.entry.values tables.entry.point (tables.entry.k + tables.entry.k) (round_messages rounds.messages.items) rounds.drawn.items) }
@@ -42,7 +46,7 @@ pub(crate) fn prove_rounds<C: Challenges, G: Gate>(
     let mut drawn = Vec::new(alloc);
     let count = tables.rounds_left();
     for _number in 0..count {
-        let message = round(&tables, workers, gate)?;
+        let message = round(rt, alloc, &tables, workers, gate)?;
         challenges.absorb(&message);
         let challenge = challenges.challenge();
         tables.bind(challenge);

@@ -74,7 +74,7 @@ fn proved<R: Abort + AllocGlobal + Threads + Sync>(
     let values = layer_values(rt, alloc, circuit, inputs)?;
     let mut given = Given::of(numbers(alloc, challenges)?);
     assert!(rt; given.has(challenge_count(circuit)));
-    let messages = prove(alloc, circuit, &values, &mut given, 1, &OpenGate)?;
+    let messages = prove(rt, alloc, circuit, &values, &mut given, 1, &OpenGate)?;
     let mut again = Given::of(numbers(alloc, challenges)?);
     assert!(rt; again.has(challenge_count(circuit)));
     let outputs = [Fp::reduce(output)];

@@ -1,34 +1,105 @@
-// The message of a round.
+//! The message of a round.
 
 ghost use Rattle.std.specs.Prelude.{◌≡◌, ◌<◌, ◌+◌, IfOk, length};
 ghost use Rattle.field_ext.specs.Field.{k_ops};
 ghost use Rattle.field_ext.specs.Polynomial.{coefficients};
-ghost use Rattle.round_tables.specs.LayerSum.{next_poly};
+ghost use Rattle.round_tables.specs.LayerSum.{next_poly, pieces_of, piece_poly};
+ghost use Rattle.phase_run.specs.Work.{IsWorkerCount};
+ghost use Rattle.sumcheck_prove.specs.Ahead.{AreAhead};
 
+use crate::pieces::PieceSums;
 use field_ext::Ext;
 use io_edge::Gate;
+use phase_run::run;
 use round_tables::GateTables;
-use std::alloc::AllocError;
+use std::alloc::{AllocError, Global};
+use std::marker::Sync;
+use std::thread::Threads;
 
-/// The coefficients of 1, X and X² of the next round's polynomial, where a round is left. So far it is for one worker
-/// alone, who takes the pieces in order and no memory: `workers` is 1, and the gate is not passed.
-pub fn round<G: Gate>(
+// Starting two threads costs as much as summing two or three pieces of 1,024 pairs.
+const PIECES_FOR_TWO: u32 = 4;
+
+const PIECES_FOR_EACH: u32 = 4;
+
+/// The coefficients of 1, X and X² of the next round's polynomial, where a round is left: the sum of what its pieces give,
+/// whatever the number of workers and the order of their claims. Each piece is entered at the gate before it is summed.
+/// A round of fewer pieces than threads pay for is summed on the calling thread, as worker 0. Err only where no memory is
+/// found, which one worker takes none of.
+pub fn round<R: Threads + Sync, G: Gate>(
+    rt: &R,
+    alloc: Global,
     tables: &GateTables<'_>,
     workers: u32,
     gate: &G,
 ) -> Result<[Ext; 3], AllocError>
     requires left { length tables.now.bound < tables.now.k + tables.now.k }
-    requires one_worker { workers ≡ 1 }
+    requires workers { IsWorkerCount workers }
     ensures { IfOk result (λ message. message ≡ coefficients k_ops 3 (next_poly tables.now)) }
 {
+    let ahead = summed_ahead(rt, alloc, tables, workers, gate)?;
     let mut constant = Ext::zero();
     let mut linear = Ext::zero();
     let mut square = Ext::zero();
     for piece in 0..tables.pieces() {
-        let sum = tables.piece_sum(piece);
+        let sum = piece_message(tables, &ahead, piece, gate);
         constant = constant.add(sum[0]);
         linear = linear.add(sum[1]);
         square = square.add(sum[2]);
     }
     Ok([constant, linear, square])
+}
+
+/// The messages of all pieces, where the round has so many that threads pay for them.
+fn summed_ahead<R: Threads + Sync, G: Gate>(
+    rt: &R,
+    alloc: Global,
+    tables: &GateTables<'_>,
+    workers: u32,
+    gate: &G,
+) -> Result<Option<Vec<[Ext; 3]>>, AllocError>
+    requires left { length tables.now.bound < tables.now.k + tables.now.k }
+    requires workers { IsWorkerCount workers }
+    ensures { IfOk result (AreAhead tables.now) }
+{
+    let Ok(pieces) = u32::try_from(tables.pieces()) else {
+        return Ok(None);
+    };
+    let threads = threads_for(pieces, workers);
+    if threads == 1 {
+        return Ok(None);
+    }
+    let sums = run(rt, alloc, pieces, threads, &PieceSums { tables }, gate)?;
+    Ok(Some(sums))
+}
+
+/// How many threads a round of so many pieces pays for, of so many workers.
+fn threads_for(pieces: u32, workers: u32) -> u32
+    requires { IsWorkerCount workers }
+    ensures { IsWorkerCount result }
+{
+    if pieces < PIECES_FOR_TWO {
+        return 1;
+    }
+    workers.min((pieces / PIECES_FOR_EACH).max(2))
+}
+
+/// The message of a piece: as it was summed ahead, or summed now, by worker 0.
+fn piece_message<G: Gate>(
+    tables: &GateTables<'_>,
+    ahead: &Option<Vec<[Ext; 3]>>,
+    piece: usize,
+    gate: &G,
+) -> [Ext; 3]
+    requires left { length tables.now.bound < tables.now.k + tables.now.k }
+    requires piece { piece < pieces_of tables.now }
+    requires ahead { AreAhead tables.now ahead.now }
+    ensures { result ≡ coefficients k_ops 3 (piece_poly tables.now piece) }
+{
+    match ahead {
+        Some(sums) => sums[piece],
+        None => {
+            gate.enter(0, u32::try_from(piece).unwrap_or(u32::MAX));
+            tables.piece_sum(piece)
+        }
+    }
 }

@@ -16,9 +16,9 @@ loop-piece-init g c e = none_summed k_ops k_laws c.zero-constant.result c.zero-l
 
 pub loop-piece-preserved : goal.loop-piece-preserved
 loop-piece-preserved g c e =
-    piece_added c.args.tables.now c.loop-piece.piece c.piece_sum-sum.result c.loop-piece.constant c.loop-piece.linear c.loop-piece.square
+    piece_added c.args.tables.now c.loop-piece.piece c.piece_message-sum.result c.loop-piece.constant c.loop-piece.linear c.loop-piece.square
     c.index-sum-0.result c.index-sum-1.result c.index-sum-2.result c.add-constant.result c.add-linear.result c.add-square.result e
-    c.piece_sum-sum.ensures c.index-sum-0.is c.index-sum-1.is c.index-sum-2.is
+    c.piece_message-sum.ensures c.index-sum-0.is c.index-sum-1.is c.index-sum-2.is
     (c.add-constant.ensures ∙ ap (add_k c.loop-piece.constant) (sym c.index-sum-0.is))
     (c.add-linear.ensures ∙ ap (add_k c.loop-piece.linear) (sym c.index-sum-1.is))
     (c.add-square.ensures ∙ ap (add_k c.loop-piece.square) (sym c.index-sum-2.is)) (c.loop-piece.invariant e)
