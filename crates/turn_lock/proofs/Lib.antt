@@ -1,0 +1,3 @@
+pub mod United
+pub mod Moves
+pub mod Rising
