@@ -1,0 +1,106 @@
+// One table, its answers and its fronts.
+ghost use Rattle.std.specs.Prelude.{◌≡◌, Some, length};
+ghost use Rattle.job_table.specs.Passes.{IsPassOf};
+
+use crate::event::Outcome;
+use crate::pass::Pass;
+use crate::slot::Seen;
+use crate::table::{JobTable, Late};
+use crate::values::{Copied, Fits};
+use job_core::JobState;
+use std::alloc::{AllocError, Global};
+
+#[derive(Drop)]
+struct Square(u32);
+
+impl Fits<u32> for Square {
+    ghost fits = { λ a c. Unit {0} };
+}
+
+impl Copied for Square {
+    fn copied(&self, _alloc: Global) -> Result<Square, AllocError> {
+        Ok(Square(self.0))
+    }
+}
+
+type Table = JobTable<u32, Square>;
+
+type Guest = Pass<u32, Square>;
+
+#[test]
+fn one_pass_goes_through_all_states(rt: HostRuntime) -> Result<(), AllocError> {
+    let (table, mut pass): (Table, Guest) = JobTable::new(rt.alloc(), 2, 1)?;
+    let (submitted, front) = table.submit(&rt, &mut pass, 5);
+    assert!(&rt; front == 1);
+    let Ok(receipt) = submitted else {
+        panic!(&rt; "the table has room");
+    };
+    let (submitted, front) = table.submit(&rt, &mut pass, 6);
+    assert!(&rt; front == 2 && matches!(&submitted, Ok(second) if second.job() == 1));
+    let (submitted, front) = table.submit(&rt, &mut pass, 7);
+    assert!(&rt;
+        front == 2 && matches!(&submitted, Err(full) if full.case == 7 && full.capacity == 2)
+    );
+    let (taken, front) = table.take(&rt, &mut pass);
+    let Some(first) = taken else {
+        panic!(&rt; "two jobs are queued");
+    };
+    assert!(&rt; front == 3 && first.job() == 0);
+    let (taken, front) = table.take(&rt, &mut pass);
+    let Some(second) = taken else {
+        panic!(&rt; "a job is queued");
+    };
+    assert!(&rt; front == 4 && second.job() == 1);
+    let (one, two) = (first.job(), second.job());
+    if one == two {
+        panic!(&rt; "a job is taken once");
+    }
+    let (taken, front) = table.take(&rt, &mut pass);
+    if let Some(ticket) = taken {
+        table.finish(&rt, &mut pass, ticket, Outcome::Memory);
+        panic!(&rt; "no job is queued");
+    }
+    assert!(&rt; front == 4);
+    let (seen, front) = table.fetch(&rt, rt.alloc(), &mut pass, &receipt);
+    assert!(&rt; front == 4 && matches!(seen, Ok(Seen::Running)));
+    let front = table.finish(&rt, &mut pass, first, Outcome::Answer(Square(25)));
+    assert!(&rt; front == 5);
+    let (seen, front) = table.fetch(&rt, rt.alloc(), &mut pass, &receipt);
+    assert!(&rt; front == 5 && matches!(seen, Ok(Seen::Done(Outcome::Answer(Square(25))))));
+    let (late, front) = table.withdraw(&rt, &mut pass, &receipt);
+    assert!(&rt; front == 5 && matches!(late, Err(Late(JobState::Done))));
+    let front = table.finish(&rt, &mut pass, second, Outcome::Answer(Square(36)));
+    assert!(&rt; front == 6);
+    Ok(())
+}
+
+#[test]
+fn two_passes_see_one_history(rt: HostRuntime) -> Result<(), AllocError> {
+    let (table, mut first): (Table, Guest) = JobTable::new(rt.alloc(), 2, 2)?;
+    let mut second = table.split(&mut first, 1);
+    let (submitted, front) = table.submit(&rt, &mut first, 7);
+    assert!(&rt; front == 1);
+    let Ok(receipt) = submitted else {
+        panic!(&rt; "the table has room");
+    };
+    assert!(&rt; receipt.job() == 0);
+    let (taken, front) = table.take(&rt, &mut second);
+    assert!(&rt; front == 2);
+    let Some(ticket) = taken else {
+        panic!(&rt; "a job is queued");
+    };
+    assert!(&rt; ticket.job() == 0 && *ticket.case() == 7);
+    let (seen, front) = table.fetch(&rt, rt.alloc(), &mut first, &receipt);
+    assert!(&rt; front == 2 && matches!(seen, Ok(Seen::Running)));
+    let front = table.finish(&rt, &mut second, ticket, Outcome::Answer(Square(49)));
+    assert!(&rt; front == 3);
+    let (seen, front) = table.fetch(&rt, rt.alloc(), &mut first, &receipt);
+    assert!(&rt; front == 3 && matches!(seen, Ok(Seen::Done(Outcome::Answer(Square(49))))));
+    let (taken, front) = table.take(&rt, &mut second);
+    assert!(&rt; front == 3);
+    if let Some(ticket) = taken {
+        table.finish(&rt, &mut second, ticket, Outcome::Memory);
+        panic!(&rt; "no job is queued");
+    }
+    Ok(())
+}
