@@ -1,4 +1,8 @@
 pub mod Due
+pub mod Finding
+pub mod FindsExpression
+pub mod FindsIndex
+pub mod FindsProgram
 pub mod IndexRows
 pub mod Loop
 pub mod OneExpression
@@ -7,4 +11,5 @@ pub mod OneTree
 pub mod Rows
 pub mod StatementRows
 pub mod Symbols
+pub mod TreesRead
 pub mod Unplaced

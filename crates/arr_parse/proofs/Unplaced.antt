@@ -1,26 +1,22 @@
 -- The spelling of a tree without its places is its spelling without places, so the same words have one tree but for places.
 use Rattle.std.proofs.Common.{◌≡◌, ℕ, List, [], ◌∷◌, ◌++◌, Option, Some, None, map, refl, ap, ap₂, sym, ◌∙◌}
-use Rattle.std.specs.Prelude.{flat_map, option_map, is_some}
+use Rattle.std.specs.Prelude.{flat_map, option_map}
 use Rattle.std.proofs.lemmas.List.{map-append}
-use Rattle.arr_ast.specs.declared.expression.Sign.{Sign}
-use Rattle.arr_ast.specs.declared.expression.Sign.TheVariants.{Plus, Minus}
 use Rattle.arr_ast.specs.declared.expression.SingleFunction.TheVariants as single
-use Rattle.arr_ast.specs.declared.expression.PairFunction.TheVariants as pair
 use Rattle.arr_ast.specs.declared.program.Dimensions.{Dimensions}
 use Rattle.arr_ast.specs.declared.program.Dimensions.TheVariants.{Scalar, Vector, Matrix}
 use Rattle.arr_ast.specs.IndexTree as index
-use Rattle.arr_ast.specs.ExpressionTree.{NameTree, IndicesTree, ExpressionTree, ExpressionOf, AddedTree, NoTerm, Added, TermTree, TermOf, TimesTree, NoFactor, Times, FactorTree, Number, Name, Element, Negation, Parenthesized, Single, Pair}
+use Rattle.arr_ast.specs.ExpressionTree.{IndicesTree, ExpressionTree, ExpressionOf, AddedTree, NoTerm, Added, TermTree, TermOf, TimesTree, NoFactor, Times, FactorTree, Number, Name, Element, Negation, Parenthesized, Single, Pair}
 use Rattle.arr_ast.specs.ProgramTree.{StatementTree, Let, Set, SetElement, For, BlockTree, EndOfBlock, Then, TopTree, Output, Inner, InputTree, ProgramTree}
 use Rattle.arr_lex.specs.declared.token.Symbol.{Symbol}
 use Rattle.arr_lex.specs.declared.token.Symbol.TheVariants as symbol
 use Rattle.arr_lex.specs.declared.token.Token.{Token}
-use Rattle.arr_parse.specs.Grammar.{Part}
 use Rattle.arr_parse.specs.Mark.{Mark, Separator, Placed, Named, mark, mark_of, part_of}
-use Rattle.arr_parse.specs.IndexSpelling.{sign_symbol, name_marks, sum_marks, terms_marks, product_marks, factors_marks, factor_marks as index_factor_marks, bracket_marks, second_marks, indices_marks}
-use Rattle.arr_parse.specs.Spelling.{single_symbol, pair_symbol, expression_marks, added_marks, term_marks, times_marks, factor_marks}
+use Rattle.arr_parse.specs.IndexSpelling.{sign_symbol, sum_marks, terms_marks, product_marks, factors_marks, factor_marks as index_factor_marks, bracket_marks, second_marks, indices_marks}
+use Rattle.arr_parse.specs.Spelling.{pair_symbol, expression_marks, added_marks, term_marks, times_marks, factor_marks}
 use Rattle.arr_parse.specs.ProgramSpelling.{statement_marks, block_marks, dimensions_spelling, input_marks, top_marks, program_marks}
 use Rattle.arr_parse.specs.Parsed.{IsTreeOf}
-use Rattle.arr_parse.specs.Unplaced.{word, SameWords, unplaced_sum, unplaced_terms, unplaced_product, unplaced_factors, unplaced_index_factor, unplaced_name, unplaced_indices, unplaced_expression, unplaced_added, unplaced_term, unplaced_times, unplaced_factor, unplaced_statement, unplaced_block, unplaced_top, unplaced_dimensions, unplaced_input, unplaced}
+use Rattle.arr_parse.specs.Unplaced.{word, SameWords, unplaced_sum, unplaced_terms, unplaced_product, unplaced_factors, unplaced_index_factor, unplaced_indices, unplaced_expression, unplaced_added, unplaced_term, unplaced_times, unplaced_factor, unplaced_statement, unplaced_block, unplaced_top, unplaced_dimensions, unplaced_input, unplaced}
 use Rattle.arr_parse.proofs.OneProgram.{one_program_tree}
 
 abbrev bare : Mark → Mark

@@ -1,5 +1,5 @@
 -- Trees and tokens without their places in the text.
-use Rattle.std.specs.Prelude.{◌≡◌, ℕ, List, Option, map, option_map}
+use Rattle.std.specs.Prelude.{◌≡◌, ℕ, List, map, option_map}
 use Rattle.arr_ast.specs.declared.program.Dimension.{Dimension}
 use Rattle.arr_ast.specs.declared.program.Dimensions.{Dimensions}
 use Rattle.arr_ast.specs.declared.program.Dimensions.TheVariants.{Scalar, Vector, Matrix}
@@ -8,7 +8,7 @@ use Rattle.arr_ast.specs.ExpressionTree.{NameTree, IndicesTree, ExpressionTree, 
 use Rattle.arr_ast.specs.ProgramTree.{StatementTree, Let, Set, SetElement, For, BlockTree, EndOfBlock, Then, TopTree, Output, Inner, InputTree, ProgramTree}
 use Rattle.arr_lex.specs.declared.token.Symbol.{Symbol}
 use Rattle.arr_lex.specs.declared.token.Token.{Token}
-use Rattle.arr_parse.specs.Mark.{Mark, mark_of, part_of}
+use Rattle.arr_parse.specs.Mark.{part_of}
 
 -- what a token is, and its bytes
 abbrev pub word : List ℕ → Token → Symbol × List ℕ

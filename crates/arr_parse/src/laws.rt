@@ -1,13 +1,13 @@
 //! Laws of the grammar's definitions, each a function that does nothing and ensures the law.
-ghost use Rattle.std.specs.Prelude.{◌≡◌, ℕ, List, map, is_some};
+ghost use Rattle.std.specs.Prelude.{◌≡◌, ℕ, List, [], ◌∷◌, length, map, is_some, None};
 ghost use Rattle.arr_ast.specs.IndexTree.{Sum};
 ghost use Rattle.arr_ast.specs.ProgramTree.{ProgramTree};
 ghost use Rattle.arr_lex.specs.declared.token.Token.{Token};
-ghost use Rattle.arr_parse.specs.Grammar.{Part};
+ghost use Rattle.arr_parse.specs.Grammar.{Part, Inputs};
 ghost use Rattle.arr_parse.specs.IndexSpelling.{sum_marks};
 ghost use Rattle.arr_parse.specs.Parsed.{IsTreeOf};
 ghost use Rattle.arr_parse.specs.ProgramSpelling.{program_marks};
-ghost use Rattle.arr_parse.specs.Reading.{refusal};
+ghost use Rattle.arr_parse.specs.Reading.{refusal, OnlyNests};
 ghost use Rattle.arr_parse.specs.Unplaced.{SameWords, unplaced};
 
 /// No two trees of index expressions have one spelling.
@@ -35,4 +35,16 @@ pub fn one_tree_of_words()
 pub fn refused_by_symbols()
     ensures { (end other_end : ℕ) (due : List Part) (tokens others : List Token) → map (λ token. token.symbol) tokens ≡ map (λ token. token.symbol) others →
         is_some (refusal end due tokens) ≡ is_some (refusal other_end due others) }
+{}
+
+/// Tokens that reading doesn't refuse have a tree.
+pub fn read_or_refused()
+    ensures { (text : List ℕ) (tokens : List Token) → refusal (length text) (Inputs ∷ []) tokens ≡ None →
+        (tree : ProgramTree) × IsTreeOf text tokens tree }
+{}
+
+/// The tokens of a tree are read to their end, or refused for nesting alone.
+pub fn trees_are_read()
+    ensures { (text : List ℕ) (tokens : List Token) (tree : ProgramTree) → IsTreeOf text tokens tree →
+        OnlyNests (refusal (length text) (Inputs ∷ []) tokens) }
 {}
