@@ -1,0 +1,598 @@
+#!/usr/bin/env python3
+"""A second prover and verifier, by docs/formats.md and docs/language.md, for whoever writes a compatible one.
+
+    scripts/reference.py prove     reads a case without outputs and proof from standard input, and writes it with them
+    scripts/reference.py verify    reads a case with outputs and a proof, and writes the verdict
+    scripts/reference.py vector    reads such a case, and writes its statement's bytes, sizes and first challenges
+
+It is written for reading and not for speed, in Python's standard library alone, shares nothing with gkr but the documents, and is
+proved by nobody. A program that gkr refuses it refuses too, or runs on: it knows no kinds, no places and no limits.
+"""
+
+import hashlib
+import re
+import sys
+
+P = 2**31 - 1
+
+# The field: an element a + b i is the pair (a, b), and i * i = -1.
+
+ZERO, ONE = (0, 0), (1, 0)
+
+
+def add(x, y):
+    return ((x[0] + y[0]) % P, (x[1] + y[1]) % P)
+
+
+def sub(x, y):
+    return ((x[0] - y[0]) % P, (x[1] - y[1]) % P)
+
+
+def mul(x, y):
+    return ((x[0] * y[0] - x[1] * y[1]) % P, (x[0] * y[1] + x[1] * y[0]) % P)
+
+
+def bytes_of(x):
+    return x[0].to_bytes(4, "little") + x[1].to_bytes(4, "little")
+
+
+def value_at(coefficients, x):
+    value = ZERO
+    for one in reversed(coefficients):
+        value = add(mul(value, x), one)
+    return value
+
+
+# The language: text to tokens, tokens to a tree, a run over the tree to nodes.
+
+TOKEN = re.compile(r"\s*(?:([A-Za-z_][A-Za-z_0-9]*)|([0-9]+)|(\.\.|[-+*=;,()\[\]{}]))")
+RESERVED = "input let for in output scale sum dot matmul transpose def".split()
+
+
+class Parser:
+    """A parser that goes through the tokens from the left; trees are tuples."""
+
+    def __init__(self, text):
+        self.tokens, self.at = [], 0
+        text = text.rstrip(" \t\r\n")
+        at = 0
+        while at < len(text):
+            found = TOKEN.match(text, at)
+            if not found:
+                raise ValueError("no token")
+            self.tokens.append(found[1] or found[2] or found[3])
+            at = found.end()
+
+    def see(self, *words):
+        return self.at < len(self.tokens) and self.tokens[self.at] in words
+
+    def take(self, *words):
+        if self.at >= len(self.tokens) or (words and self.tokens[self.at] not in words):
+            raise ValueError("syntax")
+        self.at += 1
+        return self.tokens[self.at - 1]
+
+    def name(self):
+        word = self.take()
+        if word in RESERVED or not re.match(r"[A-Za-z_]", word):
+            raise ValueError("syntax")
+        return word
+
+    def number(self):
+        word = self.take()
+        if not word.isdigit():
+            raise ValueError("syntax")
+        return int(word)
+
+    def program(self):
+        inputs, rest = [], []
+        while self.see("input"):
+            self.take()
+            name, dims = self.name(), []
+            while self.see("[") and len(dims) < 2:
+                self.take()
+                dims.append(self.number())
+                self.take("]")
+            self.take(";")
+            inputs.append((name, dims))
+        while self.at < len(self.tokens):
+            if self.see("output"):
+                self.take()
+                rest.append(("output", self.expression()))
+                self.take(";")
+            else:
+                rest.append(self.statement())
+        return inputs, rest
+
+    def statement(self):
+        if self.see("for"):
+            self.take()
+            name = self.name()
+            self.take("in")
+            low = self.index()
+            self.take("..")
+            high = self.index()
+            self.take("{")
+            body = []
+            while not self.see("}"):
+                body.append(self.statement())
+            self.take("}")
+            return "for", name, low, high, body
+        is_new = self.see("let")
+        if is_new:
+            self.take()
+        name, places = self.name(), [] if is_new else self.indices()
+        self.take("=")
+        value = self.expression()
+        self.take(";")
+        return ("let", name, value) if is_new else ("assign", name, places, value)
+
+    def indices(self):
+        places = []
+        while self.see("[") and len(places) < 2:
+            self.take()
+            places.append(self.index())
+            self.take("]")
+        return places
+
+    def chain(self, signs, part):
+        left = part()
+        while self.see(*signs):
+            sign = self.take()
+            left = (sign, left, part())
+        return left
+
+    def index(self):
+        return self.chain("+-", lambda: self.chain("*", self.index_part))
+
+    def index_part(self):
+        if self.see("("):
+            self.take()
+            inside = self.index()
+            self.take(")")
+            return inside
+        return self.leaf()
+
+    def leaf(self):
+        if self.at < len(self.tokens) and self.tokens[self.at].isdigit():
+            return "number", self.number()
+        return "name", self.name()
+
+    def expression(self):
+        return self.chain("+-", lambda: self.chain("*", self.factor))
+
+    def factor(self):
+        if self.see("-"):
+            self.take()
+            return "negate", self.factor()
+        if self.see("("):
+            self.take()
+            inside = self.expression()
+            self.take(")")
+            return inside
+        if self.see("scale", "sum", "dot", "matmul", "transpose"):
+            word = self.take()
+            self.take("(")
+            parts = [self.expression()]
+            if word in ("scale", "dot", "matmul"):
+                self.take(",")
+                parts.append(self.expression())
+            self.take(")")
+            return (word, *parts)
+        kind, what = self.leaf()
+        if kind == "number":
+            return kind, what
+        places = self.indices()
+        return ("element", what, places) if places else (kind, what)
+
+
+class Lowering:
+    """The run that makes nodes: leaves ('input', j) and ('constant', c), and operations ('add', x, y) and ('mul', x, y) on earlier
+    nodes. A value is a shape, as () or (n,) or (n, m), with its elements' nodes row by row."""
+
+    def __init__(self):
+        self.nodes, self.constants, self.outputs, self.inputs = [], {}, [], 0
+
+    def node(self, *what):
+        self.nodes.append(what)
+        return len(self.nodes) - 1
+
+    def constant(self, number):
+        if number not in self.constants:
+            self.constants[number] = self.node("constant", number)
+        return self.constants[number]
+
+    def sum(self, parts):
+        if len(parts) == 1:
+            return parts[0]
+        half = (len(parts) + 1) // 2
+        left = self.sum(parts[:half])
+        return self.node("add", left, self.sum(parts[half:]))
+
+    def products(self, left, right):
+        return self.sum([self.node("mul", x, y) for x, y in zip(left, right)])
+
+    def program(self, inputs, rest):
+        names = {}
+        for name, dims in inputs:
+            count = 1
+            for one in dims:
+                count *= one
+            leaves = []
+            for _ in range(count):
+                leaves.append(self.node("input", self.inputs))
+                self.inputs += 1
+            names[name] = [tuple(dims), leaves]
+        self.block(rest, names)
+        return self
+
+    def block(self, statements, names):
+        """Runs statements; `names` has a list for a value, which may be assigned, and a number for a loop variable."""
+        for kind, *parts in statements:
+            if kind == "output":
+                self.outputs += self.value(parts[0], names)[1]
+            elif kind == "let":
+                shape, items = self.value(parts[1], names)
+                names[parts[0]] = [shape, list(items)]
+            elif kind == "assign":
+                target, places = names[parts[0]], [self.whole(one, names) for one in parts[1]]
+                at = self.place(target[0], places) if places else None
+                shape, items = self.value(parts[2], names)
+                if shape != (() if places else target[0]):
+                    raise ValueError("shape")
+                if places:
+                    target[1][at] = items[0]
+                else:
+                    target[1] = list(items)
+            else:
+                name, low, high, body = parts
+                for turn in range(self.whole(low, names), self.whole(high, names)):
+                    # names of the block end with it; those from outside are the same lists
+                    self.block(body, {**names, name: turn})
+
+    def place(self, shape, places):
+        if len(places) != len(shape) or not all(0 <= one < size for one, size in zip(places, shape)):
+            raise ValueError("index")
+        return places[0] if len(places) == 1 else places[0] * shape[1] + places[1]
+
+    def whole(self, index, names):
+        kind, *parts = index
+        if kind == "number":
+            return parts[0]
+        if kind == "name":
+            return int(names[parts[0]])
+        left, right = (self.whole(one, names) for one in parts)
+        return left + right if kind == "+" else left - right if kind == "-" else left * right
+
+    def value(self, tree, names):
+        kind, *parts = tree
+        if kind == "number":
+            return (), [self.constant(parts[0])]
+        if kind == "name":
+            found = names[parts[0]]
+            return ((), [self.constant(found)]) if isinstance(found, int) else found
+        if kind == "element":
+            shape, items = names[parts[0]]
+            return (), [items[self.place(shape, [self.whole(one, names) for one in parts[1]])]]
+        values = [self.value(one, names) for one in parts]
+        shape, items = values[0]
+        other, more = values[-1]
+        if kind in ("+", "*"):
+            word = "add" if kind == "+" else "mul"
+            made = shape, [self.node(word, x, y) for x, y in zip(items, more)]
+        elif kind == "-":
+            minus, made = self.constant(P - 1), (shape, [])
+            for x, y in zip(items, more):
+                made[1].append(self.node("add", x, self.node("mul", y, minus)))
+        elif kind == "negate":
+            minus = self.constant(P - 1)
+            return shape, [self.node("mul", x, minus) for x in items]
+        elif kind == "scale":
+            return other, [self.node("mul", items[0], x) for x in more]
+        elif kind == "sum":
+            return (), [self.sum(items)]
+        elif kind == "dot":
+            return (), [self.products(items, more)]
+        elif kind == "transpose":
+            rows, columns = shape
+            return (columns, rows), [items[row * columns + column] for column in range(columns) for row in range(rows)]
+        else:
+            (rows, middle), (_, columns) = shape, other
+            line = lambda row: items[row * middle : (row + 1) * middle]
+            return (rows, columns), [self.products(line(row), more[column::columns]) for row in range(rows) for column in range(columns)]
+        if shape != other:
+            raise ValueError("shape")
+        return made
+
+
+class Circuit:
+    """Layers from the outputs (0) down: `gates[i]` are triples (word, left, right) over positions of layer i + 1; `leaves` are the
+    nodes at the input layer's positions from 1 on; `widths` are the sizes of all layers, the input layer's last."""
+
+    def __init__(self, text):
+        made = Lowering().program(*Parser(text).program())
+        nodes, outputs = made.nodes, made.outputs
+        levels = []
+        for word, *parts in nodes:
+            levels.append(1 + max(levels[parts[0]], levels[parts[1]]) if word in ("add", "mul") else 0)
+        needed = set(outputs)
+        for at in range(len(nodes) - 1, -1, -1):
+            if at in needed and levels[at]:
+                needed.update(nodes[at][1:])
+        height = 1 + max(levels[one] for one in outputs)
+        # the greatest level of a node that uses this one; an output is used from above
+        used = {}
+        for at in needed:
+            if levels[at]:
+                for one in nodes[at][1:]:
+                    used[one] = max(used.get(one, 0), levels[at])
+        used.update(dict.fromkeys(outputs, height))
+        rows = [[None] + [at for at, level in enumerate(levels) if level == 0]]
+        for h in range(1, height):
+            rows.append([None] + [at for at in sorted(needed) if levels[at] == h or (levels[at] < h and used[at] > h)])
+        rows.append([None] + outputs)
+        width = lambda row: max(2, 1 << (len(row) - 1).bit_length())
+        self.inputs, self.outputs = made.inputs, len(outputs)
+        self.leaves = [nodes[at] for at in rows[0][1:]]
+        self.widths = [width(row) for row in reversed(rows)]
+        self.gates = []
+        for h in range(height, 0, -1):
+            below = {at: place for place, at in enumerate(rows[h - 1]) if at is not None}
+            gates = []
+            for at in rows[h]:
+                if at is None:
+                    gates.append(("add", 0, 0))
+                elif h < height and levels[at] == h:
+                    gates.append((nodes[at][0], below[nodes[at][1]], below[nodes[at][2]]))
+                else:
+                    gates.append(("add", below[at], 0))
+            self.gates.append(gates + [("add", 0, 0)] * (width(rows[h]) - len(gates)))
+        self.exponents = [one.bit_length() - 1 for one in self.widths]
+
+    def input_table(self, inputs):
+        values = [inputs[what] if word == "input" else what for word, what in self.leaves]
+        return padded([0] + values, self.widths[-1])
+
+    def tables(self, inputs):
+        """Returns the values of all layers, the output layer's first."""
+        tables = [self.input_table(inputs)]
+        for gates in reversed(self.gates):
+            below = tables[0]
+            tables.insert(0, [(add if word == "add" else mul)(below[left], below[right]) for word, left, right in gates])
+        return tables
+
+
+def padded(numbers, width):
+    return [(number, 0) for number in numbers] + [ZERO] * (width - len(numbers))
+
+
+# Tables of 2^k values, and points of k coordinates: coordinate j belongs to bit j of an index, the lowest first.
+
+
+def folded(table, x):
+    return [add(low, mul(x, sub(high, low))) for low, high in zip(table[0::2], table[1::2])]
+
+
+def extension_at(table, point):
+    for x in point:
+        table = folded(table, x)
+    return table[0]
+
+
+def eq(point, index):
+    product = ONE
+    for j, x in enumerate(point):
+        product = mul(product, x if index >> j & 1 else sub(ONE, x))
+    return product
+
+
+# The transcript.
+
+
+class Transcript:
+    def __init__(self, program, inputs, outputs):
+        self.state = hashlib.sha256(b"gkr-transcript-1\n" + statement_of(program, inputs, outputs)).digest()
+        self.start, self.drawn = self.state, []
+
+    def absorb(self, elements):
+        self.state = hashlib.sha256(self.state + b"\1" + b"".join(bytes_of(one) for one in elements)).digest()
+
+    def challenge(self):
+        self.state = hashlib.sha256(self.state + b"\2").digest()
+        self.drawn.append(tuple(int.from_bytes(self.state[at : at + 8], "little") % P for at in (0, 8)))
+        return self.drawn[-1]
+
+
+def statement_of(program, inputs, outputs):
+    words = lambda numbers: b"".join(one.to_bytes(4, "little") for one in [len(numbers), *numbers])
+    return len(program).to_bytes(4, "little") + program + words(inputs) + words(outputs)
+
+
+# The prover.
+
+
+def prove(program, inputs):
+    """Returns the outputs and the proof's bytes."""
+    circuit = Circuit(program.decode())
+    if len(inputs) != circuit.inputs:
+        raise ValueError("inputs")
+    tables = circuit.tables(inputs)
+    outputs = [x for x, _ in tables[0][1 : circuit.outputs + 1]]
+    transcript = Transcript(program, inputs, outputs)
+    point = [transcript.challenge() for _ in range(circuit.exponents[0])]
+    proof = b"GKR1"
+    for gates, below, k in zip(circuit.gates, tables[1:], circuit.exponents[1:]):
+        weights = [eq(point, at) for at in range(len(gates))]
+        drawn = []
+        for done in range(2 * k):
+            message = round_message(gates, weights, below, k, drawn, done)
+            proof += b"".join(bytes_of(one) for one in message)
+            transcript.absorb(message)
+            drawn.append(transcript.challenge())
+        left, right = drawn[:k], drawn[k:]
+        message = line_message(below, left, right)
+        proof += b"".join(bytes_of(one) for one in message)
+        transcript.absorb(message)
+        point = between(left, right, transcript.challenge())
+    return outputs, proof
+
+
+def round_message(gates, weights, below, k, drawn, done):
+    """The coefficients of the round's polynomial, by its values at 0, 1 and 2."""
+    values = []
+    for number in range(3):
+        point = drawn + [(number, 0)]
+        left, right = below, below
+        for x in point[:k]:
+            left = folded(left, x)
+        for x in point[k:]:
+            right = folded(right, x)
+        total = ZERO
+        for (word, u, v), weight in zip(gates, weights):
+            low = left[u >> min(len(point), k)]
+            high = right[v >> max(len(point) - k, 0)]
+            factor = mul(weight, mul(eq(point[:k], u), eq(point[k:], v)))
+            total = add(total, mul(factor, (add if word == "add" else mul)(low, high)))
+        values.append(total)
+    half = ((P + 1) // 2, 0)
+    second = mul(half, add(sub(values[0], add(values[1], values[1])), values[2]))
+    return [values[0], sub(sub(values[1], values[0]), second), second]
+
+
+def line_message(below, left, right):
+    """The coefficients of the table's extension at left + t (right - left), as a polynomial in t."""
+    table = [[one] for one in below]
+    for low, high in zip(left, right):
+        slope, folds = sub(high, low), []
+        for even, odd in zip(table[0::2], table[1::2]):
+            step = [sub(y, x) for x, y in zip(even, odd)]
+            one = [add(x, mul(low, y)) for x, y in zip(even, step)] + [ZERO]
+            for j, y in enumerate(step):
+                one[j + 1] = add(one[j + 1], mul(slope, y))
+            folds.append(one)
+        table = folds
+    return table[0]
+
+
+def between(left, right, t):
+    return [add(x, mul(t, sub(y, x))) for x, y in zip(left, right)]
+
+
+# The verifier.
+
+
+def printed(x):
+    return f"{x[0]},{x[1]}"
+
+
+def verify(program, inputs, outputs, proof):
+    """Returns the verdict's line, the circuit and the transcript."""
+    circuit = Circuit(program.decode())
+    transcript = Transcript(program, inputs, outputs)
+    if len(inputs) != circuit.inputs or len(outputs) != circuit.outputs:
+        raise ValueError("counts")
+    length = 4 + sum(56 * k + 8 for k in circuit.exponents[1:])
+    if proof[:4] != b"GKR1" or len(proof) != length:
+        raise ValueError("proof")
+    elements = [
+        tuple(int.from_bytes(proof[at + half : at + half + 4], "little") for half in (0, 4)) for at in range(4, length, 8)
+    ]
+    if any(half >= P for one in elements for half in one):
+        raise ValueError("proof")
+    answer = lambda text: (text, circuit, transcript)
+    point = [transcript.challenge() for _ in range(circuit.exponents[0])]
+    claim = extension_at(padded([0] + outputs, circuit.widths[0]), point)
+    verdict = None
+    for layer, (gates, k) in enumerate(zip(circuit.gates, circuit.exponents[1:])):
+        drawn = []
+        for number in range(2 * k):
+            message, elements = elements[:3], elements[3:]
+            had = add(value_at(message, ZERO), value_at(message, ONE))
+            if had != claim and not verdict:
+                verdict = f"rejected sum {layer} {number + 1} {printed(had)} {printed(claim)}"
+            transcript.absorb(message)
+            drawn.append(transcript.challenge())
+            claim = value_at(message, drawn[-1])
+        message, elements = elements[: k + 1], elements[k + 1 :]
+        left, right = drawn[:k], drawn[k:]
+        low, high = value_at(message, ZERO), value_at(message, ONE)
+        want = ZERO
+        for at, (word, u, v) in enumerate(gates):
+            factor = mul(eq(point, at), mul(eq(left, u), eq(right, v)))
+            want = add(want, mul(factor, (add if word == "add" else mul)(low, high)))
+        if want != claim and not verdict:
+            verdict = f"rejected end {layer} {printed(claim)} {printed(want)}"
+        transcript.absorb(message)
+        t = transcript.challenge()
+        point, claim = between(left, right, t), value_at(message, t)
+    want = extension_at(circuit.input_table(inputs), point)
+    if want != claim and not verdict:
+        verdict = f"rejected input {printed(claim)} {printed(want)}"
+    return answer(verdict or "accepted")
+
+
+# Cases.
+
+
+def parts_of(case):
+    """Returns a case's program, inputs, outputs and proof; None for what isn't there."""
+    header, length, rest = case.split(b"\n", 2)
+    if header != b"gkr case 1":
+        raise ValueError("case")
+    size = int(length.split()[1])
+    program, lines = rest[:size], rest[size + 1 :].split(b"\n")
+    if lines[-2:] != [b"end", b""]:
+        raise ValueError("case")
+    found = {line.split(b" ")[0]: line for line in lines[:-2]}
+    numbers = lambda word: [int(one) for one in found[word].split()[2:]] if word in found else None
+    proof = bytes.fromhex(lines[-3].decode()) if b"proof" in found else None
+    return program, numbers(b"input"), numbers(b"output"), proof
+
+
+def case_of(program, inputs, outputs=None, proof=None):
+    line = lambda word, numbers: b"".join([word, b" %d" % len(numbers), *(b" %d" % one for one in numbers), b"\n"])
+    text = b"gkr case 1\nprogram %d\n%s\n%s" % (len(program), program, line(b"input", inputs))
+    if outputs is not None:
+        text += line(b"output", outputs) + b"proof %d\n%s\n" % (len(proof), proof.hex().encode())
+    return text + b"end\n"
+
+
+def without_claim(case):
+    return case_of(*parts_of(case)[:2])
+
+
+def vector(case):
+    """The lines that examples/vectors/ has beside each case."""
+    program, inputs, outputs, proof = parts_of(case)
+    verdict, circuit, transcript = verify(program, inputs, outputs, proof)
+    lines = [
+        "statement " + statement_of(program, inputs, outputs).hex(),
+        "start " + transcript.start.hex(),
+        "widths " + " ".join(str(one) for one in circuit.widths),
+        "multiply " + " ".join(str(sum(word == "mul" for word, _, _ in gates)) for gates in circuit.gates),
+        f"challenges {len(transcript.drawn)}",
+    ]
+    lines += [f"challenge {number} {printed(one)}" for number, one in enumerate(transcript.drawn[:4])]
+    lines += [f"last challenge {printed(transcript.drawn[-1])}", "verdict " + verdict]
+    return "".join(line + "\n" for line in lines)
+
+
+def main(words):
+    if words not in (["prove"], ["verify"], ["vector"]):
+        print(__doc__.strip(), file=sys.stderr)
+        return 2
+    case = sys.stdin.buffer.read()
+    if words == ["prove"]:
+        program, inputs, _, _ = parts_of(case)
+        sys.stdout.buffer.write(case_of(program, inputs, *prove(program, inputs)))
+    elif words == ["verify"]:
+        verdict, _, _ = verify(*parts_of(case))
+        print(verdict)
+        return 0 if verdict == "accepted" else 1
+    else:
+        sys.stdout.write(vector(case))
+    return 0
+
+
+if __name__ == "__main__":
+    sys.exit(main(sys.argv[1:]))
