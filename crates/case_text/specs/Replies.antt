@@ -11,6 +11,7 @@ use Rattle.case_text.specs.declared.refusal.Kind.TheVariants as kinds
 use Rattle.case_text.specs.declared.demo.DemoSummary.{DemoSummary}
 use Rattle.case_text.specs.declared.sizes.LayerSize.{LayerSize}
 use Rattle.case_text.specs.Sizes.{Sizes}
+use Rattle.case_text.specs.Served.{Served, proved_count}
 use Rattle.case_text.specs.declared.reply.Reply.{Reply}
 use Rattle.case_text.specs.declared.reply.Reply.TheVariants as replies
 use Rattle.case_text.specs.Spelling.{number, counted_text, lower_case_text}
@@ -95,6 +96,18 @@ proved_text s = concat (line_text (codes "layers ") s.layers ∷ line_text (code
 
 abbrev pub demo_text : DemoSummary → List ℕ
 demo_text s = concat (generated_text s ∷ proved_text s ∷ codes "accepted" ∷ (10 ∷ []) ∷ [])
+
+-- the lines of a script's jobs: for each its client, and the reply to its case
+abbrev pub served_lines : List Served → List ℕ
+served_lines [] = []
+served_lines (job ∷ jobs) = line_text (codes "client ") job.client ++ (job.text ++ served_lines jobs)
+
+-- how many jobs there are, how many of them were proved, and how many weren't
+abbrev pub summary_text : ℕ → ℕ → List ℕ
+summary_text jobs proved = concat (codes "jobs " ∷ number jobs 32 ∷ codes "proved " ∷ number proved 32 ∷ line_text (codes "refused ") (jobs - proved) ∷ [])
+
+abbrev pub served_text : List Served → List ℕ
+served_text jobs = served_lines jobs ++ summary_text (length jobs) (proved_count jobs)
 
 abbrev pub reply_text : Reply → List ℕ
 reply_text (replies.Outputs values) = codes "output " ++ counted_text values

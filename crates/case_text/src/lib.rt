@@ -13,6 +13,7 @@ mod form;
 mod parts;
 mod refusal;
 mod rule;
+mod served;
 mod sizes;
 mod stop;
 mod values;
@@ -31,6 +32,7 @@ mod writing;
 
 pub use refusal::{BadCase, CaseRefused, Kind};
 pub use rule::Rule;
+pub use served::{ServedJob, write_served};
 pub use sizes::{CircuitSizes, LayerSize};
 pub use stop::{ReadError, Stop, stop_at};
 pub use values::Values;

@@ -135,7 +135,7 @@ fn put_layers(out: &mut Vec<u8>, layers: &[LayerSize]) -> Result<(), AllocError>
 
 /// A word and a number on a line.
 #[tactic(auto, unfolding(crate::specs::Replies::line_text))]
-fn put_line(out: &mut Vec<u8>, word: &[u8], number: u64) -> Result<(), AllocError>
+pub(crate) fn put_line(out: &mut Vec<u8>, word: &[u8], number: u64) -> Result<(), AllocError>
     ensures { OnOk result (out.new.items ≡ out.old.items ++ line_text word.now number) }
 {
     out.extend_from_slice(word)?;

@@ -1,0 +1,13 @@
+-- The replies to the jobs of a script.
+use Rattle.std.specs.Prelude.{ℕ, ◌+◌, Bool, cond, List, [], ◌∷◌}
+
+-- a job's client, whether its case was proved, and the reply's lines
+pub record Served : Type 0 where
+  pub client : ℕ
+  pub proved : Bool
+  pub text : List ℕ
+
+-- how many of the cases were proved
+abbrev pub proved_count : List Served → ℕ
+proved_count [] = 0
+proved_count (job ∷ jobs) = cond job.proved 1 0 + proved_count jobs
