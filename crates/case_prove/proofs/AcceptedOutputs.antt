@@ -10,10 +10,10 @@ use Rattle.proof_wire.specs.declared.messages.Messages.{Messages}
 use Rattle.proof_wire.specs.Spelling.{AreOf}
 use Rattle.transcript_fs.specs.Source.{Source, all_draws}
 use Rattle.transcript_fs.specs.Transcript.{start_state, transcript}
-use Rattle.gkr_verify.specs.declared.verdict.Verdict.TheVariants.{Accepted}
-use Rattle.gkr_verify.specs.Acceptance.{challenge_count, claim_of, verdict_of}
-use Rattle.gkr_verify.specs.Shapes.{all_messages}
-use Rattle.gkr_verify.specs.Soundness.{IsFalse, LetsPass}
+use Rattle.gkr_layers.specs.declared.verdict.Verdict.TheVariants.{Accepted}
+use Rattle.gkr_layers.specs.Acceptance.{challenge_count, claim_of, verdict_of}
+use Rattle.proof_wire.specs.Lists.{all_messages}
+use Rattle.gkr_layers.specs.Soundness.{IsFalse, LetsPass}
 use Rattle.arr_compile.specs.Circuits.{IsCompiled, Computes}
 use Rattle.case_text.specs.Content.{Content}
 use Rattle.case_prove.specs.Verified.{IsVerdictOn}

@@ -7,19 +7,20 @@ use Rattle.field_ext.specs.Field.{F, K}
 use Rattle.field_ext.specs.Bytes.{bytes_of}
 use Rattle.circuit_core.specs.Parts.{Parts, layer_values}
 use Rattle.circuit_core.specs.Sound.{SoundCircuit, exponent_at, exponents}
-use Rattle.wiring_poly.specs.Layers.{GateLayer, layers_of, message_count}
+use Rattle.gkr_layers.specs.Layers.{GateLayer, layers_of, message_count}
 use Rattle.transcript_fs.specs.Source.{Source, coordinates, state_after_coordinates, draws, all_draws}
 use Rattle.transcript_fs.specs.Transcript.{start_state, transcript}
 use Rattle.proof_wire.specs.declared.messages.Round.{Round}
 use Rattle.proof_wire.specs.declared.messages.LayerMessages.{LayerMessages}
 use Rattle.proof_wire.specs.declared.messages.Messages.{Messages}
 use Rattle.proof_wire.specs.Spelling.{AreOf, coefficients_of, layer_coefficients, all_coefficients, magic, spelling}
-use Rattle.gkr_verify.specs.declared.verdict.Verdict.TheVariants.{Accepted}
-use Rattle.gkr_verify.specs.Acceptance.{claim_of, verdict_of}
-use Rattle.gkr_verify.specs.Shapes.{messages_of, all_messages, round_messages}
-use Rattle.gkr_verify.proofs.ShapeSteps.{have_shape}
-use Rattle.gkr_prove.specs.Honest.{AreHonest, IsHonestProof, input_table}
-use Rattle.gkr_prove.proofs.Accepted.{length-all}
+use Rattle.gkr_layers.specs.declared.verdict.Verdict.TheVariants.{Accepted}
+use Rattle.gkr_layers.specs.Acceptance.{claim_of, verdict_of, input_table}
+use Rattle.proof_wire.specs.Lists.{messages_of, all_messages, round_messages}
+use Rattle.gkr_layers.proofs.Shapes.{have_shape, length-all}
+use Rattle.gkr_layers.specs.Honest.{AreHonest, IsHonestProof}
+use Rattle.gkr_layers.specs.Places.Place.{At}
+use Rattle.gkr_layers.specs.Forms.Form.{Line}
 use Rattle.arr_compile.specs.Circuits.{IsCompiled}
 use Rattle.case_text.specs.Content.{Content}
 use Rattle.case_prove.specs.Proved.{IsProved}
@@ -79,7 +80,7 @@ OneCircuit = (text : List ℕ) (a b : Parts) → IsCompiled text a → IsCompile
 
 abbrev pub HonestIsUnique : Type 0
 HonestIsUnique = (layers : List GateLayer) (input z : List K) (source : Source) (s : List ℕ) (qs others : List (List K)) → length qs ≡ message_count layers → length others ≡ message_count layers →
-    AreHonest layers input z qs (draws source s qs) → AreHonest layers input z others (draws source s others) → qs ≡ others
+    AreHonest Line layers input (At z) qs (draws source s qs) → AreHonest Line layers input (At z) others (draws source s others) → qs ≡ others
 
 count : (p : Parts) (messages : Messages) → AreOf (exponents p) messages → length (all_messages messages.layers.items) ≡ message_count (layers_of p)
 count p messages shape = length-all (layers_of p) messages.layers.items (have_shape p messages shape)

@@ -12,7 +12,7 @@ use Rattle.circuit_core.specs.Parts.{Parts, height}
 use Rattle.circuit_core.specs.Sound.{SoundCircuit, exponent_at, exponents}
 use Rattle.circuit_core.proofs.Faultless.{none_from_test, height_bounds, width_power, exponents_bounded}
 use Rattle.proof_wire.specs.Spelling.{coefficient_count, length_of}
-use Rattle.gkr_verify.proofs.ShapeSteps.{outputs_room}
+use Rattle.gkr_layers.proofs.Shapes.{outputs_room}
 use Rattle.case_text.specs.Content.{Fits}
 
 pub few_outputs : (c : SoundCircuit) → c.parts.outputs ≤ 65535

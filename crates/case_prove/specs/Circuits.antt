@@ -6,7 +6,7 @@ use Rattle.circuit_core.specs.declared.gate.Kind.{Kind}
 use Rattle.circuit_core.specs.declared.gate.CircuitGate.{CircuitGate}
 use Rattle.circuit_core.specs.Parts.{Parts, height, width_of}
 use Rattle.circuit_core.specs.Sound.{exponent_at, exponents}
-use Rattle.wiring_poly.specs.Layers.{layers_of, message_count, total_exponent}
+use Rattle.gkr_layers.specs.Layers.{layers_of, message_count, total_exponent}
 use Rattle.proof_wire.specs.Spelling.{length_of}
 use Rattle.arr_compile.specs.Circuits.{IsCompiled, IsCircuitRefusal}
 use Rattle.case_text.specs.Content.{Content}

@@ -6,8 +6,8 @@ use Rattle.circuit_core.specs.Sound.{exponents}
 use Rattle.proof_wire.specs.declared.messages.Messages.{Messages}
 use Rattle.proof_wire.specs.Spelling.{AreOf, spelling}
 use Rattle.transcript_fs.specs.Transcript.{start_state, transcript}
-use Rattle.gkr_verify.specs.Shapes.{all_messages}
-use Rattle.gkr_prove.specs.Honest.{IsHonestProof}
+use Rattle.proof_wire.specs.Lists.{all_messages}
+use Rattle.gkr_layers.specs.Honest.{IsHonestProof}
 use Rattle.arr_compile.specs.Circuits.{IsCompiled}
 use Rattle.case_text.specs.Content.{Content}
 use Rattle.case_prove.specs.Evaluated.{IsEvaluated}

@@ -7,9 +7,9 @@ use Rattle.proof_wire.specs.declared.messages.Messages.{Messages}
 use Rattle.proof_wire.specs.Spelling.{AreOf, spelling}
 use Rattle.transcript_fs.specs.Source.{all_draws}
 use Rattle.transcript_fs.specs.Transcript.{start_state, transcript}
-use Rattle.gkr_verify.specs.Acceptance.{claim_of}
-use Rattle.gkr_verify.specs.Shapes.{all_messages}
-use Rattle.gkr_verify.specs.Soundness.{LetsPass}
+use Rattle.gkr_layers.specs.Acceptance.{claim_of}
+use Rattle.proof_wire.specs.Lists.{all_messages}
+use Rattle.gkr_layers.specs.Soundness.{LetsPass}
 use Rattle.case_text.specs.Content.{Content}
 use Rattle.case_prove.specs.Evaluated.{IsEvaluated}
 use Rattle.case_prove.specs.Verified.{IsClaim}

@@ -9,9 +9,9 @@ use Rattle.proof_wire.specs.Spelling.{AreOf, spelling}
 use Rattle.proof_wire.specs.Trouble.{TroubleIs}
 use Rattle.transcript_fs.specs.Source.{all_draws}
 use Rattle.transcript_fs.specs.Transcript.{start_state, transcript}
-use Rattle.gkr_verify.specs.Acceptance.{claim_of, verdict_of}
-use Rattle.gkr_verify.specs.Shapes.{all_messages}
-use Rattle.gkr_verify.specs.declared.verdict.Verdict.{Verdict}
+use Rattle.gkr_layers.specs.Acceptance.{claim_of, verdict_of}
+use Rattle.proof_wire.specs.Lists.{all_messages}
+use Rattle.gkr_layers.specs.declared.verdict.Verdict.{Verdict}
 use Rattle.arr_compile.specs.Circuits.{IsCompiled, IsCircuitRefusal}
 use Rattle.case_text.specs.Content.{Content}
 use Rattle.case_prove.specs.Circuits.{IsCircuitMiscounted}

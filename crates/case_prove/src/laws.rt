@@ -8,7 +8,7 @@ ghost use Rattle.arr_eval.specs.Meaning.{meaning};
 ghost use Rattle.arr_lex.specs.declared.token.Token.{Token};
 ghost use Rattle.arr_lex.specs.Lexing.{tokens_from};
 ghost use Rattle.arr_parse.specs.Unplaced.{unplaced};
-ghost use Rattle.gkr_verify.specs.declared.verdict.Verdict.TheVariants.{Accepted};
+ghost use Rattle.gkr_layers.specs.declared.verdict.Verdict.TheVariants.{Accepted};
 ghost use Rattle.case_text.specs.Content.{Content, Fits};
 ghost use Rattle.case_text.specs.Spelling.{Spells, lower_case_text};
 ghost use Rattle.case_text.specs.declared.form.Form.TheVariants.{Full};
@@ -20,7 +20,7 @@ ghost use Rattle.case_prove.specs.Verified.{IsVerdictOn};
 use arr_compile::laws::{circuit_computes, circuit_is_sound, one_circuit, one_tree};
 use arr_lex::laws::{same_anywhere, white_space_moves};
 use arr_parse::laws::one_tree_of_words;
-use gkr_prove::laws::{honest_is_accepted, honest_is_unique};
+use gkr_layers::laws::{honest_is_accepted, honest_is_unique};
 use proof_wire::laws::one_length;
 
 /// Programs that differ in no more than the places of their parts and the lengths of their texts mean the same.
@@ -99,5 +99,5 @@ pub fn sound()
 {
     circuit_computes();
     circuit_is_sound();
-    gkr_verify::laws::sound();
+    gkr_layers::laws::sound();
 }

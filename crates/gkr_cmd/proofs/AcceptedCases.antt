@@ -9,7 +9,7 @@ use Rattle.case_text.specs.declared.reply.Reply.TheVariants as replies
 use Rattle.arr_compile.specs.declared.refused.BadProgram.TheVariants.{At, Deep, Wide}
 use Rattle.case_prove.specs.Sound.{HasExceptionalChallenge, HasMeaning}
 use Rattle.case_prove.specs.Verified.{IsVerdictOn}
-use Rattle.gkr_verify.specs.declared.verdict.Verdict.TheVariants as verdicts
+use Rattle.gkr_layers.specs.declared.verdict.Verdict.TheVariants as verdicts
 use Rattle.gkr_cmd.specs.declared.status.Status.TheVariants.{Done}
 use Rattle.gkr_cmd.specs.declared.words.Command.{Command}
 use Rattle.gkr_cmd.specs.declared.words.CaseCommand.TheVariants.{Verify}

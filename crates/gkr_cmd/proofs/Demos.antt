@@ -13,7 +13,7 @@ use Rattle.arr_check.specs.Program.{input_count}
 use Rattle.arr_compile.specs.Programs.{IsRead}
 use Rattle.arr_compile.specs.Circuits.{IsCompiled, Computes}
 use Rattle.arr_eval.specs.Meaning.{meaning}
-use Rattle.gkr_verify.specs.declared.verdict.Verdict.TheVariants.{Accepted}
+use Rattle.gkr_layers.specs.declared.verdict.Verdict.TheVariants.{Accepted}
 use Rattle.case_text.specs.Content.{Content, Fits}
 use Rattle.case_text.specs.Sizes.{Sizes}
 use Rattle.case_text.specs.declared.sizes.LayerSize.{LayerSize}

@@ -11,7 +11,7 @@ use Rattle.case_text.specs.declared.reply.Reply.TheVariants as replies
 use Rattle.arr_compile.specs.declared.refused.BadProgram.TheVariants.{At, Deep, Wide}
 use Rattle.case_prove.specs.Proved.{IsProved}
 use Rattle.case_prove.specs.Verified.{IsVerdictOn}
-use Rattle.gkr_verify.specs.declared.verdict.Verdict.TheVariants as verdicts
+use Rattle.gkr_layers.specs.declared.verdict.Verdict.TheVariants as verdicts
 use Rattle.gkr_cmd.specs.declared.status.Status.TheVariants.{Done}
 use Rattle.gkr_cmd.specs.declared.words.CaseCommand.TheVariants.{Prove}
 use Rattle.gkr_cmd.specs.declared.words.Command.{Command}

@@ -10,8 +10,8 @@ use Rattle.case_prove.specs.Circuits.{RefusesCircuit}
 use Rattle.case_prove.specs.Evaluated.{Refuses}
 use Rattle.case_prove.specs.Verified.{IsVerdictOn, RefusesVerify}
 use Rattle.case_text.specs.Forms.{Allows}
-use Rattle.gkr_verify.specs.declared.verdict.Verdict.{Verdict}
-use Rattle.gkr_verify.specs.declared.verdict.Verdict.TheVariants as verdicts
+use Rattle.gkr_layers.specs.declared.verdict.Verdict.{Verdict}
+use Rattle.gkr_layers.specs.declared.verdict.Verdict.TheVariants as verdicts
 use Rattle.case_text.specs.Content.{Content}
 use Rattle.case_text.specs.Reading.{reading}
 use Rattle.case_text.specs.declared.form.Form.{Form}

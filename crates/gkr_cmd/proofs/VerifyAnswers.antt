@@ -11,10 +11,10 @@ use Rattle.proof_wire.specs.Spelling.{AreOf, SameMessages, spelling}
 use Rattle.proof_wire.specs.Trouble.{TroubleIs}
 use Rattle.transcript_fs.specs.Source.{all_draws}
 use Rattle.transcript_fs.specs.Transcript.{start_state, transcript}
-use Rattle.gkr_verify.specs.Acceptance.{claim_of, verdict_of}
-use Rattle.gkr_verify.specs.Shapes.{all_messages, messages_of, round_messages}
-use Rattle.gkr_verify.specs.declared.verdict.Verdict.{Verdict}
-use Rattle.gkr_verify.specs.declared.verdict.Verdict.TheVariants as verdicts
+use Rattle.gkr_layers.specs.Acceptance.{claim_of, verdict_of}
+use Rattle.proof_wire.specs.Lists.{all_messages, messages_of, round_messages}
+use Rattle.gkr_layers.specs.declared.verdict.Verdict.{Verdict}
+use Rattle.gkr_layers.specs.declared.verdict.Verdict.TheVariants as verdicts
 use Rattle.arr_compile.specs.declared.refused.BadProgram.{BadProgram}
 use Rattle.arr_compile.specs.declared.refused.BadProgram.TheVariants.{At, Deep, Wide}
 use Rattle.arr_compile.specs.Circuits.{IsCircuitRefusal}

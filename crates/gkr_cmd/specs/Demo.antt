@@ -5,7 +5,7 @@ use Rattle.sha2.specs.Sha256.{sha256}
 use Rattle.field_ext.specs.Field.{F, of}
 use Rattle.circuit_core.specs.Parts.{Parts, height}
 use Rattle.arr_compile.specs.Circuits.{IsCompiled}
-use Rattle.gkr_verify.specs.declared.verdict.Verdict.TheVariants.{Accepted}
+use Rattle.gkr_layers.specs.declared.verdict.Verdict.TheVariants.{Accepted}
 use Rattle.case_text.specs.Content.{Content}
 use Rattle.case_text.specs.declared.demo.DemoSummary.{DemoSummary}
 use Rattle.case_prove.specs.Proved.{IsProved}

@@ -19,8 +19,8 @@ use Rattle.case_prove.specs.Circuits.{IsLaidOut, IsCircuitMiscounted}
 use Rattle.case_prove.specs.Evaluated.{IsEvaluated, IsMiscounted}
 use Rattle.case_prove.specs.Proved.{IsProved}
 use Rattle.case_prove.specs.Verified.{IsVerdictOn, IsOutputMiscounted, IsBadProof}
-use Rattle.gkr_verify.specs.declared.verdict.Verdict.{Verdict}
-use Rattle.gkr_verify.specs.declared.verdict.Verdict.TheVariants as verdicts
+use Rattle.gkr_layers.specs.declared.verdict.Verdict.{Verdict}
+use Rattle.gkr_layers.specs.declared.verdict.Verdict.TheVariants as verdicts
 use Rattle.gkr_cmd.specs.declared.status.Status.{Status}
 use Rattle.gkr_cmd.specs.declared.status.Status.TheVariants as statuses
 use Rattle.gkr_cmd.specs.declared.words.CaseCommand.{CaseCommand}

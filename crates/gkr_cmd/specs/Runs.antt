@@ -8,7 +8,7 @@ use Rattle.arr_compile.specs.Circuits.{IsCompiled}
 use Rattle.circuit_core.specs.Parts.{Parts}
 use Rattle.case_prove.specs.Proved.{IsProved}
 use Rattle.case_prove.specs.Verified.{IsVerdictOn}
-use Rattle.gkr_verify.specs.declared.verdict.Verdict.TheVariants.{Accepted}
+use Rattle.gkr_layers.specs.declared.verdict.Verdict.TheVariants.{Accepted}
 use Rattle.case_text.specs.Content.{Content}
 use Rattle.case_text.specs.Replies.{reply_text}
 use Rattle.case_text.specs.Spelling.{lower_case_text}

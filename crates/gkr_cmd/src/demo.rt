@@ -2,7 +2,7 @@
 
 ghost use Rattle.std.specs.Prelude.{◌≡◌, ◌≢◌, ◌++◌, ◌≤◌, ◌-◌, length, IfOk, OnOk, IsSome, Some};
 ghost use Rattle.sha2.specs.Sha256.{sha256};
-ghost use Rattle.gkr_verify.specs.declared.verdict.Verdict.TheVariants.{Accepted};
+ghost use Rattle.gkr_layers.specs.declared.verdict.Verdict.TheVariants.{Accepted};
 ghost use Rattle.case_prove.specs.Circuits.{IsLaidOut, RefusesCircuit};
 ghost use Rattle.case_prove.specs.Proved.{IsProved};
 ghost use Rattle.case_prove.specs.Verified.{IsVerdictOn};

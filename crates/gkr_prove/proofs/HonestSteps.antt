@@ -4,17 +4,20 @@ use Rattle.std.proofs.lemmas.List.{get_or_append_left, get_or_push, take-append-
 use Rattle.field_ext.specs.Field.{K, k_ops, zero_k}
 use Rattle.field_ext.specs.Polynomial.{coefficients}
 use Rattle.circuit_core.specs.declared.gate.CircuitGate.{CircuitGate}
-use Rattle.wiring_poly.specs.Sumcheck.{round_polynomial, line_polynomial, point_between}
-use Rattle.wiring_poly.specs.Layers.{next_point}
+use Rattle.gkr_layers.specs.Sumcheck.{round_polynomial, line_polynomial, point_between}
 use Rattle.wiring_poly.proofs.Identity.{take-front}
 use Rattle.transcript_fs.specs.Source.{Source, draws, state_after}
-use Rattle.gkr_prove.specs.Honest.{AreHonestRounds, IsHonestLayer}
+use Rattle.gkr_layers.specs.Honest.{AreHonestRounds, IsHonestLayer}
+use Rattle.gkr_layers.specs.Layers.{next_place}
+use Rattle.gkr_layers.specs.Places.Place.{At}
+use Rattle.gkr_layers.specs.Forms.Form.{Line}
+use Rattle.gkr_layers.specs.Places.{Place}
 
-pub rounds_more : (k : ℕ) (gates : List CircuitGate) (values z : List K) (n : ℕ) (qs : List (List K)) (rs : List K) (q : List K) (r : K) → length qs ≡ n → length rs ≡ n →
-    q ≡ coefficients k_ops 3 (round_polynomial k_ops k gates values z rs (k + k - length rs - 1)) →
-    AreHonestRounds k gates values z n qs rs → AreHonestRounds k gates values z (n + 1) (qs ++ q ∷ []) (rs ++ r ∷ [])
-rounds_more k gates values z n qs rs q r u v is honest =
-    let message : List K → ℕ → List K = λ bound j. coefficients k_ops 3 (round_polynomial k_ops k gates values z bound (k + k - j - 1)) in
+pub rounds_more : (k : ℕ) (gates : List CircuitGate) (values : List K) (place : Place K) (n : ℕ) (qs : List (List K)) (rs : List K) (q : List K) (r : K) → length qs ≡ n → length rs ≡ n →
+    q ≡ coefficients k_ops 3 (round_polynomial k_ops k gates values place rs (k + k - length rs - 1)) →
+    AreHonestRounds k gates values place n qs rs → AreHonestRounds k gates values place (n + 1) (qs ++ q ∷ []) (rs ++ r ∷ [])
+rounds_more k gates values place n qs rs q r u v is honest =
+    let message : List K → ℕ → List K = λ bound j. coefficients k_ops 3 (round_polynomial k_ops k gates values place bound (k + k - j - 1)) in
     below_more _ _
     (λ j w.
     get_or_append_left qs (q ∷ []) [] j (omega arith)
@@ -31,7 +34,7 @@ pub state-more : (source : Source) (s : List ℕ) (qs : List (List K)) (q : List
 state-more source s [] q = refl
 state-more source s (p ∷ qs) q = state-more source (source.after (source.absorb s p)) qs q
 
-module _ (k : ℕ) (gates : List CircuitGate) (values z : List K) (source : Source) (s : List ℕ) (qs : List (List K)) (rs line : List K) where
+module _ (k : ℕ) (gates : List CircuitGate) (values : List K) (place : Place K) (source : Source) (s : List ℕ) (qs : List (List K)) (rs line : List K) where
   abbrev last : K
   last = source.draw (source.absorb (state_after source s qs) line)
 
@@ -42,18 +45,18 @@ module _ (k : ℕ) (gates : List CircuitGate) (values z : List K) (source : Sour
   rounds_kept v = ap (λ (i : ℕ). take i (rs ++ last ∷ [])) (sym v) ∙ take-front rs (last ∷ [])
 
   -- the rounds and the line make a layer's messages
-  pub honest_layer : length qs ≡ k + k → length rs ≡ k + k → rs ≡ draws source s qs → AreHonestRounds k gates values z (k + k) qs rs →
-      line ≡ coefficients k_ops (k + 1) (line_polynomial k_ops values (take k rs) (drop k rs)) → IsHonestLayer k gates values z (qs ++ line ∷ []) (draws source s (qs ++ line ∷ []))
-  honest_layer u v e honest is = subst (λ (xs : List K). IsHonestLayer k gates values z (qs ++ line ∷ []) xs) (all_drawn e) (record {
+  pub honest_layer : length qs ≡ k + k → length rs ≡ k + k → rs ≡ draws source s qs → AreHonestRounds k gates values place (k + k) qs rs →
+      line ≡ coefficients k_ops (k + 1) (line_polynomial k_ops values (take k rs) (drop k rs)) → IsHonestLayer Line k gates values place (qs ++ line ∷ []) (draws source s (qs ++ line ∷ []))
+  honest_layer u v e honest is = subst (λ (xs : List K). IsHonestLayer Line k gates values place (qs ++ line ∷ []) xs) (all_drawn e) (record {
     rounds = λ j w.
         get_or_append_left qs (line ∷ []) [] j (omega arith) ∙ honest j w
-        ∙ ap (λ (bound : List K). coefficients k_ops 3 (round_polynomial k_ops k gates values z bound (k + k - j - 1))) (sym (take-append-le j rs (last ∷ []) (omega arith)));
-    line =
+        ∙ ap (λ (bound : List K). coefficients k_ops 3 (round_polynomial k_ops k gates values place bound (k + k - j - 1))) (sym (take-append-le j rs (last ∷ []) (omega arith)));
+    last =
         get_or_push qs line [] (k + k) u ∙ is
         ∙ ap (λ (xs : List K). coefficients k_ops (k + 1) (line_polynomial k_ops values (take k xs) (drop k xs))) (sym (rounds_kept v));
   })
 
-  pub layer_point : length rs ≡ k + k → rs ≡ draws source s qs → point_between k_ops (take k rs) (drop k rs) last ≡ next_point k_ops k (draws source s (qs ++ line ∷ []))
+  pub layer_point : length rs ≡ k + k → rs ≡ draws source s qs → At (point_between k_ops (take k rs) (drop k rs) last) ≡ next_place k_ops Line k (draws source s (qs ++ line ∷ []))
   layer_point v e =
-      (λ i. point_between k_ops (take k (sym (rounds_kept v) i)) (drop k (sym (rounds_kept v) i)) (sym (get_or_push rs last zero_k (k + k) v) i))
-      ∙ ap (next_point k_ops k) (all_drawn e)
+      (λ i. At (point_between k_ops (take k (sym (rounds_kept v) i)) (drop k (sym (rounds_kept v) i)) (sym (get_or_push rs last zero_k (k + k) v) i)))
+      ∙ ap (next_place k_ops Line k) (all_drawn e)

@@ -2,23 +2,26 @@
 use Rattle.std.proofs.Common.{◌≡◌, ℕ, ◌+◌, ◌-◌, ◌<◌, ◌≤◌, List, [], ◌∷◌, ◌++◌, length, map, take, drop, get_or, sym, ◌∙◌, ap, subst, arith, append_assoc, append-nil, length-take, length-drop}
 use Rattle.std.proofs.lemmas.List.{get_or_append_left, take-append-le}
 use Rattle.field_ext.specs.Field.{F, K, k_ops, zero_k}
-use Rattle.field_ext.proofs.KLaws.{k_laws}
 use Rattle.field_ext.specs.Polynomial.{coefficients}
 use Rattle.circuit_core.specs.declared.gate.CircuitGate.{CircuitGate}
 use Rattle.circuit_core.specs.Parts.{Parts, height, leaf_value, padded_values}
 use Rattle.circuit_core.specs.Sound.{exponent_at}
-use Rattle.wiring_poly.specs.Sumcheck.{round_polynomial, line_polynomial, point_between}
-use Rattle.wiring_poly.specs.Layers.{GateLayer, layers_of, values_over, next_point}
+use Rattle.gkr_layers.specs.Sumcheck.{round_polynomial, line_polynomial, point_between}
+use Rattle.gkr_layers.specs.Layers.{GateLayer, layers_of, values_over, layers_below, next_place}
 use Rattle.wiring_poly.proofs.Identity.{drop-front}
-use Rattle.wiring_poly.proofs.Circuits.{over-embed}
+use Rattle.gkr_layers.proofs.Circuits.{over-embed, below_more}
 use Rattle.transcript_fs.specs.Source.{Source, draws, state_after}
 use Rattle.circuit_eval.specs.Tables.{AreTables}
 use Rattle.proof_wire.specs.declared.messages.LayerMessages.{LayerMessages}
-use Rattle.gkr_verify.specs.Shapes.{messages_of, all_messages, layers_below, HasShape}
-use Rattle.gkr_verify.proofs.LayerSteps.{draws-append, length-draws}
-use Rattle.gkr_verify.proofs.BelowSteps.{below_more, length-messages}
-use Rattle.gkr_prove.specs.Honest.{IsHonestLayer, AreHonest, input_table}
-use Rattle.gkr_prove.proofs.Complete.{length-point}
+use Rattle.proof_wire.specs.Lists.{messages_of, all_messages, HasShape}
+use Rattle.transcript_fs.proofs.Draws.{draws-append, length-draws}
+use Rattle.gkr_layers.proofs.Shapes.{length-messages}
+use Rattle.gkr_layers.specs.Honest.{IsHonestLayer, AreHonest}
+use Rattle.gkr_layers.specs.Acceptance.{input_table}
+use Rattle.gkr_layers.proofs.Forms.{place_over}
+use Rattle.gkr_layers.specs.Places.Place.{At}
+use Rattle.gkr_layers.specs.Forms.Form.{Line}
+use Rattle.gkr_layers.specs.Places.{Place, IsOver}
 
 pub messages-more : (ms : List LayerMessages) (m : LayerMessages) → all_messages (ms ++ m ∷ []) ≡ all_messages ms ++ messages_of m
 messages-more [] m = append-nil (messages_of m)
@@ -29,27 +32,27 @@ module _ (k : ℕ) (gates : List CircuitGate) (qs qs' : List (List K)) (rs rs' :
   front : (j : ℕ) → j ≤ k + k → take j (rs ++ rs') ≡ take j rs
   front j w = take-append-le j rs rs' (omega arith)
 
-  front_layer : (values z : List K) → IsHonestLayer k gates values z qs rs → IsHonestLayer k gates values z (qs ++ qs') (rs ++ rs')
-  front_layer values z h = record {
+  front_layer : (values : List K) (place : Place K) → IsHonestLayer Line k gates values place qs rs → IsHonestLayer Line k gates values place (qs ++ qs') (rs ++ rs')
+  front_layer values place h = record {
     rounds = λ j w.
         get_or_append_left qs qs' [] j (omega arith) ∙ h.rounds j w
-        ∙ ap (λ (bound : List K). coefficients k_ops 3 (round_polynomial k_ops k gates values z bound (k + k - j - 1))) (sym (front j (omega arith)));
-    line =
-        get_or_append_left qs qs' [] (k + k) (omega arith) ∙ h.line
+        ∙ ap (λ (bound : List K). coefficients k_ops 3 (round_polynomial k_ops k gates values place bound (k + k - j - 1))) (sym (front j (omega arith)));
+    last =
+        get_or_append_left qs qs' [] (k + k) (omega arith) ∙ h.last
         ∙ ap (λ (xs : List K). coefficients k_ops (k + 1) (line_polynomial k_ops values (take k xs) (drop k xs))) (sym (front (k + k) (omega arith)));
   }
 
-  front_point : next_point k_ops k (rs ++ rs') ≡ next_point k_ops k rs
-  front_point =
-      λ i. point_between k_ops (take k (front (k + k) (omega arith) i)) (drop k (front (k + k) (omega arith) i)) (get_or_append_left rs rs' zero_k (k + k) (omega arith) i)
+  front_place : next_place k_ops Line k (rs ++ rs') ≡ next_place k_ops Line k rs
+  front_place =
+      λ i. At (point_between k_ops (take k (front (k + k) (omega arith) i)) (drop k (front (k + k) (omega arith) i)) (get_or_append_left rs rs' zero_k (k + k) (omega arith) i))
 
-  pub honest_more : (layers : List GateLayer) (input z next : List K) → next ≡ next_point k_ops k rs →
-      IsHonestLayer k gates (values_over k_ops layers input) z qs rs → AreHonest layers input next qs' rs' → AreHonest (record { k = k; gates = gates } ∷ layers) input z (qs ++ qs') (rs ++ rs')
-  honest_more layers input z next e h rest =
+  pub honest_more : (layers : List GateLayer) (input : List K) (place next : Place K) → next ≡ next_place k_ops Line k rs →
+      IsHonestLayer Line k gates (values_over k_ops layers input) place qs rs → AreHonest Line layers input next qs' rs' → AreHonest Line (record { k = k; gates = gates } ∷ layers) input place (qs ++ qs') (rs ++ rs')
+  honest_more layers input place next e h rest =
       let dq : qs' ≡ drop (k + k + 1) (qs ++ qs') = sym (ap (λ (i : ℕ). drop i (qs ++ qs')) (sym u) ∙ drop-front qs qs') in
       let dr : rs' ≡ drop (k + k + 1) (rs ++ rs') = sym (ap (λ (i : ℕ). drop i (rs ++ rs')) (sym v) ∙ drop-front rs rs') in
-      let to : next ≡ next_point k_ops k (rs ++ rs') = e ∙ sym front_point in
-      (front_layer (values_over k_ops layers input) z h, coe 0 1 (i. AreHonest layers input (to i) (dq i) (dr i)) rest)
+      let to : next ≡ next_place k_ops Line k (rs ++ rs') = e ∙ sym front_place in
+      (front_layer (values_over k_ops layers input) place h, coe 0 1 (i. AreHonest Line layers input (to i) (dq i) (dr i)) rest)
 
 -- the table of a layer holds the values that the layers below compute
 pub table_values : (p : Parts) (inputs : List F) (tables : List (List K)) (i : ℕ) (values : List K) → AreTables p inputs tables → i ≤ height p → values ≡ get_or tables i [] →
@@ -57,16 +60,16 @@ pub table_values : (p : Parts) (inputs : List F) (tables : List (List K)) (i : �
 table_values p inputs tables i values h u e = e ∙ h.each i u ∙ over-embed p i (drop i p.layers) (padded_values p.input_width (map (leaf_value inputs) p.leaves))
 
 -- one more layer's messages, where the rest is to be proved behind them
-pub layers_more : (p : Parts) (inputs : List F) (source : Source) (s : List ℕ) (i : ℕ) (ms : List LayerMessages) (m : LayerMessages) (values first z next : List K) → i < height p →
+pub layers_more : (p : Parts) (inputs : List F) (source : Source) (s : List ℕ) (i : ℕ) (ms : List LayerMessages) (m : LayerMessages) (values : List K) (first place next : Place K) → i < height p →
     HasShape (exponent_at p (i + 1)) m →
     values ≡ values_over k_ops (layers_below p (i + 1)) (input_table p inputs) →
-    next ≡ next_point k_ops (exponent_at p (i + 1)) (draws source (state_after source s (all_messages ms)) (messages_of m)) →
-    IsHonestLayer (exponent_at p (i + 1)) (get_or p.layers i []) values z (messages_of m) (draws source (state_after source s (all_messages ms)) (messages_of m)) →
-    ((qs : List (List K)) (rs : List K) → AreHonest (layers_below p i) (input_table p inputs) z qs rs →
-    AreHonest (layers_of p) (input_table p inputs) first (all_messages ms ++ qs) (draws source s (all_messages ms) ++ rs)) →
-    (qs : List (List K)) (rs : List K) → AreHonest (layers_below p (i + 1)) (input_table p inputs) next qs rs →
-    AreHonest (layers_of p) (input_table p inputs) first (all_messages (ms ++ m ∷ []) ++ qs) (draws source s (all_messages (ms ++ m ∷ [])) ++ rs)
-layers_more p inputs source s i ms m values first z next u shape is e h whole qs rs rest =
+    next ≡ next_place k_ops Line (exponent_at p (i + 1)) (draws source (state_after source s (all_messages ms)) (messages_of m)) →
+    IsHonestLayer Line (exponent_at p (i + 1)) (get_or p.layers i []) values place (messages_of m) (draws source (state_after source s (all_messages ms)) (messages_of m)) →
+    ((qs : List (List K)) (rs : List K) → AreHonest Line (layers_below p i) (input_table p inputs) place qs rs →
+    AreHonest Line (layers_of p) (input_table p inputs) first (all_messages ms ++ qs) (draws source s (all_messages ms) ++ rs)) →
+    (qs : List (List K)) (rs : List K) → AreHonest Line (layers_below p (i + 1)) (input_table p inputs) next qs rs →
+    AreHonest Line (layers_of p) (input_table p inputs) first (all_messages (ms ++ m ∷ []) ++ qs) (draws source s (all_messages (ms ++ m ∷ [])) ++ rs)
+layers_more p inputs source s i ms m values first place next u shape is e h whole qs rs rest =
     let k : ℕ = exponent_at p (i + 1) in
     let gates : List CircuitGate = get_or p.layers i [] in
     let M : List (List K) = messages_of m in
@@ -75,18 +78,19 @@ layers_more p inputs source s i ms m values first z next u shape is e h whole qs
     let input : List K = input_table p inputs in
     let below : List GateLayer = layers_below p (i + 1) in
     let count : length (messages_of m) ≡ exponent_at p (i + 1) + exponent_at p (i + 1) + 1 = length-messages k m shape in
-    let h' : IsHonestLayer (exponent_at p (i + 1)) (get_or p.layers i []) (values_over k_ops (layers_below p (i + 1)) (input_table p inputs)) z (messages_of m) (draws source (state_after source s (all_messages ms)) (messages_of m)) =
-    subst (λ (v : List K). IsHonestLayer k gates v z M d) is h in
-    let one = honest_more k gates M qs d rs count (length-draws source (state_after source s before) M ∙ count) below input z next e h' rest in
-    let behind = whole (M ++ qs) (d ++ rs) (subst (λ (layers : List GateLayer). AreHonest layers input z (M ++ qs) (d ++ rs)) (sym (below_more p i u)) one) in
+    let h' : IsHonestLayer Line (exponent_at p (i + 1)) (get_or p.layers i []) (values_over k_ops (layers_below p (i + 1)) (input_table p inputs)) place (messages_of m) (draws source (state_after source s (all_messages ms)) (messages_of m)) =
+    subst (λ (v : List K). IsHonestLayer Line k gates v place M d) is h in
+    let one = honest_more k gates M qs d rs count (length-draws source (state_after source s before) M ∙ count) below input place next e h' rest in
+    let behind = whole (M ++ qs) (d ++ rs) (subst (λ (layers : List GateLayer). AreHonest Line layers input place (M ++ qs) (d ++ rs)) (sym (below_more p i u)) one) in
     let joined : before ++ (M ++ qs) ≡ all_messages (ms ++ m ∷ []) ++ qs = sym (append_assoc before M qs) ∙ ap (λ (xs : List (List K)). xs ++ qs) (sym (messages-more ms m)) in
     let drawn : draws source s before ++ (d ++ rs) ≡ draws source s (all_messages (ms ++ m ∷ [])) ++ rs =
     sym (append_assoc (draws source s before) d rs) ∙ ap (λ (xs : List K). xs ++ rs) (sym (draws-append source s before M) ∙ ap (draws source s) (sym (messages-more ms m))) in
-    coe 0 1 (i. AreHonest (layers_of p) input first (joined i) (drawn i)) behind
+    coe 0 1 (i. AreHonest Line (layers_of p) input first (joined i) (drawn i)) behind
 
-pub length-next : (k : ℕ) (rs : List K) → length rs ≡ k + k + 1 → length (next_point k_ops k rs) ≡ k
-length-next k rs v =
+pub length-next : (k : ℕ) (rs : List K) (next : List K) → length rs ≡ k + k + 1 → At next ≡ next_place k_ops Line k rs → length next ≡ k
+length-next k rs next v e =
     let b : List K = take k (take (k + k) rs) in
     let c : List K = drop k (take (k + k) rs) in
-    let halves : length (take k (take (k + k) rs)) ≡ length (drop k (take (k + k) rs)) = omega (arith, length-take k (take (k + k) rs), length-drop k (take (k + k) rs), length-take (k + k) rs) in
-    length-point k_ops k_laws b c (get_or rs (k + k) zero_k) halves ∙ omega (arith, length-take k (take (k + k) rs), length-take (k + k) rs)
+    let left : length (take k (take (k + k) rs)) ≡ k = omega (arith, length-take k (take (k + k) rs), length-take (k + k) rs) in
+    let right : length (drop k (take (k + k) rs)) ≡ k = omega (arith, length-drop k (take (k + k) rs), length-take (k + k) rs) in
+    subst (IsOver k) (sym e) (place_over k_ops Line b c (get_or rs (k + k) zero_k) k left right)

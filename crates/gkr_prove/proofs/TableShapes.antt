@@ -12,14 +12,16 @@ use Rattle.circuit_core.proofs.Faultless.{none_from_test, leaves_room}
 use Rattle.circuit_core.proofs.LayerValues.{length-layer, length-input}
 use Rattle.circuit_eval.specs.Tables.{AreTables}
 use Rattle.mle_table.specs.Shape.{Values}
-use Rattle.wiring_poly.specs.Layers.{layers_from, layers_of}
-use Rattle.wiring_poly.proofs.Circuits.{size_of, gates_size, gates_over}
+use Rattle.gkr_layers.specs.Layers.{layers_from, layers_of, layers_below}
+use Rattle.wiring_poly.proofs.Sizes.{size_of, gates_size, gates_over}
+use Rattle.gkr_layers.proofs.Circuits.{input_width, below_more}
 use Rattle.round_tables.specs.Phase.{IsLayer}
 use Rattle.proof_wire.specs.declared.messages.LayerMessages.{LayerMessages}
 use Rattle.proof_wire.specs.declared.messages.Messages.{Messages}
 use Rattle.proof_wire.specs.Spelling.{AreOf}
-use Rattle.gkr_verify.specs.Shapes.{HasShape, HaveShape, layers_below}
-use Rattle.gkr_verify.proofs.BelowSteps.{input_width, below_more}
+use Rattle.proof_wire.specs.Lists.{HasShape}
+use Rattle.gkr_layers.specs.Shapes.{HaveShape}
+use Rattle.gkr_layers.specs.Places.Place.{At}
 
 pow-same : (m n : ℕ) → 2 ^ m ≡ 2 ^ n → m ≡ n
 pow-same m n e = by_order (cases_eq m n)
@@ -51,14 +53,16 @@ module _ (c : SoundCircuit) where
 
   -- the gates of a layer and the table of the layer below can be summed over
   pub is_layer : (i : ℕ) (table : Values) (gates : List CircuitGate) (point : List K) → i < height c.parts → table.k ≡ exponent_at c.parts (i + 1) → gates ≡ get_or c.parts.layers i [] → length point ≡ exponent_at c.parts i →
-      IsLayer K table.k gates table.items point
+      IsLayer K table.k gates table.items (At point)
   is_layer i table gates point u e g z =
       let size = size_of c (i + 1) (omega arith) in
       record {
         least = omega (arith, size.1, e);
         most = omega (arith, size.2, e);
         size = table.whole;
-        width = ap length g ∙ gates_size c i u ∙ ap (λ (n : ℕ). 2 ^ n) (sym z);
+        exponent = exponent_at c.parts i;
+        coordinates = z;
+        width = ap length g ∙ gates_size c i u;
         operands = coe 0 1 (j. All (IsOver (2 ^ sym e j)) (sym g j)) (gates_over c i u);
       }
 

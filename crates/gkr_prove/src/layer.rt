@@ -2,12 +2,14 @@
 
 ghost use Rattle.std.specs.Prelude.{◌≡◌, ◌+◌, IfOk, IsTrue};
 ghost use Rattle.field_ext.specs.Field.{K, k_ops};
-ghost use Rattle.wiring_poly.specs.Layers.{next_point};
 ghost use Rattle.round_tables.specs.Phase.{IsLayer};
 ghost use Rattle.transcript_fs.specs.Source.{draws, state_after};
+ghost use Rattle.proof_wire.specs.Lists.{messages_of, HasShape};
+ghost use Rattle.gkr_layers.specs.Honest.{IsHonestLayer};
+ghost use Rattle.gkr_layers.specs.Layers.{next_place};
+ghost use Rattle.gkr_layers.specs.Places.Place.{At};
+ghost use Rattle.gkr_layers.specs.Forms.Form.{Line};
 ghost use Rattle.phase_run.specs.Work.{IsWorkerCount};
-ghost use Rattle.gkr_verify.specs.Shapes.{messages_of, HasShape};
-ghost use Rattle.gkr_prove.specs.Honest.{IsHonestLayer};
 
 use crate::rounds::{Rounds, prove_rounds};
 use circuit_core::CircuitGate;
@@ -43,11 +45,11 @@ pub(crate) fn prove_layer<R: Threads + Sync, C: Challenges, G: Gate>(
     gate: &G,
 ) -> Result<ProvedLayer, AllocError>
     requires workers { IsWorkerCount workers }
-    requires layer { IsLayer K values.now.k gates.now values.now.items point.now }
+    requires layer { IsLayer K values.now.k gates.now values.now.items (At point.now) }
     requires has { IsTrue (C.source.has (C.state challenges.old) (values.now.k + values.now.k + 1)) }
-    ensures honest { IfOk result (λ proved. let qs = messages_of proved.messages in IsHonestLayer values.now.k gates.now values.now.items point.now qs (draws C.source (C.state challenges.old) qs)) }
+    ensures honest { IfOk result (λ proved. let qs = messages_of proved.messages in IsHonestLayer Line values.now.k gates.now values.now.items (At point.now) qs (draws C.source (C.state challenges.old) qs)) }
     ensures shape { IfOk result (λ proved. HasShape values.now.k proved.messages) }
-    ensures point { IfOk result (λ proved. proved.point.items ≡ next_point k_ops values.now.k (draws C.source (C.state challenges.old) (messages_of proved.messages))) }
+    ensures point { IfOk result (λ proved. At proved.point.items ≡ next_place k_ops Line values.now.k (draws C.source (C.state challenges.old) (messages_of proved.messages))) }
     ensures state { IfOk result (λ proved. C.state challenges.new ≡ state_after C.source (C.state challenges.old) (messages_of proved.messages)) }
 {
     let k = values.k() as usize;

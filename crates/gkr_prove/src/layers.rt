@@ -4,11 +4,15 @@ ghost use Rattle.std.specs.Prelude.{◌≡◌, List, IfOk, IsTrue, length};
 ghost use Rattle.field_ext.specs.Field.{F};
 ghost use Rattle.circuit_core.specs.Sound.{exponent_at};
 ghost use Rattle.circuit_eval.specs.Tables.{AreTables};
-ghost use Rattle.wiring_poly.specs.Layers.{layers_of, message_count};
+ghost use Rattle.gkr_layers.specs.Layers.{layers_of, message_count};
 ghost use Rattle.transcript_fs.specs.Source.{draws};
+ghost use Rattle.proof_wire.specs.Lists.{all_messages};
+ghost use Rattle.gkr_layers.specs.Shapes.{HaveShape};
+ghost use Rattle.gkr_layers.specs.Honest.{AreHonest};
+ghost use Rattle.gkr_layers.specs.Acceptance.{input_table};
+ghost use Rattle.gkr_layers.specs.Places.Place.{At};
+ghost use Rattle.gkr_layers.specs.Forms.Form.{Line};
 ghost use Rattle.phase_run.specs.Work.{IsWorkerCount};
-ghost use Rattle.gkr_verify.specs.Shapes.{all_messages, HaveShape};
-ghost use Rattle.gkr_prove.specs.Honest.{AreHonest, input_table};
 
 use crate::layer::{ProvedLayer, prove_layer};
 use circuit_core::Circuit;
@@ -39,7 +43,7 @@ pub(crate) fn prove_layers<R: Threads + Sync, C: Challenges, G: Gate>(
     requires position { length point.items ≡ exponent_at circuit.now.parts 0 }
     requires has { IsTrue (C.source.has (C.state challenges.old) (message_count (layers_of circuit.now.parts))) }
     ensures honest { IfOk result (λ messages. (inputs : List F) → AreTables circuit.now.parts inputs values.now → let qs = all_messages messages.items in
-        AreHonest (layers_of circuit.now.parts) (input_table circuit.now.parts inputs) point.items qs (draws C.source (C.state challenges.old) qs)) }
+        AreHonest Line (layers_of circuit.now.parts) (input_table circuit.now.parts inputs) (At point.items) qs (draws C.source (C.state challenges.old) qs)) }
     ensures shape { IfOk result (λ messages. HaveShape (layers_of circuit.now.parts) messages.items) }
 {
     let mut messages = Vec::new(alloc);

@@ -11,7 +11,6 @@
 //! ```
 #![tactic(auto)]
 
-pub mod laws;
 mod layer;
 mod layers;
 mod prover;

@@ -4,24 +4,23 @@ ghost use Rattle.std.specs.Prelude.{◌≡◌, ◌+◌, List, IfOk, IsTrue};
 ghost use Rattle.field_ext.specs.Field.{F};
 ghost use Rattle.circuit_core.specs.Sound.{exponent_at, exponents};
 ghost use Rattle.circuit_eval.specs.Tables.{AreTables};
-ghost use Rattle.wiring_poly.specs.Layers.{layers_of, message_count};
+ghost use Rattle.gkr_layers.specs.Layers.{layers_of, message_count};
 ghost use Rattle.phase_run.specs.Work.{IsWorkerCount};
 ghost use Rattle.proof_wire.specs.Spelling.{AreOf};
-ghost use Rattle.gkr_verify.specs.Shapes.{all_messages};
-ghost use Rattle.gkr_prove.specs.Honest.{IsHonestProof};
+ghost use Rattle.proof_wire.specs.Lists.{all_messages};
+ghost use Rattle.gkr_layers.specs.Honest.{IsHonestProof};
 
 use crate::layers::prove_layers;
 use circuit_core::Circuit;
 use circuit_eval::Values;
 use field_ext::Ext;
-use gkr_verify::draw_point;
 use io_edge::Gate;
 use proof_wire::Messages;
 use round_tables::Room;
 use std::alloc::{AllocError, Global};
 use std::marker::Sync;
 use std::thread::Threads;
-use transcript_fs::Challenges;
+use transcript_fs::{Challenges, draw_point};
 use wiring_poly::coordinates;
 
 /// The honest messages of a circuit with these values of its layers, which are its values for some inputs, and challenges

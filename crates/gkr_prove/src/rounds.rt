@@ -2,9 +2,9 @@
 
 ghost use Rattle.std.specs.Prelude.{◌≡◌, ◌+◌, IfOk, [], vec_len, IsTrue};
 ghost use Rattle.transcript_fs.specs.Source.{draws, state_after};
+ghost use Rattle.proof_wire.specs.Lists.{round_messages};
+ghost use Rattle.gkr_layers.specs.Honest.{AreHonestRounds};
 ghost use Rattle.phase_run.specs.Work.{IsWorkerCount};
-ghost use Rattle.gkr_verify.specs.Shapes.{round_messages};
-ghost use Rattle.gkr_prove.specs.Honest.{AreHonestRounds};
 
 use field_ext::Ext;
 use io_edge::Gate;
@@ -36,7 +36,7 @@ pub(crate) fn prove_rounds<R: Threads + Sync, C: Challenges, G: Gate>(
     requires workers { IsWorkerCount workers }
     requires begun { tables.bound ≡ [] }
     requires has { IsTrue (C.source.has (C.state challenges.old) (tables.k + tables.k)) }
-    ensures honest { IfOk result (λ rounds. AreHonestRounds tables.entry.k tables.entry.gates tables.entry.values tables.entry.point (tables.entry.k + tables.entry.k) (round_messages rounds.messages.items) rounds.drawn.items) }
+    ensures honest { IfOk result (λ rounds. AreHonestRounds tables.entry.k tables.entry.gates tables.entry.values tables.entry.place (tables.entry.k + tables.entry.k) (round_messages rounds.messages.items) rounds.drawn.items) }
     ensures count { IfOk result (λ rounds. vec_len rounds.messages ≡ tables.entry.k + tables.entry.k) }
     ensures challenges { IfOk result (λ rounds. vec_len rounds.drawn ≡ tables.entry.k + tables.entry.k) }
     ensures drawn { IfOk result (λ rounds. rounds.drawn.items ≡ draws C.source (C.state challenges.old) (round_messages rounds.messages.items)) }

@@ -1,11 +1,4 @@
 pub mod RoundSteps
 pub mod LayerSteps
-pub mod BelowSteps
-pub mod PointSteps
+pub mod InputSteps
 pub mod TableSteps
-pub mod Accepted
-pub mod Earlier
-pub mod Few
-pub mod Sound
-pub mod ShapeSteps
-pub mod Passing

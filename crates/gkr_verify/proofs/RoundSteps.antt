@@ -3,13 +3,15 @@ use Rattle.std.proofs.Common.{◌≡◌, ℕ, zero, suc, ◌+◌, ◌-◌, ◌<�
 use Rattle.std.proofs.lemmas.List.{drop_more, take_all, length-map, get_or-map}
 use Rattle.proof_wire.specs.declared.messages.Round.{Round}
 use Rattle.proof_wire.specs.Spelling.{coefficients_of}
-use Rattle.gkr_verify.specs.Shapes.{round_messages}
+use Rattle.proof_wire.specs.Lists.{round_messages}
 use Rattle.field_ext.specs.Field.{K, k_ops, add_k, zero_k, one_k, same_k}
 use Rattle.field_ext.specs.Polynomial.{value_at}
 use Rattle.transcript_fs.specs.Source.{Source, draws, state_after}
-use Rattle.gkr_verify.specs.declared.verdict.Verdict.{Verdict}
-use Rattle.gkr_verify.specs.declared.verdict.Verdict.TheVariants.{Sum}
-use Rattle.gkr_verify.specs.Equations.{Equation, claim_after, sum_equations, first_failure}
+use Rattle.transcript_fs.proofs.Draws.{has_any}
+use Rattle.gkr_layers.proofs.Accepted.{first_holds, first_fails}
+use Rattle.gkr_layers.specs.declared.verdict.Verdict.{Verdict}
+use Rattle.gkr_layers.specs.declared.verdict.Verdict.TheVariants.{Sum}
+use Rattle.gkr_layers.specs.Equations.{Equation, claim_after, sum_equations, first_failure}
 
 -- a round's message as it is read
 pub message_read : (messages : List Round) (j : ℕ) (round : Round) (q : List K) → j < length messages → round ≡ get_or messages j round → q ≡ coefficients_of round → (j < length (round_messages messages)) × (q ≡ get_or (round_messages messages) j q)
@@ -37,17 +39,6 @@ begun source s claim all drawn has = record {
   state = refl;
   has = subst (λ (n : ℕ). IsTrue (source.has s n)) (let e : length all ≡ length all - 0 = omega arith in e) has;
 }
-
--- where there are some, there is one
-pub has_any : (source : Source) (s : List ℕ) (n : ℕ) → IsTrue (source.has s (suc n)) → IsTrue (source.has s 1)
-has_any source s zero h = h
-has_any source s (suc n) h = has_any source s n (source.has_fewer s (suc n) h)
-
-pub first_holds : (b : Bool) (x y : Verdict) → b ≡ true → (if b then x else y) ≡ x
-first_holds b x y e = ap (λ (c : Bool). if c then x else y) e
-
-pub first_fails : (b : Bool) (x y : Verdict) → b ≡ false → (if b then x else y) ≡ y
-first_fails b x y e = ap (λ (c : Bool). if c then x else y) e
 
 module _ (source : Source) (s0 : List ℕ) (claim0 : K) (all : List (List K)) (j : ℕ) (s : List ℕ) (claim : K) (drawn : List K) (p : Progress source s0 claim0 all j s claim drawn) where
   module _ (q : List K) (u : j < length all) (is : q ≡ get_or all j q) where

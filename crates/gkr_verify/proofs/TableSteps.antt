@@ -9,7 +9,7 @@ use Rattle.field_ext.specs.Multilinear.{eq_poly}
 use Rattle.field_ext.proofs.KLaws.{k_laws}
 use Rattle.field_ext.proofs.Rings.{zero_add, zero_mul}
 use Rattle.circuit_core.specs.Parts.{padded_values, zero_f}
-use Rattle.wiring_poly.proofs.Circuits.{read-embed}
+use Rattle.gkr_layers.proofs.Circuits.{read-embed}
 
 module _ {A : Type 0} (z : A) where
   zeros-at : (m i : ℕ) → get_or (replicate m z) i z ≡ z
@@ -39,11 +39,6 @@ module _ {A : Type 0} (o : Ops A) (l : Laws A o) where
 -- the table's values, embedded
 abbrev pub table : ℕ → List F → List K
 table width values = map embed_k (padded_values width values)
-
--- how many values a table has
-pub length-table : (width : ℕ) (values : List F) → length values < width → length (table width values) ≡ width
-length-table width values u =
-    omega (arith, u, length-map (padded_values width values) embed_k, length-append values (replicate (width - (1 + length values)) zero_f), length-replicate (width - (1 + length values)) zero_f)
 
 -- the values stand from place 1 on
 value-behind : (width : ℕ) (values : List F) (i : ℕ) → get_or (table width values) (i + 1) zero_k ≡ embed_k (get_or values i zero_f)

@@ -1,5 +1,1 @@
-pub mod Shapes
-pub mod Equations
-pub mod Acceptance
-pub mod Soundness
-pub mod Examples
+pub mod Rounds

@@ -4,16 +4,18 @@ ghost use Rattle.std.specs.Prelude.{◌≡◌, ◌<◌, ◌+◌, suc, List, ◌�
 ghost use Rattle.field_ext.specs.Field.{K};
 ghost use Rattle.circuit_core.specs.Parts.{height};
 ghost use Rattle.circuit_core.specs.Sound.{exponent_at};
-ghost use Rattle.wiring_poly.specs.Layers.{GateLayer};
+ghost use Rattle.gkr_layers.specs.Layers.{GateLayer, layer_at};
 ghost use Rattle.transcript_fs.specs.Source.{draws, state_after};
-ghost use Rattle.gkr_verify.specs.Equations.{equations, first_failure};
-ghost use Rattle.gkr_verify.specs.Shapes.{layer_at, messages_of, HasShape};
+ghost use Rattle.gkr_layers.specs.Equations.{equations, first_failure};
+ghost use Rattle.proof_wire.specs.Lists.{messages_of, HasShape};
+ghost use Rattle.gkr_layers.specs.Places.Place.{At};
+ghost use Rattle.gkr_layers.specs.Forms.Form.{Line};
 
 use crate::end::end_value;
 use crate::rounds::check_rounds;
-use crate::verdict::Verdict;
 use circuit_core::Circuit;
 use field_ext::Ext;
+use gkr_layers::Verdict;
 use line_reduce::point_at;
 use poly_roots::value_at;
 use proof_wire::LayerMessages;
@@ -38,11 +40,11 @@ pub(crate) fn check_layer<C: Challenges>(
     requires next { length next.old ≡ exponent_at circuit.now.parts (layer + 1) }
     requires has { IsTrue (C.source.has (C.state challenges.old) (exponent_at circuit.now.parts (layer + 1) + exponent_at circuit.now.parts (layer + 1) + 1)) }
     ensures holds { IfOk result (λ value. (below : List GateLayer) (input : List K) (qs : List (List K)) →
-        first_failure (equations layer (layer_at circuit.now.parts layer ∷ below) input point.now claim (messages_of messages.now ++ qs) (draws C.source (C.state challenges.old) (messages_of messages.now ++ qs)))
-        ≡ first_failure (equations (suc layer) below input next.new value qs (draws C.source (C.state challenges.new) qs))) }
+        first_failure (equations Line layer (layer_at circuit.now.parts layer ∷ below) input (At point.now) claim (messages_of messages.now ++ qs) (draws C.source (C.state challenges.old) (messages_of messages.now ++ qs)))
+        ≡ first_failure (equations Line (suc layer) below input (At next.new) value qs (draws C.source (C.state challenges.new) qs))) }
     ensures state { IfOk result (λ value. C.state challenges.new ≡ state_after C.source (C.state challenges.old) (messages_of messages.now)) }
     ensures fails { IfErr result (λ verdict. (below : List GateLayer) (input : List K) (qs : List (List K)) →
-        first_failure (equations layer (layer_at circuit.now.parts layer ∷ below) input point.now claim (messages_of messages.now ++ qs) (draws C.source (C.state challenges.old) (messages_of messages.now ++ qs)))
+        first_failure (equations Line layer (layer_at circuit.now.parts layer ∷ below) input (At point.now) claim (messages_of messages.now ++ qs) (draws C.source (C.state challenges.old) (messages_of messages.now ++ qs)))
         ≡ verdict) }
 {
     let claim = match check_rounds(&messages.rounds, claim, drawn, challenges) {

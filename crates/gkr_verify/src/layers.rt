@@ -1,19 +1,22 @@
 // All layers.
 
-ghost use Rattle.std.specs.Prelude.{◌≡◌, ◌≤◌, ◌*◌, ◌+◌, [], length, map, IsTrue};
-ghost use Rattle.field_ext.specs.Field.{embed_k};
-ghost use Rattle.circuit_core.specs.Parts.{height, leaf_value, padded_values};
+ghost use Rattle.std.specs.Prelude.{◌≡◌, ◌≤◌, ◌*◌, ◌+◌, [], length, IsTrue};
+ghost use Rattle.circuit_core.specs.Parts.{height};
 ghost use Rattle.circuit_core.specs.Sound.{exponent_at};
-ghost use Rattle.wiring_poly.specs.Layers.{message_count, total_exponent};
+ghost use Rattle.gkr_layers.specs.Layers.{message_count, total_exponent, layers_below};
 ghost use Rattle.transcript_fs.specs.Source.{draws};
-ghost use Rattle.gkr_verify.specs.Equations.{equations, first_failure};
-ghost use Rattle.gkr_verify.specs.Shapes.{layers_below, all_messages, HaveShape};
+ghost use Rattle.gkr_layers.specs.Equations.{equations, first_failure};
+ghost use Rattle.proof_wire.specs.Lists.{all_messages};
+ghost use Rattle.gkr_layers.specs.Shapes.{HaveShape};
+ghost use Rattle.gkr_layers.specs.Places.Place.{At};
+ghost use Rattle.gkr_layers.specs.Forms.Form.{Line};
+ghost use Rattle.gkr_layers.specs.Acceptance.{input_table};
 
 use crate::extension::leaves_extension;
 use crate::layer::check_layer;
-use crate::verdict::Verdict;
 use circuit_core::Circuit;
 use field_ext::{Ext, Fp};
+use gkr_layers::Verdict;
 use proof_wire::LayerMessages;
 use transcript_fs::Challenges;
 use wiring_poly::coordinates;
@@ -36,7 +39,7 @@ pub(crate) fn check_layers<C: Challenges>(
     requires shape { HaveShape (layers_below circuit.now.parts layer) messages.now }
     requires room { length room.old ≡ 3 * total_exponent (layers_below circuit.now.parts layer) }
     requires has { IsTrue (C.source.has (C.state challenges.old) (message_count (layers_below circuit.now.parts layer))) }
-    ensures { result ≡ first_failure (equations layer (layers_below circuit.now.parts layer) (map embed_k (padded_values circuit.now.parts.input_width (map (leaf_value inputs.now) circuit.now.parts.leaves))) point.now claim (all_messages messages.now) (draws C.source (C.state challenges.old) (all_messages messages.now))) }
+    ensures { result ≡ first_failure (equations Line layer (layers_below circuit.now.parts layer) (input_table circuit.now.parts inputs.now) (At point.now) claim (all_messages messages.now) (draws C.source (C.state challenges.old) (all_messages messages.now))) }
 {
     let Some((first, later)) = messages.split_first() else {
         return check_inputs(circuit, inputs, claim, point);
@@ -63,7 +66,7 @@ pub(crate) fn check_layers<C: Challenges>(
 fn check_inputs(circuit: &Circuit, inputs: &[Fp], claim: Ext, point: &[Ext]) -> Verdict
     requires inputs { length inputs.now ≡ circuit.now.parts.inputs }
     requires position { length point.now ≡ exponent_at circuit.now.parts (height circuit.now.parts) }
-    ensures { result ≡ first_failure (equations 0 [] (map embed_k (padded_values circuit.now.parts.input_width (map (leaf_value inputs.now) circuit.now.parts.leaves))) point.now claim [] []) }
+    ensures { result ≡ first_failure (equations Line 0 [] (input_table circuit.now.parts inputs.now) (At point.now) claim [] []) }
 {
     let want = leaves_extension(circuit.leaves(), inputs, point);
     if claim.equals(want) {

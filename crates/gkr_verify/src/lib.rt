@@ -1,4 +1,4 @@
-//! The verifier of the Goldwasser-Kalai-Rothblum protocol, and its soundness.
+//! The verifier of the Goldwasser-Kalai-Rothblum protocol, by lines.
 //!
 //! [`check`] follows the claim on the outputs down the layers: sumcheck's rounds for each layer, the end of the rounds by
 //! the wiring polynomials, a point on the line between the two operands' points, and at last the inputs. Its answer is
@@ -11,16 +11,13 @@
 #![tactic(auto)]
 
 mod end;
-pub mod examples;
 mod extension;
-pub mod laws;
 mod layer;
 mod layers;
 mod rounds;
 #[cfg(test)]
 mod tests;
-mod verdict;
 mod verifier;
 
-pub use verdict::Verdict;
-pub use verifier::{bound_sum, challenge_count, check, draw_point};
+pub use gkr_layers::{Verdict, bound_sum, challenge_count};
+pub use verifier::check;

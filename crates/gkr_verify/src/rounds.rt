@@ -2,8 +2,9 @@
 
 ghost use Rattle.std.specs.Prelude.{◌≡◌, ◌≤◌, ℕ, List, ◌++◌, length, IsTrue, IfOk, IfErr};
 ghost use Rattle.transcript_fs.specs.Source.{draws, state_after};
-ghost use Rattle.gkr_verify.specs.Shapes.{round_messages};
-ghost use Rattle.gkr_verify.specs.Equations.{Equation, sum_equations, claim_after, first_failure, sum_failure};
+ghost use Rattle.proof_wire.specs.Lists.{round_messages};
+ghost use Rattle.gkr_layers.specs.Equations.{Equation, sum_equations, claim_after, first_failure};
+ghost use Rattle.gkr_verify.specs.Rounds.{sum_failure};
 
 use field_ext::Ext;
 use proof_wire::Round;

@@ -1,23 +1,22 @@
 // The verifier.
 
-ghost use Rattle.std.specs.Prelude.{◌≡◌, ◌≤◌, ◌+◌, ◌*◌, ℕ, length, IsTrue, IfOk, IfErr};
-ghost use Rattle.circuit_core.specs.Parts.{height};
+ghost use Rattle.std.specs.Prelude.{◌≡◌, ◌+◌, ◌*◌, ℕ, length, IsTrue, IfOk, IfErr};
 ghost use Rattle.circuit_core.specs.Sound.{exponent_at, exponents};
-ghost use Rattle.wiring_poly.specs.Layers.{layers_of, message_count, total_exponent};
-ghost use Rattle.transcript_fs.specs.Source.{coordinates, state_after_coordinates, all_draws};
+ghost use Rattle.gkr_layers.specs.Layers.{layers_of, total_exponent};
+ghost use Rattle.transcript_fs.specs.Source.{all_draws};
 ghost use Rattle.proof_wire.specs.Spelling.{AreOf};
-ghost use Rattle.gkr_verify.specs.Acceptance.{claim_of, verdict_of, challenge_count};
-ghost use Rattle.gkr_verify.specs.Shapes.{all_messages};
-ghost use Rattle.gkr_verify.specs.Soundness.{LetsPass, IsFalse};
+ghost use Rattle.gkr_layers.specs.Acceptance.{claim_of, verdict_of, challenge_count};
+ghost use Rattle.proof_wire.specs.Lists.{all_messages};
+ghost use Rattle.gkr_layers.specs.Soundness.{LetsPass, IsFalse};
 
 use crate::extension::values_extension;
 use crate::layers::check_layers;
-use crate::verdict::Verdict;
 use circuit_core::Circuit;
 use field_ext::{Ext, Fp};
+use gkr_layers::{Verdict, width_below};
 use proof_wire::Messages;
 use std::alloc::{AllocError, Global};
-use transcript_fs::Challenges;
+use transcript_fs::{Challenges, draw_point};
 use wiring_poly::coordinates;
 
 /// Checks the messages of a proof that the circuit on these inputs has these outputs: as many of both as the circuit has,
@@ -45,22 +44,6 @@ pub fn check<C: Challenges>(
     let width = coordinates(circuit, 0) + 3 * width_below(circuit);
     let mut room = vec![in alloc; Ext::zero(); width]?;
     Ok(check_in(circuit, inputs, outputs, messages, &mut room, challenges))
-}
-
-/// How many challenges a check of this circuit draws: one for each coordinate of the output point, and one behind each
-/// message.
-pub fn challenge_count(circuit: &Circuit) -> usize
-    ensures { result ≡ exponent_at circuit.now.parts 0 + message_count (layers_of circuit.now.parts) }
-{
-    coordinates(circuit, 0) + 2 * width_below(circuit) + circuit.height()
-}
-
-/// The sum of the bounds on how many challenges are exceptional: 1 for each coordinate of the output point, and for each
-/// layer below 2 for each of its rounds and its number of coordinates for its line.
-pub fn bound_sum(circuit: &Circuit) -> usize
-    ensures { result ≡ exponent_at circuit.now.parts 0 + 5 * total_exponent (layers_of circuit.now.parts) }
-{
-    coordinates(circuit, 0) + 5 * width_below(circuit)
 }
 
 // Checks the messages, and keeps challenges and points in `room`.
@@ -93,27 +76,4 @@ fn check_in<C: Challenges>(
         room,
         challenges,
     )
-}
-
-/// Draws the coordinates of the output point, one challenge each.
-pub fn draw_point<C: Challenges>(point: &mut [Ext], challenges: &mut C)
-    requires { IsTrue (C.source.has (C.state challenges.old) (length point.old)) }
-    ensures point { point.new ≡ coordinates C.source (C.state challenges.old) (length point.old) }
-    ensures state { C.state challenges.new ≡ state_after_coordinates C.source (C.state challenges.old) (length point.old) }
-{
-    for coordinate in point.iter_mut() {
-        *coordinate = challenges.challenge();
-    }
-}
-
-// The coordinates of the layers below the outputs, together.
-fn width_below(circuit: &Circuit) -> usize
-    ensures sum { result ≡ total_exponent (layers_of circuit.now.parts) }
-    ensures most { result ≤ 16 * height circuit.now.parts }
-{
-    let mut width = 0;
-    for layer in 0..circuit.height() {
-        width += coordinates(circuit, layer + 1);
-    }
-    width
 }

@@ -5,7 +5,7 @@ use Rattle.std.proofs.lemmas.List.{length-set, take_more}
 use Rattle.field_ext.specs.Ring.{Ops, Laws}
 use Rattle.field_ext.specs.Polynomial.{value_at}
 use Rattle.field_ext.specs.Multilinear.{extension_at, folded, folded_all}
-use Rattle.wiring_poly.specs.Sumcheck.{point_between}
+use Rattle.gkr_layers.specs.Sumcheck.{point_between}
 use Rattle.field_ext.proofs.Solve.{var, nil, ◌⊕◌, ◌⊗◌, minus, solve}
 use Rattle.mle_table.proofs.Fold.{fold-at}
 use Rattle.mle_table.proofs.Points.{ext-nil, ext-folded_all}

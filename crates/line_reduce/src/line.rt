@@ -3,7 +3,7 @@
 ghost use Rattle.std.specs.Prelude.{◌≡◌, ◌≤◌, ◌+◌, ◌^◌, length, IfOk};
 ghost use Rattle.field_ext.specs.Field.{k_ops};
 ghost use Rattle.field_ext.specs.Polynomial.{value_at, coefficients};
-ghost use Rattle.wiring_poly.specs.Sumcheck.{line_polynomial};
+ghost use Rattle.gkr_layers.specs.Sumcheck.{line_polynomial};
 
 use crate::rows::fold_rows;
 use field_ext::Ext;

@@ -2,7 +2,7 @@
 
 ghost use Rattle.std.specs.Prelude.{◌≡◌, length};
 ghost use Rattle.field_ext.specs.Field.{k_ops};
-ghost use Rattle.wiring_poly.specs.Sumcheck.{point_between};
+ghost use Rattle.gkr_layers.specs.Sumcheck.{point_between};
 
 use field_ext::Ext;
 

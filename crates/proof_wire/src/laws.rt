@@ -1,22 +1,10 @@
-// Laws of the bytes of proofs: the contracts of these functions. Those with no argument do nothing.
+// Laws of the bytes of proofs. Each function does nothing: its contract is a law that is proved.
 
-ghost use Rattle.std.specs.Prelude.{◌≡◌, ◌++◌, ℕ, List, [], IfOk, length};
+ghost use Rattle.std.specs.Prelude.{◌≡◌, ◌++◌, ℕ, List, [], length};
 ghost use Rattle.proof_wire.specs.declared.messages.Messages.{Messages};
 ghost use Rattle.proof_wire.specs.declared.refused.BadProof.{BadProof};
 ghost use Rattle.proof_wire.specs.Spelling.{AreOf, SameMessages, spelling, length_of};
 ghost use Rattle.proof_wire.specs.Trouble.{TroubleIs};
-
-use crate::{ProofRefused, decode, encode};
-use circuit_core::Shape;
-use std::alloc::Global;
-
-/// Bytes that are read and written again are the same bytes.
-pub fn read_and_written(alloc: Global, bytes: &[u8], shape: &Shape) -> Result<Vec<u8>, ProofRefused>
-    ensures { IfOk result (λ again. again.items ≡ bytes.now) }
-{
-    let messages = decode(alloc, bytes, shape)?;
-    Ok(encode(alloc, &messages)?)
-}
 
 /// All proofs of a shape have the same length.
 #[tactic(auto, using(crate::proofs::Lengths::spelling_length))]

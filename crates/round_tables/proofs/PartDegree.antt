@@ -4,7 +4,8 @@ use Rattle.field_ext.specs.Ring.{Ops}
 use Rattle.field_ext.specs.Multilinear.{bits_of}
 use Rattle.circuit_core.specs.declared.gate.CircuitGate.{CircuitGate}
 use Rattle.field_ext.specs.Polynomial.{polynomial_ops, constant}
-use Rattle.wiring_poly.proofs.Degree.{degrees, degrees-append, degrees-parts, degrees-constants, length-sum_below, length-sum_cube, length-summand}
+use Rattle.gkr_layers.proofs.Degree.{degrees, degrees-append, degrees-parts, degrees-constants, length-sum_below, length-sum_cube, length-weighted_summand}
+use Rattle.gkr_layers.specs.Places.{Place}
 use Rattle.round_tables.specs.LayerSum.{left_in_phase, after_phase, part_of_round}
 
 module _ {A : Type 0} (o : Ops A) where
@@ -17,12 +18,12 @@ module _ {A : Type 0} (o : Ops A) where
       bit false = refl
 
   -- a part of a round has at most three coefficients
-  pub length-part : (k : ℕ) (gates : List CircuitGate) (t z bound : List A) (from to : ℕ) → length (part_of_round o k gates t z bound from to) ≤ 3
+  pub length-part : (k : ℕ) (gates : List CircuitGate) (t : List A) (z : Place A) (bound : List A) (from to : ℕ) → length (part_of_round o k gates t z bound from to) ≤ 3
   length-part k gates t z bound from to =
       let n : ℕ = left_in_phase k (length bound) - 1 in
       length-sum_below o (to - from) _ 3 (λ j.
       length-sum_cube o (after_phase k (length bound)) _ 3 (λ c e.
       let w : List (List A) = bits_of (polynomial_ops o) n (from + j) ++ c in
       let ws : List (List A) = map (constant o) bound ++ (o.zero ∷ o.one ∷ []) ∷ w in
-      let s = length-summand o gates t (map (constant o) z) (take k ws) (drop k ws) in
-      omega (arith, s, degrees-constants o z, degrees-parts k ws, degrees-append (map (constant o) bound) ((o.zero ∷ o.one ∷ []) ∷ w), degrees-constants o bound, degrees-append (bits_of (polynomial_ops o) n (from + j)) c, degrees-bits n (from + j), e)))
+      let s = length-weighted_summand o gates t z (take k ws) (drop k ws) in
+      omega (arith, s, degrees-parts k ws, degrees-append (map (constant o) bound) ((o.zero ∷ o.one ∷ []) ∷ w), degrees-constants o bound, degrees-append (bits_of (polynomial_ops o) n (from + j)) c, degrees-bits n (from + j), e)))

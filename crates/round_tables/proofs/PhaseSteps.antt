@@ -9,7 +9,9 @@ use Rattle.field_ext.specs.Multilinear.{eq_poly, extension_at, folded}
 use Rattle.mle_table.proofs.SumLaws.{sum_cube-same}
 use Rattle.mle_table.proofs.Points.{ext-nil}
 use Rattle.circuit_core.specs.declared.gate.CircuitGate.{CircuitGate}
-use Rattle.wiring_poly.specs.Wiring.{sum_gates, summand_at}
+use Rattle.wiring_poly.specs.Wiring.{sum_gates}
+use Rattle.gkr_layers.specs.Places.{Place, weighted_summand_at}
+use Rattle.round_tables.specs.Weights.{HasWeights, position_weight}
 use Rattle.wiring_poly.proofs.Identity.{take-front}
 use Rattle.round_tables.specs.Tables.{IsFolded, scale_of, shift_of, Gathers, GathersLeft, GathersRight, StandFor}
 use Rattle.round_tables.specs.LayerSum.{left_in_phase, after_phase}
@@ -37,22 +39,22 @@ module _ {A : Type 0} (o : Ops A) (l : Laws A o) where
       gathers x
       ∙ sum_gates-placed P 0 (length gates) gates _ _ (omega arith) a (λ g gate u p. ap (λ (w : A). if place gate == x then w else o.zero) (e g gate u p))
 
-  module _ (k : ℕ) (gates : List CircuitGate) (values point : List A) where
+  module _ (k : ℕ) (gates : List CircuitGate) (values : List A) (point : Place A) where
     abbrev Below : CircuitGate → Type 0
     Below gate = IsOver (2 ^ k) gate
 
     -- the tables that are gathered by left operands begin the first phase
     pub started : IsLayer A k gates values point → (point_equality table scales shifts : List A) →
-        IsEqTable o point point_equality → table ≡ values →
+        HasWeights A o point (length gates) point_equality → table ≡ values →
         GathersLeft A o gates point_equality values scales shifts → IsPhase A o k gates values point [] table scales shifts
     started layer point_equality table scales shifts pe te gathers =
         let phase = in_left_phase k 0 layer.least in
-        let is_eq : (g : ℕ) (gate : CircuitGate) → g < length gates → get_or point_equality g o.zero ≡ eq_poly o point g = λ g gate u. pe g (rw (← layer.width) u) in
+        let is_eq : (g : ℕ) (gate : CircuitGate) → g < length gates → get_or point_equality g o.zero ≡ position_weight o point g = λ g gate u. pe g u in
         record {
           value = λ _ w e. ap (λ (t : List A). extension_at o o (λ x. x) t w) te;
           stand = λ w e.
               let size : length w ≡ k = omega (arith, phase.0, e) in
-              ap (λ (i : ℕ). sum_cube o i (λ c. summand_at o o (λ x. x) k gates values point (w ++ c))) phase.1
+              ap (λ (i : ℕ). sum_cube o i (λ c. weighted_summand_at o o (λ x. x) k gates values point (w ++ c))) phase.1
               ∙ left_phase o l k gates values point w scales shifts size layer.operands
               (gathers-same Below scales gates (λ gate. gate.left) _ _ layer.operands (λ g gate u p. ap (λ (x : A). scale_of o gate x (get_or values gate.right o.zero)) (is_eq g gate u)) gathers.scaled)
               (gathers-same Below shifts gates (λ gate. gate.left) _ _ layer.operands (λ g gate u p. ap (λ (x : A). shift_of o gate x (get_or values gate.right o.zero)) (is_eq g gate u)) gathers.shifted)
@@ -63,13 +65,13 @@ module _ {A : Type 0} (o : Ops A) (l : Laws A o) where
     stand-bound : (bound : List A) (r : A) (m : ℕ) (t s h t' s' h' : List A) → left_in_phase k (length bound) ≡ suc m →
         left_in_phase k (length (bound ++ r ∷ [])) ≡ m → after_phase k (length (bound ++ r ∷ [])) ≡ after_phase k (length bound) →
         IsFolded o (2 ^ m) t r t' → IsFolded o (2 ^ m) s r s' → IsFolded o (2 ^ m) h r h' →
-        StandFor o (left_in_phase k (length bound)) (λ w. sum_cube o (after_phase k (length bound)) (λ c. summand_at o o (λ x. x) k gates values point (bound ++ (w ++ c)))) t s h →
-        StandFor o (left_in_phase k (length (bound ++ r ∷ []))) (λ w. sum_cube o (after_phase k (length (bound ++ r ∷ []))) (λ c. summand_at o o (λ x. x) k gates values point ((bound ++ r ∷ []) ++ (w ++ c)))) t' s' h'
+        StandFor o (left_in_phase k (length bound)) (λ w. sum_cube o (after_phase k (length bound)) (λ c. weighted_summand_at o o (λ x. x) k gates values point (bound ++ (w ++ c)))) t s h →
+        StandFor o (left_in_phase k (length (bound ++ r ∷ []))) (λ w. sum_cube o (after_phase k (length (bound ++ r ∷ []))) (λ c. weighted_summand_at o o (λ x. x) k gates values point ((bound ++ r ∷ []) ++ (w ++ c)))) t' s' h'
     stand-bound bound r m t s h t' s' h' left left' after ft fs fh stand w e =
-        let f : List A → A = λ w. sum_cube o (after_phase k (length bound)) (λ c. summand_at o o (λ x. x) k gates values point (bound ++ (w ++ c))) in
+        let f : List A → A = λ w. sum_cube o (after_phase k (length bound)) (λ c. weighted_summand_at o o (λ x. x) k gates values point (bound ++ (w ++ c))) in
         let stand' : StandFor o (suc m) f t s h = λ w s. stand w (s ∙ sym left) in
-        ap (λ (i : ℕ). sum_cube o i (λ c. summand_at o o (λ x. x) k gates values point ((bound ++ r ∷ []) ++ (w ++ c)))) after
-        ∙ sum_cube-same o l (after_phase k (length bound)) _ _ (λ c. ap (summand_at o o (λ x. x) k gates values point) (append_assoc bound (r ∷ []) (w ++ c)))
+        ap (λ (i : ℕ). sum_cube o i (λ c. weighted_summand_at o o (λ x. x) k gates values point ((bound ++ r ∷ []) ++ (w ++ c)))) after
+        ∙ sum_cube-same o l (after_phase k (length bound)) _ _ (λ c. ap (weighted_summand_at o o (λ x. x) k gates values point) (append_assoc bound (r ∷ []) (w ++ c)))
         ∙ stand-folded o l m f t s h t' s' h' r stand' ft fs fh w (e ∙ left')
 
     pub bound_left : (bound t s h : List A) (r : A) (m : ℕ) (t' s' h' : List A) → IsPhase A o k gates values point bound t s h → length bound + 1 < k → left_in_phase k (length bound) ≡ suc m →
@@ -101,7 +103,7 @@ module _ {A : Type 0} (o : Ops A) (l : Laws A o) where
 
     -- the last challenge of the first phase, with tables gathered anew by right operands
     pub bound_middle : IsLayer A k gates values point → (bound t s h : List A) (r : A) (point_equality left_equality t' t'' s'' h'' : List A) → IsPhase A o k gates values point bound t s h → length bound + 1 ≡ k →
-        IsEqTable o point point_equality → IsEqTable o (bound ++ r ∷ []) left_equality → IsFolded o (2 ^ 0) t r t' → t'' ≡ values →
+        HasWeights A o point (length gates) point_equality → IsEqTable o (bound ++ r ∷ []) left_equality → IsFolded o (2 ^ 0) t r t' → t'' ≡ values →
         GathersRight A o gates point_equality left_equality (get_or t' 0 o.zero) s'' h'' → IsPhase A o k gates values point (bound ++ r ∷ []) t'' s'' h''
     bound_middle layer bound t s h r point_equality left_equality t' t'' s'' h'' phase u pe le ft te gathers =
         let n = length-bound bound r in
@@ -110,14 +112,14 @@ module _ {A : Type 0} (o : Ops A) (l : Laws A o) where
         let full : length b ≡ k = omega (arith, n) in
         let kept : get_or t' 0 o.zero ≡ extension_at o o (λ x. x) values b =
         sym (ext-nil o l t') ∙ ext-folded o l 0 t t' r [] refl ft ∙ phase.value (omega arith) (r ∷ []) (omega arith) in
-        let factor : (g : ℕ) (gate : CircuitGate) → g < length gates → Below gate → o.mul (get_or point_equality g o.zero) (get_or left_equality gate.left o.zero) ≡ o.mul (eq_poly o point g) (eq_poly o b gate.left) =
-        λ g gate v p. ap₂ o.mul (pe g (rw (← layer.width) v)) (le gate.left (rw full p.left)) in
+        let factor : (g : ℕ) (gate : CircuitGate) → g < length gates → Below gate → o.mul (get_or point_equality g o.zero) (get_or left_equality gate.left o.zero) ≡ o.mul (position_weight o point g) (eq_poly o b gate.left) =
+        λ g gate v p. ap₂ o.mul (pe g v) (le gate.left (rw full p.left)) in
         record {
           value = λ w. absurd (omega (arith, n, w));
           stand = λ w e.
               let size : length w ≡ k = omega (arith, next.0, e, n) in
-              ap (λ (i : ℕ). sum_cube o i (λ c. summand_at o o (λ x. x) k gates values point (b ++ (w ++ c)))) next.1
-              ∙ ap (λ (v : List A). summand_at o o (λ x. x) k gates values point (b ++ v)) (append-nil w)
+              ap (λ (i : ℕ). sum_cube o i (λ c. weighted_summand_at o o (λ x. x) k gates values point (b ++ (w ++ c)))) next.1
+              ∙ ap (λ (v : List A). weighted_summand_at o o (λ x. x) k gates values point (b ++ v)) (append-nil w)
               ∙ right_phase o l k gates values point b w s'' h'' full size layer.operands
               (gathers-same Below s'' gates (λ gate. gate.right) _ _ layer.operands (λ g gate v p. ap₂ (scale_of o gate) (factor g gate v p) kept) gathers.scaled)
               (gathers-same Below h'' gates (λ gate. gate.right) _ _ layer.operands (λ g gate v p. ap₂ (shift_of o gate) (factor g gate v p) kept) gathers.shifted)

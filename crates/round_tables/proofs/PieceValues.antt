@@ -3,15 +3,15 @@ use Rattle.std.proofs.Common.{◌≡◌, ℕ, zero, suc, ◌+◌, ◌-◌, ◌/�
 use Rattle.std.proofs.lemmas.Bool.{le-ltb}
 use Rattle.std.proofs.lemmas.List.{take-map, drop-map, map-append}
 use Rattle.field_ext.specs.Ring.{Ops, Laws}
-use Rattle.field_ext.specs.Polynomial.{value_at}
+use Rattle.field_ext.specs.Polynomial.{value_at, polynomial_ops, constant}
 use Rattle.field_ext.specs.Sums.{sum_below, sum_cube}
 use Rattle.field_ext.specs.Multilinear.{bits_of}
 use Rattle.mle_table.proofs.SumLaws.{sum_below-same}
 use Rattle.circuit_core.specs.declared.gate.CircuitGate.{CircuitGate}
-use Rattle.field_ext.specs.Polynomial.{polynomial_ops, constant}
-use Rattle.wiring_poly.specs.Wiring.{summand, summand_at}
-use Rattle.wiring_poly.proofs.Hom.{sum_below-hom, sum_cube-hom, summand-hom}
-use Rattle.wiring_poly.proofs.RoundPoly.{value_hom, value-constant, at_point, constants}
+use Rattle.wiring_poly.proofs.Hom.{sum_below-hom, sum_cube-hom}
+use Rattle.gkr_layers.proofs.RoundPoly.{value_hom, value-constant, at_point}
+use Rattle.gkr_layers.specs.Places.{Place, map_place, weighted_summand, weighted_summand_at}
+use Rattle.gkr_layers.proofs.PlaceSums.{weighted_summand-hom, place_constants}
 use Rattle.round_tables.specs.Tables.{pair_at, StandFor}
 use Rattle.round_tables.specs.LayerSum.{left_in_phase, after_phase, part_of_round}
 use Rattle.round_tables.proofs.RoundPairs.{stand-pair}
@@ -32,22 +32,22 @@ module _ {A : Type 0} (o : Ops A) (l : Laws A o) where
       bit false = refl
 
   -- the value of the summand with e in X's place
-  value-summand : (k : ℕ) (gates : List CircuitGate) (values z bound : List A) (e : A) (w : List (List A)) →
-      value_at o (summand_at (polynomial_ops o) o (constant o) k gates values (map (constant o) z) (map (constant o) bound ++ (o.zero ∷ o.one ∷ []) ∷ w)) e
-      ≡ summand_at o o (λ x. x) k gates values z (bound ++ e ∷ map (λ q. value_at o q e) w)
+  value-summand : (k : ℕ) (gates : List CircuitGate) (values : List A) (z : Place A) (bound : List A) (e : A) (w : List (List A)) →
+      value_at o (weighted_summand_at (polynomial_ops o) o (constant o) k gates values (map_place (constant o) z) (map (constant o) bound ++ (o.zero ∷ o.one ∷ []) ∷ w)) e
+      ≡ weighted_summand_at o o (λ x. x) k gates values z (bound ++ e ∷ map (λ q. value_at o q e) w)
   value-summand k gates values z bound e w =
       let h : List A → A = λ q. value_at o q e in
       let x : List A = o.zero ∷ o.one ∷ [] in
-      summand-hom (polynomial_ops o) o h (value_hom o l e) o (constant o) gates values (map (constant o) z) (take k (map (constant o) bound ++ x ∷ w)) (drop k (map (constant o) bound ++ x ∷ w))
+      weighted_summand-hom (polynomial_ops o) o h (value_hom o l e) o (constant o) gates values (map_place (constant o) z) (take k (map (constant o) bound ++ x ∷ w)) (drop k (map (constant o) bound ++ x ∷ w))
       ∙ moved (sym (take-map h k (map (constant o) bound ++ x ∷ w)) ∙ ap (take k) (at_point o l e bound w)) (sym (drop-map h k (map (constant o) bound ++ x ∷ w)) ∙ ap (drop k) (at_point o l e bound w))
     where
       moved : {b b' c c' : List A} → b ≡ b' → c ≡ c' →
-          summand o o (λ t. value_at o (constant o t) e) gates values (map (λ q. value_at o q e) (map (constant o) z)) b c ≡ summand o o (λ t. t) gates values z b' c'
-      moved p q = λ i. summand o o (λ t. value-constant o l t e i) gates values (constants o l e z i) (p i) (q i)
+          weighted_summand o o (λ t. value_at o (constant o t) e) gates values (map_place (λ q. value_at o q e) (map_place (constant o) z)) b c ≡ weighted_summand o o (λ t. t) gates values z b' c'
+      moved p q = λ i. weighted_summand o o (λ t. value-constant o l t e i) gates values (place_constants o l e z i) (p i) (q i)
 
-  pub value-part : (k : ℕ) (gates : List CircuitGate) (values z bound : List A) (from to : ℕ) (e : A) →
+  pub value-part : (k : ℕ) (gates : List CircuitGate) (values : List A) (z : Place A) (bound : List A) (from to : ℕ) (e : A) →
       value_at o (part_of_round o k gates values z bound from to) e
-      ≡ sum_below o (to - from) (λ j. sum_cube o (after_phase k (length bound)) (λ c. summand_at o o (λ x. x) k gates values z (bound ++ e ∷ (bits_of o (left_in_phase k (length bound) - 1) (from + j) ++ c))))
+      ≡ sum_below o (to - from) (λ j. sum_cube o (after_phase k (length bound)) (λ c. weighted_summand_at o o (λ x. x) k gates values z (bound ++ e ∷ (bits_of o (left_in_phase k (length bound) - 1) (from + j) ++ c))))
   value-part k gates values z bound from to e =
       let h : List A → A = λ q. value_at o q e in
       let m : ℕ = left_in_phase k (length bound) - 1 in
@@ -55,14 +55,14 @@ module _ {A : Type 0} (o : Ops A) (l : Laws A o) where
       ∙ sum_below-same o l (to - from) _ _ (λ j u.
       sum_cube-hom (polynomial_ops o) o h (value_hom o l e) (after_phase k (length bound)) _ _ (λ c.
       value-summand k gates values z bound e (bits_of (polynomial_ops o) m (from + j) ++ c)
-      ∙ ap (λ (w : List A). summand_at o o (λ x. x) k gates values z (bound ++ e ∷ w)) (map-append h (bits_of (polynomial_ops o) m (from + j)) c ∙ ap (λ (w : List A). w ++ map h c) (bits-hom e m (from + j)))))
+      ∙ ap (λ (w : List A). weighted_summand_at o o (λ x. x) k gates values z (bound ++ e ∷ w)) (map-append h (bits_of (polynomial_ops o) m (from + j)) c ∙ ap (λ (w : List A). w ++ map h c) (bits-hom e m (from + j)))))
 
   -- with tables that stand for the phase, a part is a sum over their pairs
-  pub part-pairs : (k m : ℕ) (gates : List CircuitGate) (values z bound table scales shifts : List A) (from to : ℕ) (e : A) → left_in_phase k (length bound) ≡ suc m → to ≤ 2 ^ m →
-      StandFor o (left_in_phase k (length bound)) (λ w. sum_cube o (after_phase k (length bound)) (λ c. summand_at o o (λ x. x) k gates values z (bound ++ (w ++ c)))) table scales shifts →
+  pub part-pairs : (k m : ℕ) (gates : List CircuitGate) (values : List A) (z : Place A) (bound table scales shifts : List A) (from to : ℕ) (e : A) → left_in_phase k (length bound) ≡ suc m → to ≤ 2 ^ m →
+      StandFor o (left_in_phase k (length bound)) (λ w. sum_cube o (after_phase k (length bound)) (λ c. weighted_summand_at o o (λ x. x) k gates values z (bound ++ (w ++ c)))) table scales shifts →
       value_at o (part_of_round o k gates values z bound from to) e ≡ sum_below o (to - from) (λ j. pair_at o table scales shifts e (from + j))
   part-pairs k m gates values z bound table scales shifts from to e is below stand =
-      let f : List A → A = λ w. sum_cube o (after_phase k (length bound)) (λ c. summand_at o o (λ x. x) k gates values z (bound ++ (w ++ c))) in
+      let f : List A → A = λ w. sum_cube o (after_phase k (length bound)) (λ c. weighted_summand_at o o (λ x. x) k gates values z (bound ++ (w ++ c))) in
       let one : left_in_phase k (length bound) - 1 ≡ m = omega arith in
       let stand' : StandFor o (suc m) f table scales shifts = λ w s. stand w (s ∙ sym is) in
       value-part k gates values z bound from to e

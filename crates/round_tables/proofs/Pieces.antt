@@ -4,21 +4,21 @@ use Rattle.std.proofs.lemmas.Bool.{cases_lt}
 use Rattle.field_ext.specs.Ring.{Ops, Laws}
 use Rattle.field_ext.specs.Field.{K, k_ops}
 use Rattle.field_ext.proofs.KLaws.{k_laws}
-use Rattle.field_ext.specs.Polynomial.{coefficients, value_at, sum_of}
+use Rattle.field_ext.specs.Polynomial.{coefficients, value_at, sum_of, polynomial_ops}
 use Rattle.field_ext.specs.Sums.{sum_below, sum_cube}
 use Rattle.field_ext.specs.Multilinear.{bits_of}
 use Rattle.mle_table.proofs.SumLaws.{sum_below-same}
-use Rattle.field_ext.specs.Polynomial.{polynomial_ops}
-use Rattle.wiring_poly.specs.Wiring.{summand_at}
+use Rattle.gkr_layers.specs.Places.{weighted_summand_at}
 use Rattle.wiring_poly.proofs.Identity.{sum_cube-split}
 use Rattle.wiring_poly.proofs.Hom.{sum_below-hom}
-use Rattle.wiring_poly.proofs.RoundPoly.{value_hom, value-round_polynomial}
+use Rattle.gkr_layers.proofs.RoundPoly.{value_hom}
+use Rattle.gkr_layers.proofs.PlaceSums.{value-round_polynomial}
 use Rattle.field_ext.proofs.Rings.{mul_zero}
-use Rattle.wiring_poly.proofs.Degree.{length-round_polynomial}
+use Rattle.gkr_layers.proofs.Degree.{length-round_polynomial}
 use Rattle.round_tables.specs.LayerSum.{LayerSum, left_in_phase, after_phase, pairs_of, pieces_of, piece_poly, next_poly}
 use Rattle.round_tables.proofs.Sums.{sum_cube-bits}
 use Rattle.round_tables.proofs.PieceValues.{in_left_phase, in_right_phase, value-part}
-use Rattle.wiring_poly.proofs.Coefficients.{from_values, length-coefficients}
+use Rattle.gkr_layers.proofs.Coefficients.{from_values, length-coefficients}
 use Rattle.round_tables.proofs.PartDegree.{length-part}
 
 module _ {A : Type 0} (o : Ops A) (l : Laws A o) where
@@ -59,15 +59,15 @@ pub pieces-value : (s : LayerSum) (e : K) → length s.bound < s.k + s.k → sum
 pieces-value s e u =
     let n : ℕ = length s.bound in
     let m : ℕ = left_in_phase s.k n - 1 in
-    let f : List K → K = λ w. summand_at k_ops k_ops (λ x. x) s.k s.gates s.values s.point (s.bound ++ e ∷ w) in
+    let f : List K → K = λ w. weighted_summand_at k_ops k_ops (λ x. x) s.k s.gates s.values s.place (s.bound ++ e ∷ w) in
     let g : ℕ → K = λ h. sum_cube k_ops (after_phase s.k n) (λ c. f (bits_of k_ops m h ++ c)) in
     let enough : min (1024 * pieces_of s) (pairs_of s) ≡ pairs_of s = omega arith in
-    sum_below-same k_ops k_laws (pieces_of s) _ _ (λ piece v. value-part k_ops k_laws s.k s.gates s.values s.point s.bound (1024 * piece) (min (1024 * piece + 1024) (pairs_of s)) e)
+    sum_below-same k_ops k_laws (pieces_of s) _ _ (λ piece v. value-part k_ops k_laws s.k s.gates s.values s.place s.bound (1024 * piece) (min (1024 * piece + 1024) (pairs_of s)) e)
     ∙ sum_pieces k_ops k_laws (pieces_of s) (pairs_of s) g
     ∙ ap (λ (i : ℕ). sum_below k_ops i g) enough
     ∙ sym (sum_cube-bits k_ops k_laws m (λ w. sum_cube k_ops (after_phase s.k n) (λ c. f (w ++ c))))
     ∙ sym (sum_cube-split k_ops k_laws m (after_phase s.k n) (s.k + s.k - n - 1) f (split_phase s.k n u))
-    ∙ sym (value-round_polynomial k_ops k_laws s.k s.gates s.values s.point s.bound (s.k + s.k - n - 1) e)
+    ∙ sym (value-round_polynomial k_ops k_laws s.k s.gates s.values s.place s.bound (s.k + s.k - n - 1) e)
 
 module _ {A : Type 0} (o : Ops A) (l : Laws A o) where
   pub value-coefficients : (n : ℕ) (p : List A) (e : A) → length p ≤ n → value_at o (coefficients o n p) e ≡ value_at o p e
@@ -92,7 +92,7 @@ pieces-sum s u =
     let size : length (sum_below (polynomial_ops k_ops) (pieces_of s) (λ piece. coefficients k_ops 3 (piece_poly s piece))) ≡ 3 =
     ap (λ (n : ℕ). length (sum_below (polynomial_ops k_ops) n (λ piece. coefficients k_ops 3 (piece_poly s piece)))) some
     ∙ length-sums k_ops k_laws 3 (pieces_of s - 1) (λ piece. coefficients k_ops 3 (piece_poly s piece)) (λ piece. length-coefficients k_ops 3 (piece_poly s piece)) in
-    from_values 3 (sum_below (polynomial_ops k_ops) (pieces_of s) (λ piece. coefficients k_ops 3 (piece_poly s piece))) (next_poly s) (lit< tt) size (length-round_polynomial k_ops s.k s.gates s.values s.point s.bound (s.k + s.k - length s.bound - 1)) (λ e.
+    from_values 3 (sum_below (polynomial_ops k_ops) (pieces_of s) (λ piece. coefficients k_ops 3 (piece_poly s piece))) (next_poly s) (lit< tt) size (length-round_polynomial k_ops s.k s.gates s.values s.place s.bound (s.k + s.k - length s.bound - 1)) (λ e.
     sum_below-hom (polynomial_ops k_ops) k_ops (λ q. value_at k_ops q e) (value_hom k_ops k_laws e) (pieces_of s) (λ piece. coefficients k_ops 3 (piece_poly s piece))
-    ∙ sum_below-same k_ops k_laws (pieces_of s) _ _ (λ piece v. value-coefficients k_ops k_laws 3 (piece_poly s piece) e (length-part k_ops s.k s.gates s.values s.point s.bound (1024 * piece) (min (1024 * piece + 1024) (pairs_of s))))
+    ∙ sum_below-same k_ops k_laws (pieces_of s) _ _ (λ piece v. value-coefficients k_ops k_laws 3 (piece_poly s piece) e (length-part k_ops s.k s.gates s.values s.place s.bound (1024 * piece) (min (1024 * piece + 1024) (pairs_of s))))
     ∙ pieces-value s e u)

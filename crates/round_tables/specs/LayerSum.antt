@@ -6,15 +6,15 @@ use Rattle.field_ext.specs.Sums.{sum_below, sum_cube}
 use Rattle.field_ext.specs.Multilinear.{bits_of}
 use Rattle.circuit_core.specs.declared.gate.CircuitGate.{CircuitGate}
 use Rattle.field_ext.specs.Polynomial.{polynomial_ops, constant}
-use Rattle.wiring_poly.specs.Wiring.{summand_at}
-use Rattle.wiring_poly.specs.Sumcheck.{round_polynomial}
+use Rattle.gkr_layers.specs.Places.{Place, map_place, weighted_summand_at}
+use Rattle.gkr_layers.specs.Sumcheck.{round_polynomial}
 
--- a layer of gates over the 2 ^ k values of the layer below, its output point, and the challenges that are bound
+-- a layer of gates over the 2 ^ k values of the layer below, where its claim stands, and the challenges that are bound
 pub record LayerSum : Type 0 where
   pub k : ℕ
   pub gates : List CircuitGate
   pub values : List K
-  pub point : List K
+  pub place : Place K
   pub bound : List K
 
 -- the coordinates of the phase that are left once n of the 2 k are bound: first those of the left operand, then those of the right one
@@ -26,12 +26,12 @@ abbrev pub after_phase : ℕ → ℕ → ℕ
 after_phase k n = if nat_lt n k then k else 0
 
 -- the part of a round's true polynomial in which the other coordinates of the phase are the bits of a number from `from` to before `to`
-abbrev pub part_of_round : {A : Type 0} → Ops A → ℕ → List CircuitGate → List A → List A → List A → ℕ → ℕ → List A
-part_of_round o k gates values point bound from to =
+abbrev pub part_of_round : {A : Type 0} → Ops A → ℕ → List CircuitGate → List A → Place A → List A → ℕ → ℕ → List A
+part_of_round o k gates values place bound from to =
     let n = length bound in
     sum_below (polynomial_ops o) (to - from) (λ j.
     sum_cube (polynomial_ops o) (after_phase k n) (λ c.
-    summand_at (polynomial_ops o) o (constant o) k gates values (map (constant o) point) (map (constant o) bound ++ (o.zero ∷ o.one ∷ []) ∷ (bits_of (polynomial_ops o) (left_in_phase k n - 1) (from + j) ++ c))))
+    weighted_summand_at (polynomial_ops o) o (constant o) k gates values (map_place (constant o) place) (map (constant o) bound ++ (o.zero ∷ o.one ∷ []) ∷ (bits_of (polynomial_ops o) (left_in_phase k n - 1) (from + j) ++ c))))
 
 -- how many numbers the other coordinates of the phase have
 abbrev pub pairs_of : LayerSum → ℕ
@@ -42,7 +42,7 @@ abbrev pub pieces_of : LayerSum → ℕ
 pieces_of s = (pairs_of s + 1023) / 1024
 
 abbrev pub piece_poly : LayerSum → ℕ → List K
-piece_poly s piece = part_of_round k_ops s.k s.gates s.values s.point s.bound (1024 * piece) (min (1024 * piece + 1024) (pairs_of s))
+piece_poly s piece = part_of_round k_ops s.k s.gates s.values s.place s.bound (1024 * piece) (min (1024 * piece + 1024) (pairs_of s))
 
 -- how many pairs a piece has
 abbrev pub piece_pairs : LayerSum → ℕ → ℕ
@@ -54,4 +54,4 @@ bind_steps s = 3 * pairs_of s + (if length s.bound + 1 == s.k then length s.gate
 
 -- the true polynomial of the next round
 abbrev pub next_poly : LayerSum → List K
-next_poly s = round_polynomial k_ops s.k s.gates s.values s.point s.bound (s.k + s.k - length s.bound - 1)
+next_poly s = round_polynomial k_ops s.k s.gates s.values s.place s.bound (s.k + s.k - length s.bound - 1)

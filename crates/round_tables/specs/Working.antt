@@ -1,17 +1,23 @@
 -- What holds of the structures that keep a layer's tables
-use Rattle.std.specs.Prelude.{◌≡◌, ℕ, ◌+◌, ◌-◌, ◌^◌, ◌≤◌, ◌⊎◌, IsTrue, List, [], ◌∷◌, ◌++◌, length, take, vec_len, slice_index_or}
+use Rattle.std.specs.Prelude.{◌≡◌, ℕ, ◌+◌, ◌-◌, ◌^◌, ◌≤◌, ◌⊎◌, IsTrue, List, [], ◌∷◌, ◌++◌, length, take, vec_len, slice_index_or, if◌then◌else◌}
 use Rattle.field_ext.specs.Field.{K, k_ops, of, zero_k}
 use Rattle.round_tables.specs.declared.layer_gates.LayerGates.{LayerGates}
 use Rattle.round_tables.specs.declared.working.Working.{Working}
-use Rattle.mle_table.specs.Equality.{IsEqTable}
+use Rattle.gkr_layers.specs.Places.{Place}
+use Rattle.gkr_layers.specs.Places.Place.{At, AtBoth}
+use Rattle.round_tables.specs.Weights.{HasWeights}
 use Rattle.round_tables.specs.Tables.{IsFolded}
 use Rattle.round_tables.specs.LayerSum.{left_in_phase}
 use Rattle.round_tables.specs.Phase.{IsLayer, IsPhase}
 
--- the layer is one, and the equality polynomial's values at its point are kept with it
+-- where the claim on the layer stands
+abbrev pub place_of : LayerGates → Place K
+place_of layer = if layer.both then AtBoth layer.first.now layer.second.now layer.weight else At layer.first.now
+
+-- the layer is one, and the weights of its positions are kept with it
 pub record IsLayerGates (layer : LayerGates) : Type 0 where
-  pub layer_is : IsLayer K layer.k layer.gates.now layer.values.now.items layer.point.now
-  pub equality : IsEqTable k_ops layer.point.now layer.point_equality.items
+  pub layer_is : IsLayer K layer.k layer.gates.now layer.values.now.items (place_of layer)
+  pub equality : HasWeights K k_ops (place_of layer) (length layer.gates.now) layer.point_equality.items
   pub equality_size : vec_len layer.point_equality ≡ length layer.gates.now
   pub in_base : IsTrue layer.base → (i : ℕ) → (slice_index_or layer.values.now.items i zero_k).im ≡ of 0
 
@@ -32,7 +38,7 @@ pub record WorksFor (layer : LayerGates) (w : Working) : Type 0 where
   pub rooms : HasRooms layer.k w
   pub counted : w.count ≤ layer.k + layer.k
   pub fresh : (w.count ≡ 0) ⊎ (w.count ≡ layer.k) → w.table.items ≡ layer.values.now.items
-  pub phase : IsPhase K k_ops layer.k layer.gates.now layer.values.now.items layer.point.now (bound_of w) w.table.items w.scales.items w.shifts.items
+  pub phase : IsPhase K k_ops layer.k layer.gates.now layer.values.now.items (place_of layer) (bound_of w) w.table.items w.scales.items w.shifts.items
 
 -- r is noted, and the tables are folded by it
 pub record IsAdvanced (k : ℕ) (old : Working) (r : K) (new : Working) : Type 0 where

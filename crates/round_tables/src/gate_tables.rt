@@ -3,6 +3,7 @@
 ghost use Rattle.std.specs.Prelude.{◌≡◌, ◌<◌, ◌≤◌, ◌+◌, ◌^◌, All, IfOk, [], ◌∷◌, ◌++◌, length};
 ghost use Rattle.field_ext.specs.Field.{k_ops};
 ghost use Rattle.circuit_core.specs.Parts.{IsOver};
+ghost use Rattle.gkr_layers.specs.Places.Place.{At, AtBoth};
 ghost use Rattle.field_ext.specs.Polynomial.{coefficients};
 ghost use Rattle.round_tables.specs.LayerSum.{pieces_of, piece_pairs, piece_poly, bind_steps};
 
@@ -29,11 +30,11 @@ pub struct GateTables<'a> {
 
 impl<'a> Model for GateTables<'a> {
     ghost use Rattle.round_tables.specs.LayerSum.{LayerSum};
-    ghost use Rattle.round_tables.specs.Working.{IsLayerGates, WorksFor, bound_of};
+    ghost use Rattle.round_tables.specs.Working.{IsLayerGates, WorksFor, bound_of, place_of};
 
     ghost Value = { LayerSum };
 
-    ghost view = { λ a. record { k = a.layer.k; gates = a.layer.gates.now; values = a.layer.values.now.items; point = a.layer.point.now; bound = bound_of a.working } };
+    ghost view = { λ a. record { k = a.layer.k; gates = a.layer.gates.now; values = a.layer.values.now.items; place = place_of a.layer; bound = bound_of a.working } };
 
     ghost invariant = { λ a. IsLayerGates a.layer × WorksFor a.layer a.working };
 }
@@ -54,7 +55,7 @@ impl<'a> GateTables<'a> {
         ensures k { IfOk result (λ sum. sum.k ≡ values.now.k) }
         ensures gates { IfOk result (λ sum. sum.gates ≡ gates.now) }
         ensures values { IfOk result (λ sum. sum.values ≡ values.now.items) }
-        ensures point { IfOk result (λ sum. sum.point ≡ point.now) }
+        ensures place { IfOk result (λ sum. sum.place ≡ At point.now) }
         ensures bound { IfOk result (λ sum. sum.bound ≡ []) }
     {
         let room = Room::new(alloc, gates.len(), 1 << values.k())?;
@@ -75,7 +76,7 @@ impl<'a> GateTables<'a> {
         ensures k { IfOk result (λ sum. sum.k ≡ values.now.k) }
         ensures gates { IfOk result (λ sum. sum.gates ≡ gates.now) }
         ensures values { IfOk result (λ sum. sum.values ≡ values.now.items) }
-        ensures point { IfOk result (λ sum. sum.point ≡ point.now) }
+        ensures place { IfOk result (λ sum. sum.place ≡ At point.now) }
         ensures bound { IfOk result (λ sum. sum.bound ≡ []) }
     {
         let Room {
@@ -83,6 +84,37 @@ impl<'a> GateTables<'a> {
             working,
         } = room;
         let layer = LayerGates::new(point_equality, gates, values, point)?;
+        let working = working.begin(&layer)?;
+        Ok(GateTables { layer, working })
+    }
+
+    /// The sumcheck of a layer whose claim stands at two points, the first with weight 1 and the second with the weight
+    /// given. Err only where no memory is found; no later call takes any.
+    pub fn start_two(
+        alloc: Global,
+        gates: &'a [CircuitGate],
+        values: &'a Table,
+        first: &'a [Ext],
+        second: &'a [Ext],
+        weight: Ext,
+    ) -> Result<GateTables<'a>, AllocError>
+        requires least { 1 ≤ values.now.k }
+        requires most { values.now.k ≤ 16 }
+        requires few { length second.now ≤ 16 }
+        requires same { length first.now ≡ length second.now }
+        requires width { length gates.now ≡ 2 ^ length second.now }
+        requires operands { All (IsOver (2 ^ values.now.k)) gates.now }
+        ensures k { IfOk result (λ sum. sum.k ≡ values.now.k) }
+        ensures gates { IfOk result (λ sum. sum.gates ≡ gates.now) }
+        ensures values { IfOk result (λ sum. sum.values ≡ values.now.items) }
+        ensures place { IfOk result (λ sum. sum.place ≡ AtBoth first.now second.now weight) }
+        ensures bound { IfOk result (λ sum. sum.bound ≡ []) }
+    {
+        let Room {
+            point_equality,
+            working,
+        } = Room::new(alloc, gates.len(), 1 << values.k())?;
+        let layer = LayerGates::new_two(point_equality, gates, values, first, second, weight)?;
         let working = working.begin(&layer)?;
         Ok(GateTables { layer, working })
     }

@@ -3,8 +3,7 @@
 ghost use Rattle.std.specs.Prelude.{◌≡◌, ◌<◌, ◌+◌, length};
 ghost use Rattle.field_ext.specs.Field.{k_ops};
 ghost use Rattle.field_ext.specs.Sums.{sum_below};
-ghost use Rattle.field_ext.specs.Polynomial.{polynomial_ops};
-ghost use Rattle.field_ext.specs.Polynomial.{coefficients};
+ghost use Rattle.field_ext.specs.Polynomial.{polynomial_ops, coefficients};
 ghost use Rattle.round_tables.specs.LayerSum.{LayerSum, pieces_of, piece_poly, next_poly};
 
 /// The sums of the pieces add to the coefficients of the round's true polynomial.

@@ -1,22 +1,29 @@
 // The gates of a layer, lent for the time of its sumcheck.
 
 ghost use Rattle.std.specs.Prelude.{◌≡◌, ◌≤◌, ◌<◌, ◌^◌, ℕ, IfOk, IsTrue, length, slice_index_or};
-ghost use Rattle.field_ext.specs.Field.{K, of, zero_k};
+ghost use Rattle.field_ext.specs.Field.{K, k_ops, of, zero_k};
+ghost use Rattle.gkr_layers.specs.Places.Place.{At, AtBoth};
+ghost use Rattle.round_tables.specs.Weights.{HasWeights};
 ghost use Rattle.round_tables.specs.Phase.{IsLayer};
-ghost use Rattle.round_tables.specs.Working.{IsLayerGates};
+ghost use Rattle.round_tables.specs.Working.{IsLayerGates, place_of};
 
 use circuit_core::CircuitGate;
 use field_ext::Ext;
 use mle_table::{Table, fill_equality};
 use std::alloc::AllocError;
+use wiring_poly::SplitEquality;
 
-/// The gates of a layer over the `2^k` values of the layer below, and its output point.
+/// The gates of a layer over the `2^k` values of the layer below, and where the claim on it stands: at `first`, or at
+/// `first` with weight 1 and `second` with the weight given.
 #[derive(Drop)]
 pub(crate) struct LayerGates<'a> {
     pub(crate) k: usize,
     pub(crate) gates: &'a [CircuitGate],
     pub(crate) values: &'a Table,
-    pub(crate) point: &'a [Ext],
+    pub(crate) first: &'a [Ext],
+    pub(crate) second: &'a [Ext],
+    pub(crate) weight: Ext,
+    pub(crate) both: bool,
     pub(crate) point_equality: Vec<Ext>,
     /// Whether all values lie in the base field.
     pub(crate) base: bool,
@@ -44,19 +51,19 @@ fn are_base(values: &Table) -> bool
 }
 
 impl<'a> LayerGates<'a> {
-    /// Keeps the layer with the equality polynomial's values at the point, which are written to the room.
+    /// Keeps the layer with the weights of its positions, which are written to the room, for a claim at a point.
     pub(crate) fn new(
         mut point_equality: Vec<Ext>,
         gates: &'a [CircuitGate],
         values: &'a Table,
         point: &'a [Ext],
     ) -> Result<LayerGates<'a>, AllocError>
-        requires { IsLayer K values.now.k gates.now values.now.items point.now }
+        requires { IsLayer K values.now.k gates.now values.now.items (At point.now) }
         ensures holds { IfOk result (λ layer. IsLayerGates layer) }
         ensures k { IfOk result (λ layer. layer.k ≡ values.now.k) }
         ensures gates { IfOk result (λ layer. layer.gates.now ≡ gates.now) }
         ensures values { IfOk result (λ layer. layer.values.now ≡ values.now) }
-        ensures point { IfOk result (λ layer. layer.point.now ≡ point.now) }
+        ensures place { IfOk result (λ layer. place_of layer ≡ At point.now) }
     {
         point_equality.resize(gates.len(), Ext::zero())?;
         fill_equality(&mut point_equality, point);
@@ -64,7 +71,42 @@ impl<'a> LayerGates<'a> {
             k: values.k() as usize,
             gates,
             values,
-            point,
+            first: point,
+            second: point,
+            weight: Ext::zero(),
+            both: false,
+            point_equality,
+            base: are_base(values),
+        })
+    }
+
+    /// The same for a claim at two points, the second of at most 16 coordinates.
+    pub(crate) fn new_two(
+        mut point_equality: Vec<Ext>,
+        gates: &'a [CircuitGate],
+        values: &'a Table,
+        first: &'a [Ext],
+        second: &'a [Ext],
+        weight: Ext,
+    ) -> Result<LayerGates<'a>, AllocError>
+        requires few { length second.now ≤ 16 }
+        requires layer { IsLayer K values.now.k gates.now values.now.items (AtBoth first.now second.now weight) }
+        ensures holds { IfOk result (λ layer. IsLayerGates layer) }
+        ensures k { IfOk result (λ layer. layer.k ≡ values.now.k) }
+        ensures gates { IfOk result (λ layer. layer.gates.now ≡ gates.now) }
+        ensures values { IfOk result (λ layer. layer.values.now ≡ values.now) }
+        ensures place { IfOk result (λ layer. place_of layer ≡ AtBoth first.now second.now weight) }
+    {
+        point_equality.resize(gates.len(), Ext::zero())?;
+        fill_weights(&mut point_equality, first, second, weight);
+        Ok(LayerGates {
+            k: values.k() as usize,
+            gates,
+            values,
+            first,
+            second,
+            weight,
+            both: true,
             point_equality,
             base: are_base(values),
         })
@@ -78,5 +120,19 @@ impl<'a> LayerGates<'a> {
         for i in 0..room.len() {
             room[i] = self.values.at(i);
         }
+    }
+}
+
+/// Fills a table with the weights of the positions of a layer whose claim stands at two points.
+fn fill_weights(table: &mut [Ext], first: &[Ext], second: &[Ext], weight: Ext)
+    requires few { length second.now ≤ 16 }
+    requires same { length first.now ≡ length second.now }
+    requires size { length table.old ≡ 2 ^ length second.now }
+    ensures { HasWeights K k_ops (AtBoth first.now second.now weight) (length table.old) table.new }
+{
+    fill_equality(table, first);
+    let equality = SplitEquality::at(second);
+    for g in 0..table.len() {
+        table[g] = table[g].add(weight.mul(equality.value(g)));
     }
 }

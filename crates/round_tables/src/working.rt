@@ -7,7 +7,7 @@ ghost use Rattle.round_tables.specs.Tables.{IsFolded, GathersLeft, GathersRight,
 ghost use Rattle.field_ext.specs.Polynomial.{coefficients, value_at};
 ghost use Rattle.field_ext.specs.Sums.{sum_below};
 ghost use Rattle.round_tables.specs.LayerSum.{left_in_phase, part_of_round};
-ghost use Rattle.round_tables.specs.Working.{IsLayerGates, HasRooms, IsAdvanced, WorksFor, bound_of};
+ghost use Rattle.round_tables.specs.Working.{place_of, IsLayerGates, HasRooms, IsAdvanced, WorksFor, bound_of};
 
 use crate::folding::fold_front;
 use crate::gathering::{gather_left, gather_right};
@@ -313,7 +313,7 @@ impl Working {
         requires few { to ≤ from + 1024 }
         requires within { to ≤ 2 ^ (left_in_phase layer.now.k self.now.count - 1) }
         ensures part { (result.constant ∷ result.linear ∷ result.square ∷ []) ≡
-            coefficients k_ops 3 (part_of_round k_ops layer.now.k layer.now.gates.now layer.now.values.now.items layer.now.point.now (bound_of self.now) from to) }
+            coefficients k_ops 3 (part_of_round k_ops layer.now.k layer.now.gates.now layer.now.values.now.items (place_of layer.now) (bound_of self.now) from to) }
         ensures steps { steps.new ≡ steps.old + (to - from) }
     {
         let base = self.is_base(layer);

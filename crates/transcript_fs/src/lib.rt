@@ -17,6 +17,7 @@ mod drawing;
 mod feeding;
 mod given;
 pub mod laws;
+mod point;
 mod statement;
 #[cfg(test)]
 mod tests;
@@ -24,5 +25,6 @@ mod transcript;
 
 pub use challenges::Challenges;
 pub use given::Given;
+pub use point::draw_point;
 pub use statement::Statement;
 pub use transcript::Transcript;

@@ -1,13 +1,6 @@
 pub mod Hom
-pub mod RoundPoly
-pub mod Soundness
 pub mod Identity
-pub mod Layer
-pub mod Layers
-pub mod Degree
-pub mod Output
 pub mod Phases
-pub mod Coefficients
 pub mod GateSteps
-pub mod Circuits
+pub mod Sizes
 pub mod AtField

@@ -1,4 +1,2 @@
 pub mod Wiring
-pub mod Sumcheck
-pub mod Layers
 pub mod SplitEquality

@@ -1,9 +1,8 @@
-//! The wiring polynomials of a layer, and the polynomials that prover and verifier share.
+//! The wiring polynomials of a layer.
 //!
-//! The wiring polynomials are the multilinear extensions of "the gate at z adds the values at b and c" and "the gate at
-//! z multiplies them"; with the values of the layer below they make the summand of a layer's sumcheck. The definitions
-//! of both, of the true polynomial of a round and of a line, and of the equations of all layers stand in `specs/`, over
-//! the gates of `circuit_core`. Source: Thaler, "Proofs, Arguments, and Zero-Knowledge", 4.6.
+//! They are the multilinear extensions of "the gate at z adds the values at b and c" and "the gate at z multiplies
+//! them"; with the values of the layer below they make the summand of a layer's sumcheck, whose sum over all Boolean
+//! points is the extension of the layer's values. Source: Thaler, "Proofs, Arguments, and Zero-Knowledge", 4.6.
 //!
 //! ```text
 //! let (add, mul) = wiring_at(&circuit, layer, &z, &b, &c);

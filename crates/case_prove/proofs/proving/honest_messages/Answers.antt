@@ -2,8 +2,8 @@
 use Rattle.std.proofs.Common.{◌≡◌, ◌∙◌, List, ℕ, subst}
 use Rattle.std.proofs.lemmas.Result.{IfOk-weaker}
 use Rattle.transcript_fs.specs.Transcript.{start_state, transcript}
-use Rattle.gkr_verify.specs.Shapes.{all_messages}
-use Rattle.gkr_prove.specs.Honest.{IsHonestProof}
+use Rattle.proof_wire.specs.Lists.{all_messages}
+use Rattle.gkr_layers.specs.Honest.{IsHonestProof}
 use Rattle.case_prove.proofs.Statements.{same_start}
 use Rattle.case_prove.proofs.proving.honest_messages.Goals as goal
 

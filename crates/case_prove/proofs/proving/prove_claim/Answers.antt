@@ -4,8 +4,8 @@ use Rattle.field_ext.specs.Field.{F}
 use Rattle.circuit_core.specs.Sound.{SoundCircuit, exponents}
 use Rattle.proof_wire.specs.Spelling.{length_of, spelling}
 use Rattle.transcript_fs.specs.Transcript.{start_state, transcript}
-use Rattle.gkr_verify.specs.Shapes.{all_messages}
-use Rattle.gkr_prove.specs.Honest.{IsHonestProof}
+use Rattle.proof_wire.specs.Lists.{all_messages}
+use Rattle.gkr_layers.specs.Honest.{IsHonestProof}
 use Rattle.case_text.specs.Content.{Content}
 use Rattle.case_prove.proofs.ProvedCases.{same_content}
 use Rattle.case_prove.proofs.ProvedOutputs.{evaluated}

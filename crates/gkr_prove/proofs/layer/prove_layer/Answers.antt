@@ -4,16 +4,17 @@ use Rattle.std.proofs.lemmas.List.{length-map}
 use Rattle.field_ext.specs.Field.{K, k_ops}
 use Rattle.field_ext.specs.Polynomial.{coefficients}
 use Rattle.wiring_poly.proofs.Identity.{take-front}
-use Rattle.wiring_poly.proofs.Coefficients.{length-coefficients}
-use Rattle.wiring_poly.specs.Sumcheck.{line_polynomial, point_between}
+use Rattle.gkr_layers.proofs.Coefficients.{length-coefficients}
+use Rattle.gkr_layers.specs.Sumcheck.{line_polynomial, point_between}
 use Rattle.round_tables.specs.LayerSum.{LayerSum}
 use Rattle.transcript_fs.specs.Source.{Source, state_after}
 use Rattle.proof_wire.specs.Spelling.{coefficients_of}
-use Rattle.gkr_verify.specs.Shapes.{round_messages}
-use Rattle.gkr_verify.proofs.LayerSteps.{has_behind, has_front}
-use Rattle.gkr_prove.specs.Honest.{AreHonestRounds}
+use Rattle.proof_wire.specs.Lists.{round_messages}
+use Rattle.transcript_fs.proofs.Draws.{has_behind, has_front}
+use Rattle.gkr_layers.specs.Honest.{AreHonestRounds}
 use Rattle.gkr_prove.proofs.HonestSteps.{honest_layer, layer_point, state-more}
 use Rattle.gkr_prove.proofs.layer.prove_layer.Goals as goal
+use Rattle.gkr_layers.specs.Places.Place.{At}
 
 pub prove_rounds-requires-clause-has : goal.prove_rounds-requires-clause-has
 prove_rounds-requires-clause-has g c κs within =
@@ -49,11 +50,11 @@ returns-clause-honest g c =
     let drawn = c.in_ok-messages.field-0.drawn in
     let qs : List (List K) = round_messages c.in_ok-messages.field-0.messages.items in
     let rs : List K = c.in_ok-messages.field-0.drawn.items in
-    let sum : LayerSum = record { k = c.args.values.now.k; gates = c.args.gates.now; values = c.args.values.now.items; point = c.args.point.now; bound = [] } in
-    let is : c.in_ok-tables.tables ≡ sum = λ i. record { k = started.k i; gates = started.gates i; values = started.values i; point = started.point i; bound = started.bound i } in
-    let honest : AreHonestRounds c.args.values.now.k c.args.gates.now c.args.values.now.items c.args.point.now (c.args.values.now.k + c.args.values.now.k) qs rs =
-    subst (λ (t : LayerSum). AreHonestRounds t.k t.gates t.values t.point (t.k + t.k) qs rs) is rounds.honest in
-    honest_layer k c.args.gates.now c.args.values.now.items c.args.point.now source s qs rs c.in_ok-line.line.items
+    let sum : LayerSum = record { k = c.args.values.now.k; gates = c.args.gates.now; values = c.args.values.now.items; place = At c.args.point.now; bound = [] } in
+    let is : c.in_ok-tables.tables ≡ sum = λ i. record { k = started.k i; gates = started.gates i; values = started.values i; place = started.place i; bound = started.bound i } in
+    let honest : AreHonestRounds c.args.values.now.k c.args.gates.now c.args.values.now.items (At c.args.point.now) (c.args.values.now.k + c.args.values.now.k) qs rs =
+    subst (λ (t : LayerSum). AreHonestRounds t.k t.gates t.values t.place (t.k + t.k) qs rs) is rounds.honest in
+    honest_layer k c.args.gates.now c.args.values.now.items (At c.args.point.now) source s qs rs c.in_ok-line.line.items
     (length-map messages.items coefficients_of ∙ sym messages.ok.0 ∙ rounds.count ∙ (λ i. started.k i + started.k i))
     (sym drawn.ok.0 ∙ rounds.challenges ∙ (λ i. started.k i + started.k i))
     rounds.drawn honest
@@ -85,12 +86,12 @@ returns-clause-point g c =
     let size : length c.point_at.new.point ≡ c.in_ok-next.next.len = c.point_at.auto.point ∙ c.deref_mut.ensures.len in
     let last : c.challenge-challenge.result ≡ source.draw (source.absorb (state_after source s qs) line) =
     c.challenge-challenge.ensures.value ∙ ap source.draw (c.absorb.ensures ∙ (λ i. source.absorb (rounds.state i) (c.deref.ensures.value i))) in
-    ap (λ n. take n (c.point_at.new.point ++ drop (length c.point_at.new.point) c.in_ok-next.next.items)) (sym size)
+    ap At (ap (λ n. take n (c.point_at.new.point ++ drop (length c.point_at.new.point) c.in_ok-next.next.items)) (sym size)
     ∙ take-front new (drop (length new) c.in_ok-next.next.items)
     ∙ c.point_at.ensures
     ∙ (λ i. point_between k_ops (c.split_at.ensures.front i) (c.split_at.ensures.back i) (last i))
-    ∙ (λ i. point_between k_ops (take (c.k-k.ensures i) (c.as_slice.ensures.value i)) (drop (c.k-k.ensures i) (c.as_slice.ensures.value i)) (source.draw (source.absorb (state_after source s qs) line)))
-    ∙ layer_point k c.args.gates.now c.args.values.now.items c.args.point.now source s qs rs line (sym drawn.ok.0 ∙ rounds.challenges ∙ (λ i. started.k i + started.k i)) rounds.drawn
+    ∙ (λ i. point_between k_ops (take (c.k-k.ensures i) (c.as_slice.ensures.value i)) (drop (c.k-k.ensures i) (c.as_slice.ensures.value i)) (source.draw (source.absorb (state_after source s qs) line))))
+    ∙ layer_point k c.args.gates.now c.args.values.now.items (At c.args.point.now) source s qs rs line (sym drawn.ok.0 ∙ rounds.challenges ∙ (λ i. started.k i + started.k i)) rounds.drawn
 
 pub returns-clause-state : goal.returns-clause-state
 returns-clause-state g c =

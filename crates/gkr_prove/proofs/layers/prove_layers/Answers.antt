@@ -4,16 +4,21 @@ use Rattle.field_ext.specs.Field.{K, k_ops}
 use Rattle.circuit_core.specs.Parts.{Parts, height}
 use Rattle.circuit_core.specs.Sound.{exponent_at}
 use Rattle.mle_table.specs.Shape.{Values}
-use Rattle.wiring_poly.specs.Layers.{GateLayer, layers_of, message_count, next_point}
+use Rattle.gkr_layers.specs.Layers.{GateLayer, layers_of, message_count, layers_below, layer_at, next_place}
 use Rattle.transcript_fs.specs.Source.{Source, draws, state_after}
 use Rattle.proof_wire.specs.declared.messages.LayerMessages.{LayerMessages}
-use Rattle.gkr_verify.specs.Shapes.{messages_of, all_messages, layers_below, layer_at, HasShape, HaveShape}
-use Rattle.gkr_verify.proofs.LayerSteps.{length-draws, state-append}
-use Rattle.gkr_verify.proofs.BelowSteps.{below_more, below_none, length-messages, has_layer, has_below}
-use Rattle.gkr_prove.specs.Honest.{AreHonest, IsHonestLayer, input_table}
+use Rattle.proof_wire.specs.Lists.{messages_of, all_messages, HasShape}
+use Rattle.gkr_layers.specs.Shapes.{HaveShape}
+use Rattle.transcript_fs.proofs.Draws.{length-draws, state-append}
+use Rattle.gkr_layers.proofs.Circuits.{below_more, below_none}
+use Rattle.gkr_layers.proofs.Shapes.{length-messages, has_layer, has_below}
+use Rattle.gkr_layers.specs.Honest.{AreHonest, IsHonestLayer}
+use Rattle.gkr_layers.specs.Acceptance.{input_table}
 use Rattle.gkr_prove.proofs.LayerSteps.{messages-more, table_values, layers_more, length-next}
 use Rattle.gkr_prove.proofs.TableShapes.{table_exponent, is_layer, shape_more}
 use Rattle.gkr_prove.proofs.layers.prove_layers.Goals as goal
+use Rattle.gkr_layers.specs.Places.Place.{At}
+use Rattle.gkr_layers.specs.Forms.Form.{Line}
 
 -- challenges for the layers from one on
 has_here : (p : Parts) (source : Source) (s : List ℕ) (i : ℕ) → i < height p → IsTrue (source.has s (message_count (layers_below p i))) → IsTrue (source.has s (message_count (layer_at p i ∷ layers_below p (i + 1))))
@@ -59,16 +64,16 @@ loop-layer-preserved g c =
     let e : table.k ≡ k = table_exponent circuit c.requires.values.0 c.args.values.now (i + 1) table c.requires.values.1 v c.table.ensures in
     let noted : c.push.new.self.items ≡ ms ++ m ∷ [] = c.in_ok-push.ensures.items in
     let shape : HasShape k m = subst (λ (n : ℕ). HasShape n m) e proved.shape in
-    let next : c.in_ok-proved.proved.point.items ≡ next_point k_ops k d =
-    proved.point ∙ (λ j. next_point k_ops (e j) (draws source (before.state j) M)) in
+    let next : At c.in_ok-proved.proved.point.items ≡ next_place k_ops Line k d =
+    proved.point ∙ (λ j. next_place k_ops Line (e j) (draws source (before.state j) M)) in
     let count : length d ≡ k + k + 1 = length-draws source (state_after source s (all_messages ms)) M ∙ length-messages k m shape in
-    let honest : IsHonestLayer k (get_or p.layers i []) table.items c.loop-layer.point.items M d =
-    coe 0 1 (j. IsHonestLayer (e j) (c.gates.ensures.value j) table.items (c.deref.ensures.value j) M (draws source (before.state j) M)) proved.honest in
+    let honest : IsHonestLayer Line k (get_or p.layers i []) table.items (At c.loop-layer.point.items) M d =
+    coe 0 1 (j. IsHonestLayer Line (e j) (c.gates.ensures.value j) table.items (At (c.deref.ensures.value j)) M (draws source (before.state j) M)) proved.honest in
     let joined : all_messages c.push.new.self.items ≡ all_messages ms ++ M = (λ j. all_messages (noted j)) ∙ messages-more ms m in
     let first : List K = c.args.point.items in
     let point : List K = c.in_ok-proved.proved.point.items in
     record {
-      position = ap length next ∙ length-next k d count;
+      position = length-next k d point count next;
       has = subst (λ (t : List ℕ). IsTrue (source.has t (message_count (layers_below p (i + 1))))) (sym proved.state)
           (has_below source now (layer_at p i) (layers_below p (i + 1)) (has_here p source now i u before.has) m shape);
       state = proved.state ∙ (λ j. state_after source (before.state j) M) ∙ sym (state-append source s (all_messages ms) M) ∙ (λ j. state_after source s (sym joined j));
@@ -76,8 +81,8 @@ loop-layer-preserved g c =
           subst (λ (xs : List LayerMessages). HaveShape (layers_of p) xs) (sym (append_assoc ms (m ∷ []) rest) ∙ ap (λ (xs : List LayerMessages). xs ++ rest) (sym noted))
           (before.shape (m ∷ rest) (shape_more p i m rest u shape h));
       whole = λ inputs tables qs rs rest.
-          coe 0 1 (j. AreHonest (layers_of p) (input_table p inputs) first (all_messages (sym noted j) ++ qs) (draws source s (all_messages (sym noted j)) ++ rs))
-          (layers_more p inputs source s i ms m table.items first c.loop-layer.point.items point u shape (table_values p inputs c.args.values.now (i + 1) table.items tables v c.table.ensures) next honest
+          coe 0 1 (j. AreHonest Line (layers_of p) (input_table p inputs) (At first) (all_messages (sym noted j) ++ qs) (draws source s (all_messages (sym noted j)) ++ rs))
+          (layers_more p inputs source s i ms m table.items (At first) (At c.loop-layer.point.items) (At point) u shape (table_values p inputs c.args.values.now (i + 1) table.items tables v c.table.ensures) next honest
           (before.whole inputs tables) qs rs rest);
     }
 
@@ -88,9 +93,9 @@ returns-clause-honest g c inputs tables =
     let p : Parts = c.args.circuit.now.parts in
     let ms : List LayerMessages = c.loop-layer.messages.items in
     let u : height c.args.circuit.now.parts ≤ c.loop-layer.layer = omega (arith, c.loop-layer-test.false, c.height-layer-end.ensures) in
-    let nothing : AreHonest (layers_below p c.loop-layer.layer) (input_table p inputs) c.loop-layer.point.items [] [] =
-    subst (λ (layers : List GateLayer). AreHonest layers (input_table p inputs) c.loop-layer.point.items [] []) (sym (below_none p c.loop-layer.layer u)) tt in
-    coe 0 1 (j. AreHonest (layers_of p) (input_table p inputs) c.args.point.items (append-nil (all_messages ms) j) (append-nil (draws source s (all_messages ms)) j))
+    let nothing : AreHonest Line (layers_below p c.loop-layer.layer) (input_table p inputs) (At c.loop-layer.point.items) [] [] =
+    subst (λ (layers : List GateLayer). AreHonest Line layers (input_table p inputs) (At c.loop-layer.point.items) [] []) (sym (below_none p c.loop-layer.layer u)) tt in
+    coe 0 1 (j. AreHonest Line (layers_of p) (input_table p inputs) (At c.args.point.items) (append-nil (all_messages ms) j) (append-nil (draws source s (all_messages ms)) j))
     (c.loop-layer.invariant.whole inputs tables [] [] nothing)
 
 pub returns-clause-shape : goal.returns-clause-shape

@@ -3,12 +3,16 @@ use Rattle.std.proofs.Common.{◌≡◌, List, ◌++◌, length, IsTrue}
 use Rattle.field_ext.specs.Field.{F, K}
 use Rattle.circuit_core.specs.Sound.{exponent_at}
 use Rattle.circuit_eval.specs.Tables.{AreTables}
-use Rattle.wiring_poly.specs.Layers.{layers_of, message_count}
+use Rattle.gkr_layers.specs.Layers.{layers_of, message_count, layers_below}
 use Rattle.transcript_fs.specs.Source.{draws, state_after}
 use Rattle.proof_wire.specs.declared.messages.LayerMessages.{LayerMessages}
-use Rattle.gkr_verify.specs.Shapes.{all_messages, layers_below, HaveShape}
-use Rattle.gkr_prove.specs.Honest.{AreHonest, input_table}
+use Rattle.proof_wire.specs.Lists.{all_messages}
+use Rattle.gkr_layers.specs.Shapes.{HaveShape}
+use Rattle.gkr_layers.specs.Honest.{AreHonest}
+use Rattle.gkr_layers.specs.Acceptance.{input_table}
 use Rattle.gkr_prove.proofs.layers.prove_layers.Given as goal
+use Rattle.gkr_layers.specs.Places.Place.{At}
+use Rattle.gkr_layers.specs.Forms.Form.{Line}
 
 abbrev pub invariant-loop-layer : goal.invariant-loop-layer
 invariant-loop-layer g l = record {
@@ -16,6 +20,6 @@ invariant-loop-layer g l = record {
   has : IsTrue (g.C.Challenges.source.has (g.C.Challenges.state l.challenges) (message_count (layers_below l.circuit.parts l.layer)));
   state : g.C.Challenges.state l.challenges ≡ state_after g.C.Challenges.source (g.C.Challenges.state l.fn.challenges) (all_messages l.messages.items);
   shape : (ms : List LayerMessages) → HaveShape (layers_below l.circuit.parts l.layer) ms → HaveShape (layers_of l.circuit.parts) (l.messages.items ++ ms);
-  whole : (inputs : List F) → AreTables l.circuit.parts inputs l.values → (qs : List (List K)) (rs : List K) → AreHonest (layers_below l.circuit.parts l.layer) (input_table l.circuit.parts inputs) l.point.items qs rs →
-      AreHonest (layers_of l.circuit.parts) (input_table l.circuit.parts inputs) l.fn.point.items (all_messages l.messages.items ++ qs) (draws g.C.Challenges.source (g.C.Challenges.state l.fn.challenges) (all_messages l.messages.items) ++ rs);
+  whole : (inputs : List F) → AreTables l.circuit.parts inputs l.values → (qs : List (List K)) (rs : List K) → AreHonest Line (layers_below l.circuit.parts l.layer) (input_table l.circuit.parts inputs) (At l.point.items) qs rs →
+      AreHonest Line (layers_of l.circuit.parts) (input_table l.circuit.parts inputs) (At l.fn.point.items) (all_messages l.messages.items ++ qs) (draws g.C.Challenges.source (g.C.Challenges.state l.fn.challenges) (all_messages l.messages.items) ++ rs);
 }

@@ -3,15 +3,17 @@ use Rattle.std.proofs.Common.{◌≡◌, ℕ, ◌++◌, List, IsTrue, length, ta
 use Rattle.field_ext.specs.Field.{K}
 use Rattle.circuit_core.specs.Parts.{Parts}
 use Rattle.circuit_core.specs.Sound.{exponent_at}
-use Rattle.wiring_poly.specs.Layers.{layers_of, message_count}
+use Rattle.gkr_layers.specs.Layers.{layers_of, message_count}
 use Rattle.round_tables.proofs.PhaseSteps.{written_back}
 use Rattle.transcript_fs.specs.Source.{Source, coordinates, state_after_coordinates, draws}
-use Rattle.gkr_verify.specs.Shapes.{all_messages}
-use Rattle.gkr_verify.proofs.LayerSteps.{has_front}
-use Rattle.gkr_verify.proofs.PointSteps.{has_after_point}
-use Rattle.gkr_prove.specs.Honest.{AreHonest, input_table}
+use Rattle.proof_wire.specs.Lists.{all_messages}
+use Rattle.transcript_fs.proofs.Draws.{has_front, has_after_point}
+use Rattle.gkr_layers.specs.Honest.{AreHonest}
+use Rattle.gkr_layers.specs.Acceptance.{input_table}
 use Rattle.gkr_prove.proofs.TableShapes.{are_of}
 use Rattle.gkr_prove.proofs.prover.prove.Goals as goal
+use Rattle.gkr_layers.specs.Places.Place.{At}
+use Rattle.gkr_layers.specs.Forms.Form.{Line}
 
 pub draw_point-requires : goal.draw_point-requires
 draw_point-requires g c =
@@ -44,7 +46,7 @@ returns-clause-honest g c inputs tables =
     let after : g.C.Challenges.state c.draw_point.new.challenges ≡ state_after_coordinates source s (exponent_at p 0) = c.draw_point.ensures.state ∙ ap (state_after_coordinates source s) count in
     let z : take c.in_ok-point.point.len (c.draw_point.new.point ++ drop (length c.draw_point.new.point) c.in_ok-point.point.items) ≡ coordinates source s (exponent_at p 0) =
     written_back c.in_ok-point.point.items c.draw_point.new.point c.in_ok-point.point.len (c.draw_point.auto.point ∙ c.deref_mut.ensures.len) ∙ c.draw_point.ensures.point ∙ ap (coordinates source s) count in
-    coe 0 1 (j. AreHonest (layers_of p) (input_table p inputs) (z j) qs (draws source (after j) qs)) (c.in_ok-layers.ensures.honest inputs tables)
+    coe 0 1 (j. AreHonest Line (layers_of p) (input_table p inputs) (At (z j)) qs (draws source (after j) qs)) (c.in_ok-layers.ensures.honest inputs tables)
 
 pub returns-clause-shape : goal.returns-clause-shape
 returns-clause-shape g c = are_of c.args.circuit.now.parts _ c.in_ok-layers.ensures.shape

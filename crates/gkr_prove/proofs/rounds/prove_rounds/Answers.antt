@@ -2,12 +2,12 @@
 use Rattle.std.proofs.Common.{◌≡◌, ◌+◌, ◌-◌, List, [], ◌∷◌, ◌++◌, length, arith, ◌∙◌, ap, sym}
 use Rattle.field_ext.specs.Field.{K, k_ops}
 use Rattle.field_ext.specs.Polynomial.{coefficients}
-use Rattle.wiring_poly.specs.Sumcheck.{round_polynomial}
+use Rattle.gkr_layers.specs.Sumcheck.{round_polynomial}
 use Rattle.round_tables.specs.LayerSum.{LayerSum, next_poly}
 use Rattle.transcript_fs.specs.Source.{Source, draws, state_after}
 use Rattle.std.proofs.lemmas.List.{map-append, length-map}
 use Rattle.proof_wire.specs.Spelling.{coefficients_of}
-use Rattle.gkr_verify.specs.Shapes.{round_messages}
+use Rattle.proof_wire.specs.Lists.{round_messages}
 use Rattle.gkr_prove.proofs.HasSteps.{has_next, has_after_next}
 use Rattle.gkr_prove.proofs.HonestSteps.{rounds_more, draws-more, state-more}
 use Rattle.gkr_prove.proofs.rounds.prove_rounds.Goals as goal
@@ -30,7 +30,7 @@ loop-number-preserved g c =
     ap round_messages c.in_ok-push.ensures.items ∙ map-append coefficients_of c.loop-number.messages.items (c.of.result ∷ []) ∙ ap (λ (x : List K). qs ++ x ∷ []) c.of.ensures in
     let drew : c.push-in-loop-number.new.self.items ≡ rs ++ r ∷ [] = c.in_ok-push-2.ensures.items in
     let T : c.loop-number.tables ≡ record c.args.tables { bound = c.loop-number.drawn.items } = before.tables in
-    let message : q ≡ coefficients k_ops 3 (round_polynomial k_ops sum.k sum.gates sum.values sum.point rs (sum.k + sum.k - length rs - 1)) =
+    let message : q ≡ coefficients k_ops 3 (round_polynomial k_ops sum.k sum.gates sum.values sum.place rs (sum.k + sum.k - length rs - 1)) =
     c.in_ok-message.ensures ∙ ap (λ (t : LayerSum). coefficients k_ops 3 (next_poly t)) T in
     let absorbed : g.C.Challenges.state c.absorb.new.self ≡ source.absorb (state_after source s qs) q = c.absorb.ensures ∙ ap (λ t. source.absorb t q) before.state in
     let value : r ≡ source.draw (source.absorb (state_after source s qs) q) = c.challenge-challenge.ensures.value ∙ ap source.draw absorbed in
@@ -41,7 +41,7 @@ loop-number-preserved g c =
       tables = c.bind.ensures ∙ (λ i. record (T i) { bound = (T i).bound ++ r ∷ [] }) ∙ (λ i. record sum { bound = sym drew i });
       messages = omega (arith, c.in_ok-push.ensures.len);
       challenges = omega (arith, c.in_ok-push-2.ensures.len);
-      honest = rw (noted, drew) (rounds_more sum.k sum.gates sum.values sum.point c.loop-number._number qs rs q r size size' message before.honest);
+      honest = rw (noted, drew) (rounds_more sum.k sum.gates sum.values sum.place c.loop-number._number qs rs q r size size' message before.honest);
       drawn = drew ∙ (λ i. before.drawn i ++ value i ∷ []) ∙ sym (draws-more source s qs q) ∙ ap (draws source s) (sym noted);
       has = rw (c.challenge-challenge.ensures.state, c.absorb.ensures) (has_after_next source (g.C.Challenges.state c.loop-number.challenges) q c.rounds_left-count.result c.loop-number._number c.loop-number-test.true before.has);
       state = c.challenge-challenge.ensures.state ∙ ap source.after absorbed ∙ sym (state-more source s qs q) ∙ ap (state_after source s) (sym noted);

@@ -5,14 +5,18 @@ use Rattle.field_ext.specs.Polynomial.{value_at}
 use Rattle.circuit_core.specs.declared.gate.CircuitGate.{CircuitGate}
 use Rattle.circuit_core.specs.Sound.{exponent_at}
 use Rattle.wiring_poly.specs.Wiring.{summand_from}
-use Rattle.wiring_poly.specs.Sumcheck.{point_between}
-use Rattle.wiring_poly.proofs.Circuits.{size_of}
+use Rattle.gkr_layers.specs.Sumcheck.{point_between}
+use Rattle.wiring_poly.proofs.Sizes.{size_of}
 use Rattle.transcript_fs.specs.Source.{Source, draws, state_after}
 use Rattle.proof_wire.specs.Spelling.{coefficients_of}
-use Rattle.gkr_verify.specs.Equations.{sum_equations, claim_after, first_failure, sum_failure}
-use Rattle.gkr_verify.specs.Shapes.{round_messages}
-use Rattle.gkr_verify.proofs.LayerSteps.{round_fails, end_fails, end_holds, state-append, has_behind}
+use Rattle.gkr_layers.specs.Equations.{sum_equations, claim_after, first_failure}
+use Rattle.gkr_verify.specs.Rounds.{sum_failure}
+use Rattle.proof_wire.specs.Lists.{round_messages}
+use Rattle.gkr_verify.proofs.LayerSteps.{round_fails, end_fails, end_holds}
+use Rattle.transcript_fs.proofs.Draws.{state-append, has_behind}
 use Rattle.gkr_verify.proofs.layer.check_layer.Goals as goal
+use Rattle.gkr_layers.specs.Places.Place.{At}
+use Rattle.gkr_layers.specs.Forms.Form.{Line}
 
 pub check_rounds-requires-clause-few : goal.check_rounds-requires-clause-few
 check_rounds-requires-clause-few g c =
@@ -30,7 +34,7 @@ returns-in-Err-clause-fails g c below input qs =
     let rounds : List (List K) = round_messages m.rounds.items in
     let size = length-map m.rounds.items coefficients_of ∙ c.requires.shape.rounds in
     let same = ap round_messages c.deref.ensures.value in
-    round_fails source s c.args.layer k gates below input c.args.point.now c.args.claim rounds m.line.items qs size
+    round_fails Line source s c.args.layer k gates below input (At c.args.point.now) c.args.claim rounds m.line.items qs size
     (sum_failure c.args.layer c.in-Err.fault)
     (λ rest. coe 0 1 (j. first_failure (sum_equations c.args.layer 1 c.args.claim (same j) (draws source s (same j)) ++ rest) ≡ sum_failure c.args.layer c.in-Err.fault) (c.in-Err.ensures.fails c.args.layer rest))
 
@@ -44,7 +48,7 @@ returns-then-not-equals-clause-fails g c below input qs =
     let rounds : List (List K) = round_messages m.rounds.items in
     let size = length-map m.rounds.items coefficients_of ∙ c.requires.shape.rounds in
     let same = ap round_messages c.deref.ensures.value in
-    end_fails source s c.args.layer k gates below input c.args.point.now c.args.claim rounds m.line.items qs size
+    end_fails Line source s c.args.layer k gates below input (At c.args.point.now) c.args.claim rounds m.line.items qs size
     (λ rest. coe 0 1 (j. first_failure (sum_equations c.args.layer 1 c.args.claim (same j) (draws source s (same j)) ++ rest) ≡ first_failure rest) (c.in-Ok.ensures.holds c.args.layer rest))
     c.in-Ok.claim c.end_value-want.result
     (c.in-Ok.ensures.claim ∙ (λ j. claim_after c.args.claim (same j) (draws source s (same j))))
@@ -83,7 +87,7 @@ returns-clause-holds g c below input qs =
     let same = ap round_messages c.deref.ensures.value in
     let state : g.C.Challenges.state c.absorb.new.self ≡ source.absorb (state_after source s rounds) m.line.items =
     c.absorb.ensures ∙ (λ j. source.absorb ((c.in-Ok.ensures.state ∙ (λ j. state_after source s (same j))) j) (c.deref-3.ensures.value j)) in
-    end_holds source s c.args.layer k gates below input c.args.point.now c.args.claim rounds m.line.items qs size
+    end_holds Line source s c.args.layer k gates below input (At c.args.point.now) c.args.claim rounds m.line.items qs size
     (λ rest. coe 0 1 (j. first_failure (sum_equations c.args.layer 1 c.args.claim (same j) (draws source s (same j)) ++ rest) ≡ first_failure rest) (c.in-Ok.ensures.holds c.args.layer rest))
     c.in-Ok.claim c.end_value-want.result
     (c.in-Ok.ensures.claim ∙ (λ j. claim_after c.args.claim (same j) (draws source s (same j))))
@@ -93,13 +97,13 @@ returns-clause-holds g c below input qs =
     ∙ (λ i. summand_from k_ops gates c.args.point.now (take k (c.in-Ok.ensures.drawn i)) (drop k (c.in-Ok.ensures.drawn i)) (value_at k_ops m.line.items zero_k) (value_at k_ops m.line.items one_k))
     ∙ (λ i. summand_from k_ops gates c.args.point.now (take k (draws source s (same i))) (drop k (draws source s (same i))) (value_at k_ops m.line.items zero_k) (value_at k_ops m.line.items one_k)))
     (sym c.equals.ensures.computed ∙ c.if-not-equals.false)
-    c.point_at.new.point c.value_at.result (g.C.Challenges.state c.challenge-challenge.new.self) c.challenge-challenge.result
+    (At c.point_at.new.point) c.value_at.result (g.C.Challenges.state c.challenge-challenge.new.self) c.challenge-challenge.result
     (c.challenge-challenge.ensures.value ∙ ap source.draw state)
-    (c.point_at.ensures
+    (ap At (c.point_at.ensures
     ∙ (λ i. point_between k_ops (c.split_at.ensures.front i) (c.split_at.ensures.back i) c.challenge-challenge.result)
     ∙ (λ i. point_between k_ops (take (c.requires.next i) c.check_rounds.new.drawn) (drop (c.requires.next i) c.check_rounds.new.drawn) c.challenge-challenge.result)
     ∙ (λ i. point_between k_ops (take k (c.in-Ok.ensures.drawn i)) (drop k (c.in-Ok.ensures.drawn i)) c.challenge-challenge.result)
-    ∙ (λ i. point_between k_ops (take k (draws source s (same i))) (drop k (draws source s (same i))) c.challenge-challenge.result))
+    ∙ (λ i. point_between k_ops (take k (draws source s (same i))) (drop k (draws source s (same i))) c.challenge-challenge.result)))
     (c.value_at.ensures ∙ (λ i. value_at k_ops (c.deref-4.ensures.value i) c.challenge-challenge.result))
     (c.challenge-challenge.ensures.state ∙ ap source.after state)
 

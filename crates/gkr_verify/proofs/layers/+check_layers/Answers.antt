@@ -2,13 +2,17 @@ use Rattle.std.proofs.Common.{◌≡◌, ℕ, ◌+◌, ◌<◌, suc, List, ◌�
 use Rattle.field_ext.specs.Field.{K, embed_k}
 use Rattle.circuit_core.specs.Parts.{height, leaf_value, padded_values}
 use Rattle.circuit_core.specs.Sound.{exponent_at}
-use Rattle.wiring_poly.specs.Layers.{GateLayer, message_count, total_exponent}
+use Rattle.gkr_layers.specs.Layers.{GateLayer, message_count, total_exponent, layer_at, layers_below}
 use Rattle.transcript_fs.specs.Source.{Source, draws}
 use Rattle.proof_wire.specs.declared.messages.LayerMessages.{LayerMessages}
-use Rattle.gkr_verify.specs.Equations.{equations, first_failure}
-use Rattle.gkr_verify.specs.Shapes.{all_messages, HaveShape, layer_at, layers_below}
-use Rattle.gkr_verify.proofs.BelowSteps.{below_more, has_layer, has_below}
+use Rattle.gkr_layers.specs.Equations.{equations, first_failure}
+use Rattle.proof_wire.specs.Lists.{all_messages}
+use Rattle.gkr_layers.specs.Shapes.{HaveShape}
+use Rattle.gkr_layers.proofs.Circuits.{below_more}
+use Rattle.gkr_layers.proofs.Shapes.{has_layer, has_below}
 use Rattle.gkr_verify.proofs.layers.+check_layers.Goals as goal
+use Rattle.gkr_layers.specs.Places.Place.{At}
+use Rattle.gkr_layers.specs.Forms.Form.{Line}
 
 pub check_layer-requires-clause-has : goal.check_layer-requires-clause-has
 check_layer-requires-clause-has g t c =
@@ -66,7 +70,7 @@ returns-in-Err g t c =
     let below = below_more p c.args.layer above in
     let input : List K = map embed_k (padded_values p.input_width (map (leaf_value c.args.inputs.now) p.leaves)) in
     sym (c.in-Err.ensures.fails (layers_below p (c.args.layer + 1)) input (all_messages c.in-Some.later.now))
-    ∙ (λ i. first_failure (equations c.args.layer (sym below i) input c.args.point.now c.args.claim (all_messages (sym split i)) (draws source s (all_messages (sym split i)))))
+    ∙ (λ i. first_failure (equations Line c.args.layer (sym below i) input (At c.args.point.now) c.args.claim (all_messages (sym split i)) (draws source s (all_messages (sym split i)))))
 
 pub returns-in-Ok : goal.returns-in-Ok
 returns-in-Ok g t c =
@@ -79,6 +83,6 @@ returns-in-Ok g t c =
     let input : List K = map embed_k (padded_values p.input_width (map (leaf_value c.args.inputs.now) p.leaves)) in
     let later : List LayerMessages = c.in-Some.later.now in
     c.check_layers.ensures
-    ∙ (λ i. first_failure (equations (add-one c.args.layer i) (layers_below p (c.args.layer + 1)) input c.check_layer.new.next c.in-Ok.claim (all_messages later) (draws source (g.C.Challenges.state c.check_layer.new.challenges) (all_messages later))))
+    ∙ (λ i. first_failure (equations Line (add-one c.args.layer i) (layers_below p (c.args.layer + 1)) input (At c.check_layer.new.next) c.in-Ok.claim (all_messages later) (draws source (g.C.Challenges.state c.check_layer.new.challenges) (all_messages later))))
     ∙ sym (c.in-Ok.ensures.holds (layers_below p (c.args.layer + 1)) input (all_messages later))
-    ∙ (λ i. first_failure (equations c.args.layer (sym below i) input c.args.point.now c.args.claim (all_messages (sym split i)) (draws source s (all_messages (sym split i)))))
+    ∙ (λ i. first_failure (equations Line c.args.layer (sym below i) input (At c.args.point.now) c.args.claim (all_messages (sym split i)) (draws source s (all_messages (sym split i)))))

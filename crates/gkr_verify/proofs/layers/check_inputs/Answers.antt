@@ -2,8 +2,9 @@ use Rattle.std.proofs.Common.{ℕ, ◌^◌, ◌≤◌, map, arith, ◌∙◌, ap
 use Rattle.field_ext.specs.Field.{k_ops, embed_k}
 use Rattle.field_ext.specs.Multilinear.{extension_at}
 use Rattle.circuit_core.specs.Parts.{height, leaf_value, padded_values}
-use Rattle.wiring_poly.proofs.Circuits.{size_of}
-use Rattle.gkr_verify.proofs.BelowSteps.{input_width, input_holds, input_fails}
+use Rattle.wiring_poly.proofs.Sizes.{size_of}
+use Rattle.gkr_layers.proofs.Circuits.{input_width}
+use Rattle.gkr_verify.proofs.InputSteps.{input_holds, input_fails}
 use Rattle.gkr_verify.proofs.layers.check_inputs.Goals as goal
 
 pub leaves_extension-want-requires-clause-few : goal.leaves_extension-want-requires-clause-few

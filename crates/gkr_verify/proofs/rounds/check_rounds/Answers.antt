@@ -1,12 +1,12 @@
 use Rattle.std.proofs.Common.{◌+◌, List, arith, ◌∙◌, ap, sym, subst, IsTrue}
 use Rattle.std.proofs.lemmas.List.{length-map}
 use Rattle.std.proofs.lemmas.Result.{err_from_is_err_and}
-use Rattle.gkr_verify.specs.declared.verdict.Verdict.TheVariants.{Sum}
+use Rattle.gkr_layers.specs.declared.verdict.Verdict.TheVariants.{Sum}
 use Rattle.field_ext.specs.Field.{K, k_ops}
 use Rattle.field_ext.specs.Polynomial.{value_at}
 use Rattle.transcript_fs.specs.Source.{Source}
 use Rattle.proof_wire.specs.Spelling.{coefficients_of}
-use Rattle.gkr_verify.specs.Shapes.{round_messages}
+use Rattle.proof_wire.specs.Lists.{round_messages}
 use Rattle.gkr_verify.proofs.RoundSteps.{has_now, stepped, failed, message_read}
 use Rattle.gkr_verify.proofs.rounds.check_rounds.Goals as goal
 

@@ -1,5 +1,5 @@
 use Rattle.std.proofs.Common.{◌≡◌, false}
-use Rattle.gkr_verify.specs.Shapes.{round_messages}
+use Rattle.proof_wire.specs.Lists.{round_messages}
 use Rattle.gkr_verify.proofs.RoundSteps.{Progress}
 use Rattle.gkr_verify.proofs.rounds.check_rounds.Given as goal
 

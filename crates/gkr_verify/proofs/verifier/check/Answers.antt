@@ -1,5 +1,5 @@
 use Rattle.std.proofs.Common.{◌∙◌, sym}
-use Rattle.gkr_verify.proofs.ShapeSteps.{drawn, sound}
+use Rattle.gkr_layers.proofs.Shapes.{drawn, sound}
 use Rattle.gkr_verify.proofs.verifier.check.Goals as goal
 
 pub returns-clause-sound : goal.returns-clause-sound

@@ -3,17 +3,19 @@ use Rattle.field_ext.specs.Field.{k_ops, embed_k}
 use Rattle.field_ext.specs.Multilinear.{extension_at}
 use Rattle.circuit_core.specs.Parts.{padded_values}
 use Rattle.circuit_core.specs.Sound.{exponent_at}
-use Rattle.wiring_poly.specs.Layers.{layers_of, message_count}
-use Rattle.wiring_poly.proofs.Circuits.{size_of}
+use Rattle.gkr_layers.specs.Layers.{layers_of, message_count}
+use Rattle.wiring_poly.proofs.Sizes.{size_of}
 use Rattle.transcript_fs.specs.Source.{Source, coordinates, state_after_coordinates, draws}
 use Rattle.proof_wire.specs.declared.messages.LayerMessages.{LayerMessages}
-use Rattle.gkr_verify.specs.Equations.{equations, first_failure}
-use Rattle.gkr_verify.specs.Acceptance.{CircuitClaim, claim_of}
-use Rattle.gkr_verify.specs.Shapes.{all_messages, HaveShape}
-use Rattle.gkr_verify.proofs.LayerSteps.{has_front}
-use Rattle.gkr_verify.proofs.PointSteps.{has_after_point, point_front, point_rest}
-use Rattle.gkr_verify.proofs.ShapeSteps.{have_shape, messages_height, outputs_room}
+use Rattle.gkr_layers.specs.Equations.{equations, first_failure}
+use Rattle.gkr_layers.specs.Acceptance.{CircuitClaim, claim_of}
+use Rattle.proof_wire.specs.Lists.{all_messages}
+use Rattle.gkr_layers.specs.Shapes.{HaveShape}
+use Rattle.transcript_fs.proofs.Draws.{has_front, has_after_point, point_front, point_rest}
+use Rattle.gkr_layers.proofs.Shapes.{have_shape, messages_height, outputs_room}
 use Rattle.gkr_verify.proofs.verifier.check_in.Goals as goal
+use Rattle.gkr_layers.specs.Places.Place.{At}
+use Rattle.gkr_layers.specs.Forms.Form.{Line}
 
 pub draw_point-requires : goal.draw_point-requires
 draw_point-requires g c =
@@ -59,6 +61,6 @@ returns g c =
     let width = ap (λ (n : ℕ). 2 ^ n) (c.draw_point.auto.point ∙ count) ∙ sym (size_of circuit 0 (omega arith)).0 in
     let rest = draws source (state_after_coordinates source s k) qs in
     c.check_layers.ensures
-    ∙ (λ i. first_failure (equations 0 stated.layers stated.input_table c.draw_point.new.point (c.values_extension-claim.ensures i) (all_messages (c.deref.ensures.value i)) (draws source (after i) (all_messages (c.deref.ensures.value i)))))
-    ∙ (λ i. first_failure (equations 0 stated.layers stated.input_table (z i) (extension_at k_ops k_ops (λ x. x) (map embed_k (padded_values (width i) c.args.outputs.now)) (z i)) qs rest))
-    ∙ (λ i. first_failure (equations 0 stated.layers stated.input_table (sym (point_front source s k rest) i) (extension_at k_ops k_ops (λ x. x) stated.claimed_table (sym (point_front source s k rest) i)) qs (sym (point_rest source s k rest) i)))
+    ∙ (λ i. first_failure (equations Line 0 stated.layers stated.input_table (At c.draw_point.new.point) (c.values_extension-claim.ensures i) (all_messages (c.deref.ensures.value i)) (draws source (after i) (all_messages (c.deref.ensures.value i)))))
+    ∙ (λ i. first_failure (equations Line 0 stated.layers stated.input_table (At (z i)) (extension_at k_ops k_ops (λ x. x) (map embed_k (padded_values (width i) c.args.outputs.now)) (z i)) qs rest))
+    ∙ (λ i. first_failure (equations Line 0 stated.layers stated.input_table (At (sym (point_front source s k rest) i)) (extension_at k_ops k_ops (λ x. x) stated.claimed_table (sym (point_front source s k rest) i)) qs (sym (point_rest source s k rest) i)))

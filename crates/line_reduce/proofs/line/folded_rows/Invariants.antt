@@ -1,7 +1,7 @@
 use Rattle.std.proofs.Common.{◌≡◌, ℕ, ◌+◌, ◌-◌, ◌*◌, ◌^◌, ◌<◌, length, take, get_or, vec_len}
 use Rattle.field_ext.specs.Field.{K, k_ops, zero_k}
 use Rattle.field_ext.specs.Multilinear.{folded_all}
-use Rattle.wiring_poly.specs.Sumcheck.{point_between}
+use Rattle.gkr_layers.specs.Sumcheck.{point_between}
 use Rattle.line_reduce.specs.Rows.{row_value}
 use Rattle.line_reduce.proofs.line.folded_rows.Given as goal
 

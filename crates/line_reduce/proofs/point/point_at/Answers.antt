@@ -1,7 +1,7 @@
 use Rattle.std.proofs.Common.{◌≡◌, ◌≢◌, length, get_or, arith, ◌∙◌, ap, ap₂, sym, below_more, get_or-set_same, get_or-set_other, ext_get_or}
 use Rattle.std.proofs.lemmas.List.{get_or_read}
 use Rattle.field_ext.specs.Field.{k_ops, zero_k, add_k, mul_k, sub_k}
-use Rattle.wiring_poly.specs.Sumcheck.{point_between}
+use Rattle.gkr_layers.specs.Sumcheck.{point_between}
 use Rattle.field_ext.proofs.KLaws.{k_laws}
 use Rattle.line_reduce.proofs.Steps.{point-at, length-point}
 use Rattle.line_reduce.proofs.point.point_at.Goals as goal

@@ -1,6 +1,6 @@
 use Rattle.std.proofs.Common.{◌≡◌, ℕ, ◌<◌, get_or}
 use Rattle.field_ext.specs.Field.{k_ops, zero_k}
-use Rattle.wiring_poly.specs.Sumcheck.{point_between}
+use Rattle.gkr_layers.specs.Sumcheck.{point_between}
 use Rattle.line_reduce.proofs.point.point_at.Given as goal
 
 abbrev pub invariant-loop-j : goal.invariant-loop-j

@@ -4,8 +4,8 @@ use Rattle.field_ext.specs.Field.{k_ops, add_k}
 use Rattle.field_ext.proofs.KLaws.{k_laws}
 use Rattle.field_ext.specs.Polynomial.{value_at}
 use Rattle.field_ext.specs.Sums.{sum_below}
-use Rattle.wiring_poly.proofs.Degree.{length-round_polynomial}
-use Rattle.wiring_poly.proofs.Coefficients.{from_values}
+use Rattle.gkr_layers.proofs.Degree.{length-round_polynomial}
+use Rattle.gkr_layers.proofs.Coefficients.{from_values}
 use Rattle.round_tables.specs.LayerSum.{pieces_of, piece_poly, next_poly}
 use Rattle.round_tables.proofs.Pieces.{pieces-value}
 use Rattle.sumcheck_prove.proofs.Summing.{none_summed, piece_added}
@@ -28,7 +28,7 @@ returns g c =
     let s = c.args.tables.now in
     let all : c.loop-piece.piece ≡ pieces_of c.args.tables.now = omega arith in
     from_values 3 (c.loop-piece.constant ∷ c.loop-piece.linear ∷ c.loop-piece.square ∷ []) (next_poly s) (lit< tt) refl
-    (length-round_polynomial k_ops s.k s.gates s.values s.point s.bound (s.k + s.k - length s.bound - 1)) (λ e.
+    (length-round_polynomial k_ops s.k s.gates s.values s.place s.bound (s.k + s.k - length s.bound - 1)) (λ e.
     c.loop-piece.invariant e
     ∙ (λ i. sum_below k_ops (all i) (λ piece. value_at k_ops (piece_poly s piece) e))
     ∙ pieces-value s e c.requires.left)

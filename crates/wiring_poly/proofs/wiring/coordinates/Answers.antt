@@ -1,5 +1,5 @@
 use Rattle.std.proofs.Common.{ℕ, List, get_or, length, arith, ◌∙◌, ap}
-use Rattle.wiring_poly.proofs.Circuits.{exponents-length, exponents-at}
+use Rattle.wiring_poly.proofs.Sizes.{exponents-length, exponents-at}
 use Rattle.wiring_poly.proofs.wiring.coordinates.Goals as goal
 
 pub k-requires : goal.k-requires

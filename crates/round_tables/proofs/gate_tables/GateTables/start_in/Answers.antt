@@ -1,4 +1,5 @@
 -- The gates and the table make a layer
+use Rattle.std.proofs.Common.{length, refl}
 use Rattle.round_tables.proofs.gate_tables.GateTables.start_in.Goals as goal
 
 pub new-requires : goal.new-requires
@@ -6,6 +7,8 @@ new-requires c = record {
   least = c.requires.least;
   most = c.requires.most;
   size = c.args.values.now.whole;
+  exponent = length c.args.point.now;
+  coordinates = refl;
   width = c.requires.width;
   operands = c.requires.operands;
 }

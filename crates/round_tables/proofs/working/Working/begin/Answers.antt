@@ -4,6 +4,7 @@ use Rattle.field_ext.specs.Field.{K, k_ops}
 use Rattle.field_ext.proofs.KLaws.{k_laws}
 use Rattle.round_tables.specs.Tables.{GathersLeft}
 use Rattle.round_tables.proofs.PhaseSteps.{started, written_back}
+use Rattle.round_tables.specs.Working.{place_of}
 use Rattle.round_tables.proofs.working.Working.begin.Goals as goal
 
 pub returns-clause-works : goal.returns-clause-works
@@ -33,7 +34,7 @@ returns-clause-works c =
       };
       counted = omega arith;
       fresh = λ h. table ∙ c.write_values.ensures;
-      phase = rw (table, scales, shifts) (started k_ops k_laws k c.args.layer.now.gates.now c.args.layer.now.values.now.items c.args.layer.now.point.now c.requires.layer_is
+      phase = rw (table, scales, shifts) (started k_ops k_laws k c.args.layer.now.gates.now c.args.layer.now.values.now.items (place_of c.args.layer.now) c.requires.layer_is
           c.args.layer.now.point_equality.items c.write_values.new.room c.gather_first.new.scales c.gather_first.new.shifts
           c.requires.equality c.write_values.ensures gathers);
     }

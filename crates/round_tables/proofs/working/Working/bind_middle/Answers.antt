@@ -5,7 +5,7 @@ use Rattle.field_ext.proofs.KLaws.{k_laws}
 use Rattle.mle_table.specs.Equality.{IsEqTable}
 use Rattle.round_tables.specs.Tables.{GathersRight}
 use Rattle.round_tables.specs.LayerSum.{left_in_phase}
-use Rattle.round_tables.specs.Working.{bound_of}
+use Rattle.round_tables.specs.Working.{place_of, bound_of}
 use Rattle.round_tables.proofs.PhaseSteps.{bound_middle, length-count, folded_along}
 use Rattle.round_tables.proofs.PieceValues.{in_left_phase}
 use Rattle.round_tables.proofs.working.Working.bind_middle.Goals as goal
@@ -33,7 +33,7 @@ returns-clause-works g c =
       rooms = c.turn.ensures.rooms;
       counted = omega arith;
       fresh = λ h. c.turn.ensures.table;
-      phase = rw noted (bound_middle k_ops k_laws k c.args.layer.now.gates.now c.args.layer.now.values.now.items c.args.layer.now.point.now c.requires.layer.layer_is
+      phase = rw noted (bound_middle k_ops k_laws k c.args.layer.now.gates.now c.args.layer.now.values.now.items (place_of c.args.layer.now) c.requires.layer.layer_is
           (bound_of old) old.table.items old.scales.items old.shifts.items r c.args.layer.now.point_equality.items
           filled.left_equality.items advanced.table.items new.table.items new.scales.items new.shifts.items works.phase (omega arith)
           c.requires.layer.equality equality

@@ -3,7 +3,7 @@ use Rattle.std.proofs.Common.{◌≡◌, ◌-◌, inr, length, arith, ◌∙◌,
 use Rattle.field_ext.specs.Field.{k_ops}
 use Rattle.field_ext.proofs.KLaws.{k_laws}
 use Rattle.round_tables.specs.LayerSum.{left_in_phase}
-use Rattle.round_tables.specs.Working.{bound_of}
+use Rattle.round_tables.specs.Working.{place_of, bound_of}
 use Rattle.round_tables.proofs.PhaseSteps.{bound_right, some_left, length-count, no_start}
 use Rattle.round_tables.proofs.working.Working.bind_right.Goals as goal
 
@@ -19,7 +19,7 @@ returns-clause-works g c =
       rooms = c.advance.ensures.advanced.rooms;
       counted = omega arith;
       fresh = no_start k old.count c.advance.new.self.count c.advance.ensures.advanced.count (inr (omega arith));
-      phase = rw c.advance.ensures.advanced.bound (bound_right k_ops k_laws k c.args.layer.now.gates.now c.args.layer.now.values.now.items c.args.layer.now.point.now
+      phase = rw c.advance.ensures.advanced.bound (bound_right k_ops k_laws k c.args.layer.now.gates.now c.args.layer.now.values.now.items (place_of c.args.layer.now)
           (bound_of old) old.table.items old.scales.items old.shifts.items r (left_in_phase k old.count - 1)
           new.table.items new.scales.items new.shifts.items works.phase c.requires.layer.layer_is.least (omega arith) (omega arith) (some_left k (length (bound_of old)) old.count n (omega arith))
           c.advance.ensures.advanced.table c.advance.ensures.advanced.scales c.advance.ensures.advanced.shifts);

@@ -5,10 +5,10 @@ use Rattle.field_ext.proofs.KLaws.{k_laws}
 use Rattle.field_ext.specs.Sums.{sum_below}
 use Rattle.round_tables.specs.Tables.{pair_at}
 use Rattle.round_tables.specs.LayerSum.{left_in_phase, part_of_round}
-use Rattle.round_tables.specs.Working.{bound_of}
+use Rattle.round_tables.specs.Working.{place_of, bound_of}
 use Rattle.round_tables.proofs.PhaseSteps.{half_fits, some_left, length-count}
 use Rattle.round_tables.proofs.PieceValues.{part-pairs}
-use Rattle.wiring_poly.proofs.Coefficients.{from_values}
+use Rattle.gkr_layers.proofs.Coefficients.{from_values}
 use Rattle.round_tables.proofs.PartDegree.{length-part}
 use Rattle.round_tables.proofs.working.Working.part.Goals as goal
 
@@ -36,9 +36,9 @@ returns-clause-part g c =
     let w = c.args.self.now in
     let n : length (bound_of c.args.self.now) ≡ c.args.self.now.count = length-count w.challenges.items k w.count (sym w.challenges.ok.0 ∙ c.requires.works.rooms.challenges) c.requires.works.counted in
     let sum = c.sum_pairs.result in
-    from_values 3 (sum.constant ∷ sum.linear ∷ sum.square ∷ []) (part_of_round k_ops k c.args.layer.now.gates.now c.args.layer.now.values.now.items c.args.layer.now.point.now (bound_of w) c.args.from c.args.to)
-    (lit< tt) refl (length-part k_ops k c.args.layer.now.gates.now c.args.layer.now.values.now.items c.args.layer.now.point.now (bound_of w) c.args.from c.args.to) (λ e.
+    from_values 3 (sum.constant ∷ sum.linear ∷ sum.square ∷ []) (part_of_round k_ops k c.args.layer.now.gates.now c.args.layer.now.values.now.items (place_of c.args.layer.now) (bound_of w) c.args.from c.args.to)
+    (lit< tt) refl (length-part k_ops k c.args.layer.now.gates.now c.args.layer.now.values.now.items (place_of c.args.layer.now) (bound_of w) c.args.from c.args.to) (λ e.
     c.sum_pairs.ensures.sum e
     ∙ (λ i. sum_below k_ops (c.args.to - c.args.from) (λ j. pair_at k_ops (c.deref.ensures.value i) (c.deref-2.ensures.value i) (c.deref-3.ensures.value i) e (c.args.from + j)))
-    ∙ sym (part-pairs k_ops k_laws k (left_in_phase k w.count - 1) c.args.layer.now.gates.now c.args.layer.now.values.now.items c.args.layer.now.point.now (bound_of w)
+    ∙ sym (part-pairs k_ops k_laws k (left_in_phase k w.count - 1) c.args.layer.now.gates.now c.args.layer.now.values.now.items (place_of c.args.layer.now) (bound_of w)
     w.table.items w.scales.items w.shifts.items c.args.from c.args.to e (some_left k (length (bound_of w)) w.count n c.requires.left) c.requires.within c.requires.works.phase.stand))

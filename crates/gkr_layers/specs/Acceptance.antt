@@ -1,0 +1,64 @@
+-- What is claimed of a circuit, and the verifier's answer
+use Rattle.std.specs.Prelude.{ℕ, ◌+◌, List, map, take, drop}
+use Rattle.field_ext.specs.Field.{F, K, k_ops, embed_k}
+use Rattle.circuit_core.specs.Parts.{Parts, width_of, leaf_value, padded_values}
+use Rattle.circuit_core.specs.Sound.{exponent_at}
+use Rattle.gkr_layers.specs.declared.verdict.Verdict.{Verdict}
+use Rattle.gkr_layers.specs.Places.{Place, value_over}
+use Rattle.gkr_layers.specs.Places.Place.{At}
+use Rattle.gkr_layers.specs.Forms.{Form}
+use Rattle.gkr_layers.specs.Forms.Form.{Line}
+use Rattle.gkr_layers.specs.Layers.{GateLayer, layers_of, values_over, LayersHold, message_count}
+use Rattle.gkr_layers.specs.Equations.{equations, first_failure}
+
+-- that the layers, of which the first has 2 ^ k positions, over this table of the input layer give the claimed table, as messages of
+-- this form are to show
+pub record CircuitClaim : Type 0 where
+  pub form : Form
+  pub k : ℕ
+  pub layers : List GateLayer
+  pub input_table : List K
+  pub claimed_table : List K
+
+-- the table of a circuit's input layer: 0, the leaves' values and zeros
+abbrev pub input_table : Parts → List F → List K
+input_table p inputs = map embed_k (padded_values p.input_width (map (leaf_value inputs) p.leaves))
+
+-- That a circuit on these inputs has these outputs. The claimed output layer is 0, the outputs and zeros.
+abbrev pub claim_in : Form → Parts → List F → List F → CircuitClaim
+claim_in form p inputs outputs = record {
+  form = form;
+  k = exponent_at p 0;
+  layers = layers_of p;
+  input_table = input_table p inputs;
+  claimed_table = map embed_k (padded_values (width_of p 0) outputs);
+}
+
+-- the same by lines
+abbrev pub claim_of : Parts → List F → List F → CircuitClaim
+claim_of p inputs outputs = claim_in Line p inputs outputs
+
+-- the values that the output layer has
+abbrev pub true_table : CircuitClaim → List K
+true_table stated = values_over k_ops stated.layers stated.input_table
+
+-- how many challenges there are
+abbrev pub challenge_count : CircuitClaim → ℕ
+challenge_count stated = stated.k + message_count stated.layers
+
+-- the claim on the outputs stands at the point of the first challenges
+abbrev pub output_place : CircuitClaim → List K → Place K
+output_place stated rs = At (take stated.k rs)
+
+-- Every equation holds, one after another, for these messages and challenges, of which the first are the coordinates of the output
+-- point.
+abbrev pub Accepts : CircuitClaim → List (List K) → List K → Type 0
+Accepts stated qs rs =
+    let place = output_place stated rs in
+    LayersHold k_ops stated.form stated.layers stated.input_table place (value_over k_ops stated.claimed_table place) qs (drop stated.k rs)
+
+-- The answer for these messages and challenges: the first equation that fails, or none.
+abbrev pub verdict_of : CircuitClaim → List (List K) → List K → Verdict
+verdict_of stated qs rs =
+    let place = output_place stated rs in
+    first_failure (equations stated.form 0 stated.layers stated.input_table place (value_over k_ops stated.claimed_table place) qs (drop stated.k rs))

@@ -1,0 +1,10 @@
+pub mod Places
+pub mod Forms
+pub mod Sumcheck
+pub mod Layers
+pub mod Equations
+pub mod Acceptance
+pub mod Soundness
+pub mod Honest
+pub mod Shapes
+pub mod Examples

@@ -1,6 +1,0 @@
--- Honest messages are one list
-use Rattle.gkr_prove.proofs.Unique.{unique}
-use Rattle.gkr_prove.proofs.laws.honest_is_unique.Goals as goal
-
-pub returns : goal.returns
-returns c = unique

@@ -1,0 +1,24 @@
+-- The messages of a proof as one list, as the equations take them
+use Rattle.std.specs.Prelude.{◌≡◌, ℕ, ◌+◌, List, [], ◌∷◌, ◌++◌, map, length}
+use Rattle.field_ext.specs.Field.{K}
+use Rattle.proof_wire.specs.declared.messages.Round.{Round}
+use Rattle.proof_wire.specs.declared.messages.LayerMessages.{LayerMessages}
+use Rattle.proof_wire.specs.Spelling.{coefficients_of}
+
+-- the coefficients of rounds' messages
+abbrev pub round_messages : List Round → List (List K)
+round_messages rounds = map coefficients_of rounds
+
+-- a layer's messages: those of its rounds, and that of its line
+abbrev pub messages_of : LayerMessages → List (List K)
+messages_of m = round_messages m.rounds.items ++ m.line.items ∷ []
+
+-- all messages, in the order of the proof
+abbrev pub all_messages : List LayerMessages → List (List K)
+all_messages [] = []
+all_messages (m ∷ ms) = messages_of m ++ all_messages ms
+
+-- two messages of rounds for each coordinate, and a line of k + 1 coefficients
+pub record HasShape (k : ℕ) (messages : LayerMessages) : Type 0 where
+  pub rounds : length messages.rounds.items ≡ k + k
+  pub line : length messages.line.items ≡ k + 1
