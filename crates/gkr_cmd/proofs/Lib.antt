@@ -13,3 +13,5 @@ mod ProvedCases
 mod Replied
 mod SumLevels
 mod VerifyAnswers
+mod WordLaws
+mod WordsRead

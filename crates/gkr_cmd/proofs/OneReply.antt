@@ -79,7 +79,7 @@ pub record OneEach : Type 0 where
 one_of_each : OneEach → (command : CaseCommand) → OneAnswer (IsAnswer command)
 one_of_each one Eval = one.eval
 one_of_each one Circuit = one.circuit
-one_of_each one Prove = one.prove
+one_of_each one (Prove workers) = one.prove
 one_of_each one Verify = one.verify
 
 one_of_command : OneEach → (command : Option Command) (input : List ℕ) (a b : Reply) → IsCommandReply command input a → IsCommandReply command input b → a ≡ b
@@ -87,7 +87,7 @@ one_of_command one None input a b is is' = is ∙ sym is'
 one_of_command one (Some (OfCase command)) input a b is is' =
     let found_in = found (form_of command) (IsAnswer command) input in
     one_found (form_of command) (IsAnswer command) (one_of_each one command) input (found_in a is) (found_in b is')
-one_of_command one (Some (Demo number)) input a b is is' = one.demo number a b is is'
+one_of_command one (Some (Demo number workers)) input a b is is' = one.demo number a b is is'
 
 pub one_reply : OneEach → (words : List (List ℕ)) (input : List ℕ) (a b : Reply) → IsReply words input a → IsReply words input b → a ≡ b
 one_reply one words input a b is is' = one_of_command one (command_of words) input a b is is'

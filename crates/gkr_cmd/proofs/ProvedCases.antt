@@ -49,9 +49,9 @@ one_case : (r : Result Content BadCase) (c d : Content) → r ≡ Ok c → r ≡
 one_case r c d is is' = cc
 
 -- the reply of `prove` with status 0, to the case that the input spells
-pub proved_of : (command : Option Command) (input : List ℕ) (content : Content) (reply : Reply) → command ≡ Some (OfCase Prove) → IsCommandReply command input reply → status_of reply ≡ Done
+pub proved_of : (workers : ℕ) (command : Option Command) (input : List ℕ) (content : Content) (reply : Reply) → command ≡ Some (OfCase (Prove workers)) → IsCommandReply command input reply → status_of reply ≡ Done
     → reading Plain input ≡ Ok content → ProvesIt content reply
-proved_of command input content reply is replied done read =
+proved_of workers command input content reply is replied done read =
     let case = by_input input (found Plain IsProveAnswer input reply (subst (λ c. IsCommandReply c input reply) is replied)) done in
     subst (λ c. ProvesIt c reply) (one_case (reading Plain input) case.content content case.read read) case.proves
 

@@ -56,7 +56,7 @@ command_replied command left new bytes result h short replied =
 
 -- a named command's input is told by its source
 pub input_of : (named : CaseCommand) (command : Option Command) (left : Option (List ℕ)) (input : List ℕ) → command ≡ Some (OfCase named) → left ≡ Some input → IsInput command left input
-input_of named (Some (Demo number)) left input is told = absurd cc
+input_of named (Some (Demo number workers)) left input is told = absurd cc
 input_of named None left input is told = absurd cc
 input_of named (Some (OfCase command)) left input is told = told
 
@@ -66,10 +66,10 @@ pub done_of : (form : Form) (named : CaseCommand) (P : Content → Type 0) → (
 done_of form named P law command input reply is replied case = law input reply (subst (λ c. IsCommandReply c input reply) is replied) case
 
 -- the same for `demo`, whose reply is one to any input
-pub demo_done_of : (number : ℕ) → ((reply : Reply) → IsDemoAnswer number reply → status_of reply ≡ statuses.Done)
-    → (command : Option Command) (left : Option (List ℕ)) (reply : Reply) → command ≡ Some (Demo number) → ((input : List ℕ) → IsInput command left input → IsCommandReply command input reply)
+pub demo_done_of : (number workers : ℕ) → ((reply : Reply) → IsDemoAnswer number reply → status_of reply ≡ statuses.Done)
+    → (command : Option Command) (left : Option (List ℕ)) (reply : Reply) → command ≡ Some (Demo number workers) → ((input : List ℕ) → IsInput command left input → IsCommandReply command input reply)
     → status_of reply ≡ statuses.Done
-demo_done_of number law command left reply is replied =
+demo_done_of number workers law command left reply is replied =
     law reply (subst (λ c. IsCommandReply c [] reply) is (replied [] (subst (λ c. IsInput c left []) (sym is) tt)))
 
 -- the status of a reply is none of a run that wrote none
@@ -190,15 +190,15 @@ answers_a_case : (command : CaseCommand) (c : Content) (reply : Reply) → IsAns
 answers_a_case command c (replies.Outputs values) is = tt
 answers_a_case Eval c replies.Usage is = absurd is
 answers_a_case Circuit c replies.Usage is = absurd is
-answers_a_case Prove c replies.Usage is = absurd is
+answers_a_case (Prove workers) c replies.Usage is = absurd is
 answers_a_case Verify c replies.Usage is = absurd is
 answers_a_case Eval c (replies.TooLong limit) is = absurd is
 answers_a_case Circuit c (replies.TooLong limit) is = absurd is
-answers_a_case Prove c (replies.TooLong limit) is = absurd is
+answers_a_case (Prove workers) c (replies.TooLong limit) is = absurd is
 answers_a_case Verify c (replies.TooLong limit) is = absurd is
 answers_a_case Eval c (replies.Case bad) is = absurd is
 answers_a_case Circuit c (replies.Case bad) is = absurd is
-answers_a_case Prove c (replies.Case bad) is = absurd is
+answers_a_case (Prove workers) c (replies.Case bad) is = absurd is
 answers_a_case Verify c (replies.Case bad) is = absurd is
 answers_a_case command c (replies.Program kind at) is = tt
 answers_a_case command c (replies.Deep levels) is = tt

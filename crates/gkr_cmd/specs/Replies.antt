@@ -105,14 +105,14 @@ IsCaseReply form answers input reply = IsOfCase form input (λ c. answers c repl
 abbrev pub form_of : CaseCommand → Form
 form_of commands.Eval = Plain
 form_of commands.Circuit = Plain
-form_of commands.Prove = Plain
+form_of (commands.Prove workers) = Plain
 form_of commands.Verify = Full
 
 -- when a reply is what a command says of a case
 abbrev pub IsAnswer : CaseCommand → Content → Reply → Type 0
 IsAnswer commands.Eval = IsEvalAnswer
 IsAnswer commands.Circuit = IsCircuitAnswer
-IsAnswer commands.Prove = IsProveAnswer
+IsAnswer (commands.Prove workers) = IsProveAnswer
 IsAnswer commands.Verify = IsVerifyAnswer
 
 -- when a reply is the one of `demo`, whose case is always proved and accepted
@@ -124,7 +124,7 @@ IsDemoAnswer number reply = ⊥
 abbrev pub IsCommandReply : Option Command → List ℕ → Reply → Type 0
 IsCommandReply None input reply = reply ≡ replies.Usage
 IsCommandReply (Some (OfCase command)) input reply = IsCaseReply (form_of command) (IsAnswer command) input reply
-IsCommandReply (Some (Demo number)) input reply = IsDemoAnswer number reply
+IsCommandReply (Some (Demo number workers)) input reply = IsDemoAnswer number reply
 
 -- The reply to the words, and to the input of the command that they name.
 abbrev pub IsReply : List (List ℕ) → List ℕ → Reply → Type 0

@@ -25,7 +25,7 @@ use Rattle.gkr_cmd.specs.Reached.{WritesFront}
 abbrev pub IsInput : Option Command → Option (List ℕ) → List ℕ → Type 0
 IsInput None left input = ⊤
 IsInput (Some (OfCase command)) left input = left ≡ Some input
-IsInput (Some (Demo number)) left input = ⊤
+IsInput (Some (Demo number workers)) left input = ⊤
 
 -- A run that wrote its reply whole.
 abbrev pub IsReplied : Status → Type 0

@@ -42,7 +42,7 @@ fn form_of(command: CaseCommand) -> Form
     ensures { result ≡ form_of command }
 {
     match command {
-        CaseCommand::Eval | CaseCommand::Circuit | CaseCommand::Prove => Form::Plain,
+        CaseCommand::Eval | CaseCommand::Circuit | CaseCommand::Prove { .. } => Form::Plain,
         CaseCommand::Verify => Form::Full,
     }
 }
@@ -63,7 +63,7 @@ fn answer_case<R: Threads + Sync, G: Gate>(
     match command {
         CaseCommand::Eval => evaluate(alloc, case),
         CaseCommand::Circuit => lay_out(alloc, case),
-        CaseCommand::Prove => prove(rt, alloc, case, gate),
+        CaseCommand::Prove { .. } => prove(rt, alloc, case, gate),
         CaseCommand::Verify => verify(alloc, case),
     }
 }

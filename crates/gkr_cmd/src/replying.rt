@@ -58,9 +58,9 @@ pub fn make_reply<R: Threads + Sync, S: Source, G: Gate>(
     ensures fault { IsErrOf result ReplyError.ReadFault → Rose (S.faults source.old) (S.faults source.new) }
     ensures no_fault { result ≢ Err ReplyError.ReadFault → S.faults source.new ≡ S.faults source.old }
 {
-    match named_command(words) {
+    match named_command(alloc, words)? {
         None => Ok(Reply::Usage),
         Some(Command::OfCase(command)) => run_command(rt, alloc, command, source, gate),
-        Some(Command::Demo(number)) => demo(rt, alloc, number, gate),
+        Some(Command::Demo { number, .. }) => demo(rt, alloc, number, gate),
     }
 }

@@ -69,13 +69,13 @@ pub fn gkr_run<R: Threads + Wait + Sync, S: Source, K: Sink, G: Gate>(
     ensures laid_out { (input : List ℕ) → command_of (map string_bytes words.now) ≡ Some (Command.OfCase CaseCommand.Circuit) → S.left source.old ≡ Some input
         → IsOfCase Form.Plain input HasCircuit → IsReplied result → result ≡ Status.Done }
     // A case whose program has a circuit with as many inputs is proved.
-    ensures proved { (input : List ℕ) → command_of (map string_bytes words.now) ≡ Some (Command.OfCase CaseCommand.Prove) → S.left source.old ≡ Some input
+    ensures proved { (input : List ℕ) (workers : ℕ) → command_of (map string_bytes words.now) ≡ Some (Command.OfCase (CaseCommand.Prove workers)) → S.left source.old ≡ Some input
         → IsOfCase Form.Plain input HasCircuit → IsReplied result → result ≡ Status.Done }
     // What is written then is the text of the case with its program's meaning as outputs and the one honest proof; `verify` accepts it.
-    ensures honest { (input : List ℕ) (content : Content) → command_of (map string_bytes words.now) ≡ Some (Command.OfCase CaseCommand.Prove) → S.left source.old ≡ Some input
+    ensures honest { (input : List ℕ) (workers : ℕ) (content : Content) → command_of (map string_bytes words.now) ≡ Some (Command.OfCase (CaseCommand.Prove workers)) → S.left source.old ≡ Some input
         → reading Form.Plain input ≡ Ok content → result ≡ Status.Done → WritesHonestProof content (K.written sink.old) (K.written sink.new) }
     // Every number is answered with what is told of its case's proof.
-    ensures demonstrated { (number : ℕ) → command_of (map string_bytes words.now) ≡ Some (Command.Demo number)
+    ensures demonstrated { (number workers : ℕ) → command_of (map string_bytes words.now) ≡ Some (Command.Demo number workers)
         → IsReplied result → result ≡ Status.Done }
     // A case is accepted exactly where its proof meets every equation of acceptance; then this is written.
     ensures accepted { (input : List ℕ) → command_of (map string_bytes words.now) ≡ Some (Command.OfCase CaseCommand.Verify) → S.left source.old ≡ Some input

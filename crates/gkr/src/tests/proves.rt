@@ -267,21 +267,3 @@ fn reads_nothing_for_the_generated_case(rt: HostRuntime) -> Result<(), Fail> {
     };
     sees(&rt, &["gkr", "demo", "1"], &ends, Status::Done, &want)
 }
-
-#[test]
-fn refuses_words_that_name_no_number(rt: HostRuntime) -> Result<(), Fail> {
-    for number in ["4294967296", "x", "", "+3", "03", "-1", "0 ", "1e3"] {
-        let text = written(&rt, &["gkr", "demo", number], b"", Status::Usage)?;
-        assert_eq!(rt; text.as_slice(), &b"refused usage\n"[..]);
-    }
-    for words in [
-        &["gkr", "demo"][..],
-        &["gkr", "demo", "0", "0"],
-        &["gkr", "0", "demo"],
-        &["gkr", "prove", "0"],
-    ] {
-        let text = written(&rt, words, b"", Status::Usage)?;
-        assert_eq!(rt; text.as_slice(), &b"refused usage\n"[..]);
-    }
-    Ok(())
-}

@@ -73,15 +73,75 @@ fn refuses_texts_that_are_no_case(rt: HostRuntime) -> Result<(), Fail> {
     Ok(())
 }
 
+/// Words that are no command, and words that are one in another form than the usual.
 #[test]
-fn refuses_words_and_long_inputs(rt: HostRuntime) -> Result<(), Fail> {
+fn reads_the_words(rt: HostRuntime) -> Result<(), Fail> {
     let case = Ends::steady(COPIES);
-    let usage = b"refused usage\n";
-    sees(&rt, &[], &case, Status::Usage, usage)?;
-    sees(&rt, &["gkr"], &case, Status::Usage, usage)?;
-    sees(&rt, &["gkr", "evil"], &case, Status::Usage, usage)?;
-    sees(&rt, &["gkr", "eval", "eval"], &case, Status::Usage, usage)?;
-    sees(&rt, &["", "eval"], &case, Status::Done, b"output 1 5\n")?;
+    for words in [
+        &[][..],
+        &["gkr"],
+        &["gkr", ""],
+        &["gkr", "evil"],
+        &["gkr", "--"],
+        &["gkr", "--", "eval"],
+        &["gkr", "-"],
+        &["gkr", "-h"],
+        &["gkr", "--help"],
+        &["gkr", "-V"],
+        &["gkr", "--version"],
+        &["gkr", "help"],
+        &["gkr", "help", "eval"],
+        &["gkr", "eval", "--help"],
+        &["gkr", "eval", "-h"],
+        &["gkr", "eval", "eval"],
+        &["gkr", "eval", ""],
+        &["gkr", "eval", "--workers", "2"],
+        &["gkr", "circuit", "--workers=2"],
+        &["gkr", "verify", "--workers", "2"],
+        &["gkr", "--workers", "2", "prove"],
+        &["gkr", "prove", "0"],
+        &["gkr", "prove", "--workers"],
+        &["gkr", "prove", "--workers="],
+        &["gkr", "prove", "--workers", "--"],
+        &["gkr", "prove", "--workers", ""],
+        &["gkr", "prove", "--workers", "0"],
+        &["gkr", "prove", "--workers", "65"],
+        &["gkr", "prove", "--workers", "+2"],
+        &["gkr", "prove", "--workers", "-2"],
+        &["gkr", "prove", "--workers", "02"],
+        &["gkr", "prove", "--workers", "x"],
+        &["gkr", "prove", "--workers", "4294967298"],
+        &["gkr", "prove", "--workers", "2", "2"],
+        &["gkr", "prove", "--workers", "2", "--workers", "2"],
+        &["gkr", "prove", "--worker", "2"],
+        &["gkr", "prove", "-w", "2"],
+        &["gkr", "demo"],
+        &["gkr", "demo", "--"],
+        &["gkr", "demo", "--workers", "2"],
+        &["gkr", "demo", "0", "0"],
+        &["gkr", "demo", "0", "--workers", "0"],
+        &["gkr", "demo", "0", "--workers", "65"],
+        &["gkr", "demo", "0", "--", "--workers"],
+        &["gkr", "0", "demo"],
+        &["gkr", "demo", "4294967296"],
+        &["gkr", "demo", "x"],
+        &["gkr", "demo", ""],
+        &["gkr", "demo", "+3"],
+        &["gkr", "demo", "03"],
+        &["gkr", "demo", "-1"],
+        &["gkr", "demo", "0 "],
+        &["gkr", "demo", "1e3"],
+    ] {
+        sees(&rt, words, &case, Status::Usage, b"refused usage\n")?;
+    }
+    for words in [&["", "eval"][..], &["gkr", "eval", "--"]] {
+        sees(&rt, words, &case, Status::Done, b"output 1 5\n")?;
+    }
+    Ok(())
+}
+
+#[test]
+fn refuses_long_inputs(rt: HostRuntime) -> Result<(), Fail> {
     let long = vec![in rt.alloc(); b'x'; 4_194_305]?;
     sees(
         &rt,

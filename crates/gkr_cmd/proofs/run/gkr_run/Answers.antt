@@ -24,21 +24,21 @@ returns-in-Ok-write_output-clause-laid_out g c input is told case replied =
     (c.in-Ok.ensures.reply input (input_of Circuit command (g.S.Source.left c.args.source.now) input is told)) case
 
 pub returns-in-Ok-write_output-clause-proved : goal.returns-in-Ok-write_output-clause-proved
-returns-in-Ok-write_output-clause-proved g c input is told case replied =
+returns-in-Ok-write_output-clause-proved g c input workers is told case replied =
     let command = command_of (map string_bytes c.args.words.now) in
-    c.of.ensures ∙ done_of Plain Prove HasCircuit c.provable_is_done.ensures command input c.in-Ok.reply is
-    (c.in-Ok.ensures.reply input (input_of Prove command (g.S.Source.left c.args.source.now) input is told)) case
+    c.of.ensures ∙ done_of Plain (Prove workers) HasCircuit c.provable_is_done.ensures command input c.in-Ok.reply is
+    (c.in-Ok.ensures.reply input (input_of (Prove workers) command (g.S.Source.left c.args.source.now) input is told)) case
 
 pub returns-in-Ok-write_output-clause-demonstrated : goal.returns-in-Ok-write_output-clause-demonstrated
-returns-in-Ok-write_output-clause-demonstrated g c number is replied =
-    c.of.ensures ∙ demo_done_of number (c.demo_is_done.ensures number) (command_of (map string_bytes c.args.words.now)) (g.S.Source.left c.args.source.now) c.in-Ok.reply is
+returns-in-Ok-write_output-clause-demonstrated g c number workers is replied =
+    c.of.ensures ∙ demo_done_of number workers (c.demo_is_done.ensures number) (command_of (map string_bytes c.args.words.now)) (g.S.Source.left c.args.source.now) c.in-Ok.reply is
     c.in-Ok.ensures.reply
 
 pub returns-in-Ok-write_output-clause-honest : goal.returns-in-Ok-write_output-clause-honest
-returns-in-Ok-write_output-clause-honest g c input content is told read done =
+returns-in-Ok-write_output-clause-honest g c input workers content is told read done =
     let command = command_of (map string_bytes c.args.words.now) in
-    let answered = c.in-Ok.ensures.reply input (input_of Prove command (g.S.Source.left c.args.source.now) input is told) in
-    let case = proved_of command input content c.in-Ok.reply is answered (sym c.of.ensures ∙ done) read in
+    let answered = c.in-Ok.ensures.reply input (input_of (Prove workers) command (g.S.Source.left c.args.source.now) input is told) in
+    let case = proved_of workers command input content c.in-Ok.reply is answered (sym c.of.ensures ∙ done) read in
     record {
       proved = case.proved;
       is_proved = case.is_proved;

@@ -1,0 +1,36 @@
+use Rattle.std.proofs.Common.{◌≡◌, ◌∙◌, ◌||◌, true, [], ◌∷◌, ap, ap₂, codes}
+use Rattle.std.proofs.lemmas.Result.{IfOk-weaker}
+use Rattle.clap.specs.Simple.{App, Shape, app_of_fields, new_app, on_top, with_rule, with_subcommand}
+use Rattle.clap.specs.Words.{app_of}
+use Rattle.gkr_cmd.specs.Commands.{demo_number, subcommand, workers_option}
+use Rattle.gkr_cmd.proofs.words.command_line.Goals as goal
+
+-- a command line without subcommands
+abbrev alone : Shape → App
+alone shape = record { top = shape; subs = [] }
+
+pub returns : goal.returns
+returns c =
+    let prove_is : app_of c.in_ok-prove.prove ≡ alone (subcommand (codes "prove") (workers_option ∷ [])) =
+    c.in_ok-prove.ensures.shape c.workers_option.ensures.local ∙ ap₂ with_rule c.new.ensures.app c.workers_option.ensures.rule in
+    let prove_local =
+    c.in_ok-prove.ensures.globals ∙ ap₂ (λ a b. a || b) c.new.ensures.local c.workers_option.ensures.local in
+    let number_is : app_of c.in_ok-arg.field-0 ≡ alone (subcommand (codes "demo") (demo_number ∷ [])) =
+    c.in_ok-arg.ensures.shape c.demo_number.ensures.local ∙ ap₂ with_rule c.new-2.ensures.app c.demo_number.ensures.rule in
+    let number_local =
+    c.in_ok-arg.ensures.globals ∙ ap₂ (λ a b. a || b) c.new-2.ensures.local c.demo_number.ensures.local in
+    let demo_is : app_of c.in_ok-demo.demo ≡ alone (subcommand (codes "demo") (demo_number ∷ workers_option ∷ [])) =
+    c.in_ok-demo.ensures.shape c.workers_option-2.ensures.local ∙ ap₂ with_rule number_is c.workers_option-2.ensures.rule in
+    let demo_local =
+    c.in_ok-demo.ensures.globals ∙ ap₂ (λ a b. a || b) number_local c.workers_option-2.ensures.local in
+    let no_flag : app_of c.disable_help_flag.result ≡ on_top (λ s. record s { disable_help_flag = true }) (new_app (codes "gkr")) =
+    ap app_of_fields c.disable_help_flag.ensures ∙ ap (on_top (λ s. record s { disable_help_flag = true })) c.new-3.ensures.app in
+    let no_help : app_of c.disable_help_subcommand.result ≡ on_top (λ s. record s { disable_help_subcommand = true }) (on_top (λ s. record s { disable_help_flag = true }) (new_app (codes "gkr"))) =
+    ap app_of_fields c.disable_help_subcommand.ensures ∙ ap (on_top (λ s. record s { disable_help_subcommand = true })) no_flag in
+    let top_is : app_of c.subcommand_required.result ≡ on_top (λ s. record s { subcommand_required = true }) (on_top (λ s. record s { disable_help_subcommand = true }) (on_top (λ s. record s { disable_help_flag = true }) (new_app (codes "gkr")))) =
+    ap app_of_fields c.subcommand_required.ensures ∙ ap (on_top (λ s. record s { subcommand_required = true })) no_help in
+    let one = c.in_ok-subcommand.ensures.shape c.new-4.ensures.local ∙ ap₂ with_subcommand top_is (ap (λ (a : App). a.top) c.new-4.ensures.app) in
+    let two = c.in_ok-subcommand-2.ensures.shape c.new-5.ensures.local ∙ ap₂ with_subcommand one (ap (λ (a : App). a.top) c.new-5.ensures.app) in
+    let three = c.in_ok-subcommand-3.ensures.shape prove_local ∙ ap₂ with_subcommand two (ap (λ (a : App). a.top) prove_is) in
+    let four = c.in_ok-subcommand-4.ensures.shape c.new-6.ensures.local ∙ ap₂ with_subcommand three (ap (λ (a : App). a.top) c.new-6.ensures.app) in
+    IfOk-weaker c.subcommand-5.result _ _ (λ line added. added.shape demo_local ∙ ap₂ with_subcommand four (ap (λ (a : App). a.top) demo_is)) c.subcommand-5.ensures
