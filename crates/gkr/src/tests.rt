@@ -7,9 +7,10 @@ mod lays_out;
 mod proves;
 mod refuses;
 mod verifies;
+mod works;
 
 use gkr_cmd::{Status, gkr_run};
-use io_edge::{MemorySink, MemorySource, OpenGate};
+use io_edge::{Gate, MemorySink, MemorySource, OpenGate};
 use std::alloc::{AllocError, Global};
 use std::marker::Sync;
 use std::process::Abort;
@@ -62,6 +63,17 @@ fn ended<R: Threads + Wait + Sync + Abort + AllocGlobal>(
     ends: &Ends,
     room: Room,
 ) -> Result<(Status, Vec<u8>), Fail> {
+    ended_by(rt, words, ends, room, &OpenGate)
+}
+
+/// The same, where the workers pass this gate.
+fn ended_by<R: Threads + Wait + Sync + Abort + AllocGlobal, G: Gate>(
+    rt: &R,
+    words: &[&str],
+    ends: &Ends,
+    room: Room,
+    gate: &G,
+) -> Result<(Status, Vec<u8>), Fail> {
     let alloc = rt.alloc();
     let mut owned = Vec::new(alloc);
     for word in words {
@@ -69,7 +81,7 @@ fn ended<R: Threads + Wait + Sync + Abort + AllocGlobal>(
     }
     let mut source = MemorySource::new(alloc, ends.input, ends.piece, ends.failing_reads)?;
     let mut sink = MemorySink::new(alloc, room.most, room.piece, ends.failing_writes)?;
-    let status = gkr_run(rt, alloc, &owned, &mut source, &mut sink, &OpenGate);
+    let status = gkr_run(rt, alloc, &owned, &mut source, &mut sink, gate);
     Ok((status, Vec::from_slice(alloc, sink.bytes())?))
 }
 

@@ -1,14 +1,21 @@
 -- The command that is read from what `clap` finds among the words, or why it refuses them.
-use Rattle.std.proofs.Common.{◌≡◌, Bool, true, false, List, [], ◌∷◌, Option, Some, None, option_map, ap, refl}
-use Rattle.std.specs.Prelude.{Box, option_and_then}
+use Rattle.std.proofs.Common.{◌≡◌, ◌∙◌, Bool, true, false, List, ℕ, [], ◌∷◌, Option, Some, None, option_map, ap, refl, subst, codes, arith}
+use Rattle.std.specs.Prelude.{◌&&◌, Box, IfSome, if◌then◌else◌, nat_le, option_and_then}
+use Rattle.std.specs.Str.{bytes_eq}
+use Rattle.std.proofs.lemmas.Bool.{and_parts, leb-true}
 use Rattle.std.specs.Box.{box_value}
 use Rattle.clap.specs.Simple.{is_simple, subcommand_rows}
-use Rattle.clap.specs.Words.{IsAmong, Kinds, Row, Text, fault_of, is_simple_and_free, subcommand_of}
+use Rattle.clap.specs.Words.{IsAmong, Kinds, Row, Text, fault_of, first_of, is_simple_and_free, subcommand_of}
 use Rattle.clap.specs.declared.error.kind.ErrorKind.{ErrorKind}
 use Rattle.clap.specs.declared.parser.matches.ArgMatches.TheViews.{out-SubCommand}
 use Rattle.clap.specs.declared.parser.matches.SubCommand.{SubCommand}
 use Rattle.clap.proofs.OnLiterals.{clap_on_literals}
-use Rattle.gkr_cmd.specs.Commands.{command_line, command_of, command_of_rows, command_unless}
+use Rattle.phase_run.specs.Work.{IsWorkerCount}
+use Rattle.gkr_cmd.specs.Commands.{command_line, command_of, command_named, command_of_rows, command_unless, HasWorkers, demo_of, if_worker_count, number_of, workers_of}
+use Rattle.gkr_cmd.specs.declared.words.CaseCommand.{CaseCommand}
+use Rattle.gkr_cmd.specs.declared.words.CaseCommand.TheVariants.{Prove}
+use Rattle.gkr_cmd.specs.declared.words.Command.{Command}
+use Rattle.gkr_cmd.specs.declared.words.Command.TheVariants.{OfCase}
 
 pub line_is_simple : is_simple command_line ≡ true
 unfolding clap_on_literals
@@ -41,3 +48,52 @@ entered_is (Some b) name rows named found = cc
 
 pub true_or_false : (b : Bool) → b ≡ true → b ≡ false → ⊥
 true_or_false b is is' = cc
+
+-- ---- workers
+
+by_test : (b : Bool) (m n : ℕ) → (b ≡ true → IsWorkerCount m) → (if b then Some m else None) ≡ Some n → IsWorkerCount n
+by_test true m n fits is = let same : m ≡ n = cc in subst IsWorkerCount same (fits refl)
+by_test false m n fits is = absurd cc
+
+by_number : (number : Option ℕ) (n : ℕ) → option_and_then if_worker_count number ≡ Some n → IsWorkerCount n
+by_number None n is = absurd cc
+by_number (Some m) n is = by_test (nat_le 1 m && nat_le m 64) m n (λ both. let parts = and_parts _ _ both in (leb-true 1 m parts.0, leb-true m 64 parts.1)) is
+
+workers_in : (word : Option Text) (n : ℕ) → workers_of word ≡ Some n → IsWorkerCount n
+workers_in None n is = let same : 1 ≡ n = cc in omega arith
+workers_in (Some word) n is = by_number (number_of word) n is
+
+if_workers : (b : Bool) (x y : Option Command) → IfSome x HasWorkers → IfSome y HasWorkers → IfSome (if b then x else y) HasWorkers
+if_workers true x y h k = h
+if_workers false x y h k = k
+
+demo_workers : (number workers : Option ℕ) → ((n : ℕ) → workers ≡ Some n → IsWorkerCount n) → IfSome (demo_of number workers) HasWorkers
+demo_workers None workers each = tt
+demo_workers (Some number) None each = tt
+demo_workers (Some number) (Some workers) each = each workers refl
+
+prove_workers : (workers : Option ℕ) → ((n : ℕ) → workers ≡ Some n → IsWorkerCount n) → IfSome (option_map OfCase (option_map Prove workers)) HasWorkers
+prove_workers None each = tt
+prove_workers (Some workers) each = each workers refl
+
+case_if : (b : Bool) (x y : Option CaseCommand) → IfSome (option_map OfCase x) HasWorkers → IfSome (option_map OfCase y) HasWorkers → IfSome (option_map OfCase (if b then x else y)) HasWorkers
+case_if true x y h k = h
+case_if false x y h k = k
+
+named_workers : (name : Text) (number workers : Option Text) → IfSome (command_named name number workers) HasWorkers
+named_workers name number workers =
+    if_workers (bytes_eq name (codes "demo")) _ _ (demo_workers _ _ (workers_in workers))
+    (case_if (bytes_eq name (codes "eval")) _ _ tt
+    (case_if (bytes_eq name (codes "circuit")) _ _ tt
+    (case_if (bytes_eq name (codes "prove")) _ _ (prove_workers (workers_of workers) (workers_in workers))
+    (case_if (bytes_eq name (codes "verify")) _ _ tt tt))))
+
+unless_workers : (kinds : Kinds) (entered : Option (Text × List Row)) → IfSome (command_unless kinds entered) HasWorkers
+unless_workers [] None = tt
+unless_workers [] (Some found) = named_workers found.0 (first_of (codes "number") found.1) (first_of (codes "workers") found.1)
+unless_workers (k ∷ ks) entered = tt
+
+-- the workers of a command that words name
+pub have_workers : (words : List Text) → IfSome (command_of words) HasWorkers
+unfolding command_of
+have_workers words = unless_workers (fault_of command_line words) (subcommand_of command_line words)

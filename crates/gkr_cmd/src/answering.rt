@@ -3,10 +3,12 @@
 ghost use Rattle.std.specs.Prelude.{◌≡◌, ◌≢◌, IfOk};
 ghost use Rattle.case_text.specs.Forms.{Allows};
 ghost use Rattle.case_text.specs.declared.form.Form.TheVariants.{Full};
+ghost use Rattle.phase_run.specs.Work.{IsWorkerCount};
+ghost use Rattle.gkr_cmd.specs.Commands.{HasWorkers};
 ghost use Rattle.gkr_cmd.specs.Replies.{form_of, IsAnswer, IsCaseReply, IsCircuitAnswer, IsEvalAnswer, IsProveAnswer, IsVerifyAnswer, IsWithinLimit, refused_reply, verdict_reply};
 
 use crate::reply_error::ReplyError;
-use crate::words::CaseCommand;
+use crate::words::{CaseCommand, Command};
 use arr_compile::BadProgram;
 use case_prove::{Refused, circuit_case, eval_case, prove_case, verify_case};
 use case_text::{Case, CaseRefused, Form, Reply, Values, read_case};
@@ -25,7 +27,8 @@ pub fn answer<R: Threads + Sync, G: Gate>(
     input: &[u8],
     gate: &G,
 ) -> Result<Reply, ReplyError>
-    requires { IsWithinLimit input.now }
+    requires workers { HasWorkers (Command.OfCase command) }
+    requires limit { IsWithinLimit input.now }
     ensures reply { IfOk result (λ reply. IsCaseReply (form_of command) (IsAnswer command) input.now reply) }
     ensures fault { result ≢ Err ReplyError.ReadFault }
 {
@@ -55,6 +58,7 @@ fn answer_case<R: Threads + Sync, G: Gate>(
     case: &Case,
     gate: &G,
 ) -> Result<Reply, ReplyError>
+    requires workers { HasWorkers (Command.OfCase command) }
     requires outputs { Allows (form_of command) case.now.outputs }
     requires proof { Allows (form_of command) case.now.proof }
     ensures reply { IfOk result (λ reply. IsAnswer command case.now reply) }
@@ -63,7 +67,7 @@ fn answer_case<R: Threads + Sync, G: Gate>(
     match command {
         CaseCommand::Eval => evaluate(alloc, case),
         CaseCommand::Circuit => lay_out(alloc, case),
-        CaseCommand::Prove { .. } => prove(rt, alloc, case, gate),
+        CaseCommand::Prove { workers } => prove(rt, alloc, case, workers, gate),
         CaseCommand::Verify => verify(alloc, case),
     }
 }
@@ -92,18 +96,20 @@ fn lay_out(alloc: Global, case: &Case) -> Result<Reply, ReplyError>
     }
 }
 
-/// What `prove` says of a case.
+/// What `prove` says of a case, by so many workers.
 #[tactic(auto, using(crate::proofs::Replied::prove_refused))]
 fn prove<R: Threads + Sync, G: Gate>(
     rt: &R,
     alloc: Global,
     case: &Case,
+    workers: u32,
     gate: &G,
 ) -> Result<Reply, ReplyError>
+    requires { IsWorkerCount workers }
     ensures reply { IfOk result (λ reply. IsProveAnswer case.now reply) }
     ensures fault { result ≢ Err ReplyError.ReadFault }
 {
-    match prove_case(rt, alloc, case, 1, gate) {
+    match prove_case(rt, alloc, case, workers, gate) {
         Ok(proved) => Ok(Reply::Proved(proved)),
         Err(refused) => refused_reply(refused),
     }

@@ -6,6 +6,7 @@ ghost use Rattle.gkr_layers.specs.declared.verdict.Verdict.TheVariants.{Accepted
 ghost use Rattle.case_prove.specs.Circuits.{IsLaidOut, RefusesCircuit};
 ghost use Rattle.case_prove.specs.Proved.{IsProved};
 ghost use Rattle.case_prove.specs.Verified.{IsVerdictOn};
+ghost use Rattle.phase_run.specs.Work.{IsWorkerCount};
 ghost use Rattle.gkr_cmd.specs.Demo.{HasFirst, IsDemo, demo_case, demo_inputs, demo_program, demo_size, square_text};
 ghost use Rattle.gkr_cmd.specs.Replies.{IsDemoAnswer};
 
@@ -27,13 +28,15 @@ use std::alloc::{AllocError, Global};
 use std::marker::Sync;
 use std::thread::Threads;
 
-/// The reply of `demo`: its case is generated, proved and verified.
+/// The reply of `demo`: its case is generated, proved by so many workers, and verified.
 pub fn demo<R: Threads + Sync, G: Gate>(
     rt: &R,
     alloc: Global,
     number: u32,
+    workers: u32,
     gate: &G,
 ) -> Result<Reply, ReplyError>
+    requires { IsWorkerCount workers }
     ensures reply { IfOk result (λ reply. IsDemoAnswer number reply) }
     ensures fault { result ≢ Err ReplyError.ReadFault }
 {
@@ -42,7 +45,7 @@ pub fn demo<R: Threads + Sync, G: Gate>(
         Ok(sizes) => sizes,
         Err(refused) => return Err(want_of_memory(number, refused)),
     };
-    let proved = match prove_case(rt, alloc, &case, 1, gate) {
+    let proved = match prove_case(rt, alloc, &case, workers, gate) {
         Ok(proved) => proved,
         Err(refused) => return Err(want_of_memory(number, refused)),
     };

@@ -2,7 +2,7 @@
 
 ghost use Rattle.std.specs.Prelude.{◌≡◌, ◌≢◌, ◌↔◌, ◌+◌, List, ℕ, map, IfOk, OnOk, IsErrOf, None, Some, Ok, Err, string_bytes};
 ghost use Rattle.io_edge.specs.Causes.{Rose};
-ghost use Rattle.gkr_cmd.specs.Commands.{ReadsCase, command_of};
+ghost use Rattle.gkr_cmd.specs.Commands.{HasWorkers, ReadsCase, command_of};
 ghost use Rattle.gkr_cmd.specs.Reached.{IsReadUpTo};
 ghost use Rattle.gkr_cmd.specs.Replies.{case_limit, IsCommandReply, IsReply, status_of};
 ghost use Rattle.gkr_cmd.specs.Runs.{IsInput};
@@ -30,6 +30,7 @@ fn run_command<R: Threads + Sync, S: Source, G: Gate>(
     source: &mut S,
     gate: &G,
 ) -> Result<Reply, ReplyError>
+    requires { HasWorkers (Command.OfCase command) }
     ensures reply { IfOk result (λ reply. (input : List ℕ) → S.left source.old ≡ Some input → IsCommandReply (Some (Command.OfCase command)) input reply) }
     ensures named { IfOk result (λ reply. status_of reply ≢ Status.Usage) }
     ensures read { OnOk result (IsReadUpTo (case_limit + 1) (S.left source.old) (S.left source.new)) }
@@ -61,6 +62,6 @@ pub fn make_reply<R: Threads + Sync, S: Source, G: Gate>(
     match named_command(alloc, words)? {
         None => Ok(Reply::Usage),
         Some(Command::OfCase(command)) => run_command(rt, alloc, command, source, gate),
-        Some(Command::Demo { number, .. }) => demo(rt, alloc, number, gate),
+        Some(Command::Demo { number, workers }) => demo(rt, alloc, number, workers, gate),
     }
 }

@@ -1,0 +1,150 @@
+//! `prove` and `demo` by several workers: the same bytes by any number of them, and two that are at work beside each other.
+
+use super::*;
+use std::sync::atomic::{AtomicU64, Ordering};
+
+/// The most bytes that are written here, and how many a write takes.
+const ROOM: Room = Room {
+    most: 262_144,
+    piece: 4096,
+};
+
+/// A case that sums the numbers from 1 to 4,096.
+fn sum_case(alloc: Global) -> Result<Vec<u8>, AllocError> {
+    let mut inputs = Vec::from_slice(alloc, b"4096")?;
+    for value in 1..4097u32 {
+        inputs.extend_from_slice(format!(in alloc; " {}", value)?.as_bytes())?;
+    }
+    case_of(alloc, b"input a[64][64]; output sum(a);", &inputs)
+}
+
+/// Runs the program with these words and this gate, and sees that it does what it was asked for; answers what it wrote.
+fn done<R: Threads + Wait + Sync + Abort + AllocGlobal, G: Gate>(
+    rt: &R,
+    words: &[&str],
+    input: &[u8],
+    gate: &G,
+) -> Result<Vec<u8>, Fail> {
+    let (status, text) = ended_by(rt, words, &Ends::steady(input), ROOM, gate)?;
+    assert_eq!(rt; status, Status::Done);
+    Ok(text)
+}
+
+#[test]
+fn sums_by_a_tree_of_thirteen_layers(rt: HostRuntime) -> Result<(), Fail> {
+    let alloc = rt.alloc();
+    let case = sum_case(alloc)?;
+    let outputs = done(&rt, &["gkr", "eval"], &case, &OpenGate)?;
+    assert_eq!(rt; outputs.as_slice(), &b"output 1 8390656\n"[..]);
+    let mut want = Vec::from_slice(alloc, b"circuit 13\nlayer 0 2 0\n")?;
+    for layer in 1..14u32 {
+        let line = format!(in alloc; "layer {} {} 0\n", layer, 1u32 << layer)?;
+        want.extend_from_slice(line.as_bytes())?;
+    }
+    want.extend_from_slice(b"proof 5204\nchallenges 196\nbound 456\n")?;
+    let sizes = done(&rt, &["gkr", "circuit"], &case, &OpenGate)?;
+    assert_eq!(rt; sizes.as_slice(), want.as_slice());
+    Ok(())
+}
+
+#[test]
+fn proves_the_same_by_any_number_of_workers(rt: HostRuntime) -> Result<(), Fail> {
+    let case = sum_case(rt.alloc())?;
+    let one = done(&rt, &["gkr", "prove"], &case, &OpenGate)?;
+    for workers in ["1", "2", "3", "64"] {
+        let words = ["gkr", "prove", "--workers", workers];
+        let text = done(&rt, &words, &case, &OpenGate)?;
+        assert!(rt; text.as_slice() == one.as_slice());
+    }
+    let verdict = done(&rt, &["gkr", "verify"], &one, &OpenGate)?;
+    assert_eq!(rt; verdict.as_slice(), &b"accepted\n"[..]);
+    Ok(())
+}
+
+#[test]
+fn demonstrates_the_same_by_any_number_of_workers(rt: HostRuntime) -> Result<(), Fail> {
+    let one = done(&rt, &["gkr", "demo", "11"], b"", &OpenGate)?;
+    for workers in ["1", "2", "3", "64"] {
+        let words = ["gkr", "demo", "11", "--workers", workers];
+        let text = done(&rt, &words, b"", &OpenGate)?;
+        assert_eq!(rt; text.as_slice(), one.as_slice());
+        let words = ["gkr", "demo", "--workers", workers, "11"];
+        let text = done(&rt, &words, b"", &OpenGate)?;
+        assert_eq!(rt; text.as_slice(), one.as_slice());
+    }
+    Ok(())
+}
+
+/// Counts the entries, and notes which of them was the first with a piece of number 2 or more, and the greatest number.
+#[derive(Drop)]
+struct CountingGate {
+    entries: AtomicU64,
+    first: AtomicU64,
+    greatest: AtomicU64,
+}
+
+impl Gate for CountingGate {
+    fn enter(&self, _worker: u32, piece: u32) {
+        let before = self.entries.fetch_add(1, Ordering::SeqCst);
+        if piece >= 2 && self.first.load(Ordering::SeqCst) == 0 {
+            self.first.store(before.wrapping_add(1), Ordering::SeqCst);
+        }
+        if u64::from(piece) > self.greatest.load(Ordering::SeqCst) {
+            self.greatest.store(u64::from(piece), Ordering::SeqCst);
+        }
+    }
+}
+
+/// The rounds of layers 0 to 11 have 158 pieces, none of which has a number above 1; those of layer 12 have 34, and its first
+/// round has four.
+#[test]
+fn works_each_piece_once(rt: HostRuntime) -> Result<(), Fail> {
+    let gate = CountingGate {
+        entries: AtomicU64::new(0),
+        first: AtomicU64::new(0),
+        greatest: AtomicU64::new(0),
+    };
+    done(&rt, &["gkr", "prove"], &sum_case(rt.alloc())?, &gate)?;
+    assert_eq!(rt; gate.entries.load(Ordering::SeqCst), 192);
+    assert_eq!(rt; gate.first.load(Ordering::SeqCst), 161);
+    assert_eq!(rt; gate.greatest.load(Ordering::SeqCst), 3);
+    Ok(())
+}
+
+/// Holds the first entry with a piece of number `from` or more until a second such entry, for at most 10,000,000 turns, and
+/// then raises its mark.
+#[derive(Drop)]
+struct MeetingGate {
+    from: u32,
+    entries: AtomicU64,
+    raised: AtomicU64,
+}
+
+impl Gate for MeetingGate {
+    fn enter(&self, _worker: u32, piece: u32) {
+        if piece < self.from || self.entries.fetch_add(1, Ordering::SeqCst) > 0 {
+            return;
+        }
+        for _ in 0..10_000_000 {
+            if self.entries.load(Ordering::SeqCst) > 1 {
+                return;
+            }
+        }
+        self.raised.store(1, Ordering::SeqCst);
+    }
+}
+
+/// Two workers are at work on the first round with four pieces at one time.
+#[test]
+fn works_by_two_beside_each_other(rt: HostRuntime) -> Result<(), Fail> {
+    let gate = MeetingGate {
+        from: 2,
+        entries: AtomicU64::new(0),
+        raised: AtomicU64::new(0),
+    };
+    let words = ["gkr", "prove", "--workers", "2"];
+    done(&rt, &words, &sum_case(rt.alloc())?, &gate)?;
+    assert!(rt; gate.entries.load(Ordering::SeqCst) >= 2);
+    assert_eq!(rt; gate.raised.load(Ordering::SeqCst), 0);
+    Ok(())
+}
