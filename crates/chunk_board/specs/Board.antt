@@ -1,5 +1,5 @@
 -- What contracts see of a board and a claimer.
-use Rattle.std.specs.Prelude.{◌≡◌, ℕ, ◌<◌, ◌≤◌, Bool, List, Option, MatchOption}
+use Rattle.std.specs.Prelude.{◌≡◌, ℕ, ◌+◌, ◌<◌, ◌≤◌, Bool, ◌||◌, List, [], ◌∷◌, ◌++◌, Option, MatchOption}
 use Rattle.atomic_table.specs.Seated.{TableId}
 use Rattle.chunk_board.specs.ClaimMachine.{Worker, worker}
 use Rattle.chunk_board.specs.Hands.{IsClaimStep}
@@ -20,6 +20,12 @@ pub record ClaimerView : Type 0 where
 
 abbrev pub IsOf : BoardView → ClaimerView → Type 0
 IsOf b c = (c.table ≡ b.table) × (c.pieces ≡ b.pieces)
+
+abbrev pub drew : ℕ → ClaimerView → ClaimerView
+drew k c = record c { drawn = c.drawn ++ k ∷ [] }
+
+abbrev pub united : ClaimerView → ClaimerView → ClaimerView
+united c other = record c { shares = c.shares + other.shares; drawn = c.drawn ++ other.drawn; stopped = c.stopped || other.stopped }
 
 abbrev pub as_worker : ClaimerView → Worker
 as_worker c = worker c.shares c.drawn c.stopped

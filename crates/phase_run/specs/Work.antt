@@ -1,5 +1,5 @@
 -- How many workers there may be, and what they give.
-use Rattle.std.specs.Prelude.{◌≡◌, ℕ, ◌<◌, ◌≤◌, List, map, length, Option, Some, None, MatchOption, slice_index_or}
+use Rattle.std.specs.Prelude.{◌≡◌, ℕ, ◌<◌, ◌≤◌, List, map, length, Option, None, MatchOption, slice_index_or}
 use Rattle.std.specs.List.{All}
 use Rattle.tallies.specs.Tallies.{times}
 
