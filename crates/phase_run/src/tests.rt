@@ -24,6 +24,37 @@ impl PieceWork for FromTen {
     }
 }
 
+/// Three pieces, of which the first finds no memory.
+#[derive(Drop)]
+struct FailsAtFirst;
+
+impl PieceWork for FailsAtFirst {
+    type Out = u32;
+
+    ghost out_of = { λ work k. k };
+
+    ghost pieces = { λ work. 3 };
+
+    fn work(&self, _alloc: Global, k: u32) -> Result<u32, AllocError> {
+        if k == 0 {
+            return Err(AllocError);
+        }
+        Ok(k)
+    }
+}
+
+/// Counts who passes.
+#[derive(Drop)]
+struct CountingGate {
+    entries: AtomicU64,
+}
+
+impl Gate for CountingGate {
+    fn enter(&self, _worker: u32, _piece: u32) {
+        self.entries.fetch_add(1, Ordering::SeqCst);
+    }
+}
+
 /// Holds the first entry with a piece of number `from` or more until a second such entry, for at most 10,000,000 turns, and
 /// then raises its mark.
 #[derive(Drop)]
@@ -57,5 +88,21 @@ fn works_two_pieces_side_by_side(rt: HostRuntime) -> Result<(), Fail> {
     let outputs = run(&rt, rt.alloc(), 2, 2, &FromTen, &gate)?;
     assert!(&rt; outputs.as_slice() == [10, 11].as_slice());
     assert_eq!(&rt; gate.raised.load(Ordering::SeqCst), 0);
+    Ok(())
+}
+
+#[test]
+fn goes_on_where_one_worker_finds_no_memory(rt: HostRuntime) -> Result<(), Fail> {
+    for workers in [1, 2] {
+        let gate = CountingGate {
+            entries: AtomicU64::new(0),
+        };
+        match run(&rt, rt.alloc(), 3, workers, &FailsAtFirst, &gate) {
+            Ok(_) => return Err(Fail::new("found memory")),
+            Err(AllocError) => (),
+        }
+        let entries = gate.entries.load(Ordering::SeqCst);
+        assert_eq!(&rt; entries, if workers == 1 { 1 } else { 3 });
+    }
     Ok(())
 }
