@@ -6,6 +6,7 @@ mod DemoPrograms
 mod Demos
 mod Ends
 mod EvalAnswers
+mod Headlines
 mod Numbers
 mod OneReply
 mod ProveAnswers

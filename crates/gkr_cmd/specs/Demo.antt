@@ -21,7 +21,9 @@ square_text words n = concat (words ∷ decimal n ∷ codes "][" ∷ decimal n �
 
 -- the sum of the elements of the product of two square matrices
 abbrev pub demo_program : ℕ → List ℕ
-demo_program n = concat (square_text (codes "input a[") n ∷ square_text (codes "input b[") n ∷ codes "output sum(matmul(a,b));" ∷ [])
+demo_program n =
+    concat (square_text (codes "input a[") n ∷ square_text (codes "input b[") n
+    ∷ codes "output sum(matmul(a,b));" ∷ [])
 
 -- as many numbers, in order, from one past the given on
 abbrev pub demo_inputs : ℕ → ℕ → List F
@@ -30,15 +32,20 @@ demo_inputs number count = map (λ j. of (1 + number + j)) (range_with_len 0 cou
 abbrev pub demo_case : ℕ → Content
 demo_case number =
     let n = demo_size number in
-    record { program = demo_program n; inputs = demo_inputs number (2 * (n * n)); outputs = None; proof = None }
+    record {
+      program = demo_program n;
+      inputs = demo_inputs number (2 * (n * n));
+      outputs = None;
+      proof = None;
+    }
 
 -- There are outputs, and this is the first.
 pub record HasFirst (outputs : Option (List F)) (first : F) : Type 0 where
   pub others : List F
   pub outputs_are : outputs ≡ Some (first ∷ others)
 
--- The case of the number was proved, its proof is accepted, and these are its size, its first output, the height of its circuit,
--- and the length and the digest of its proof.
+-- The case of the number was proved, its proof is accepted, and these are its size, its first
+-- output, the height of its circuit, and the length and the digest of its proof.
 pub record IsDemo (number : ℕ) (summary : DemoSummary) : Type 0 where
   pub number_is : summary.number ≡ number
   pub size_is : summary.size ≡ demo_size number

@@ -1,5 +1,6 @@
 pub mod Commands
 pub mod Demo
+pub mod Headline
 pub mod Reached
 pub mod Replies
 pub mod Runs

@@ -89,7 +89,8 @@ IsVerifyAnswer c (replies.InputCount have need) = IsCircuitMiscounted c have nee
 IsVerifyAnswer c (replies.OutputCount have need) = IsOutputMiscounted c have need
 IsVerifyAnswer c (replies.Proof bad) = IsBadProof c bad
 IsVerifyAnswer c replies.Accepted = IsVerdictOn c verdicts.Accepted
-IsVerifyAnswer c (replies.RejectedSum layer round had claim) = IsVerdictOn c (verdicts.Sum layer round had claim)
+IsVerifyAnswer c (replies.RejectedSum layer round had claim) = IsVerdictOn c
+    (verdicts.Sum layer round had claim)
 IsVerifyAnswer c (replies.RejectedEnd layer had want) = IsVerdictOn c (verdicts.End layer had want)
 IsVerifyAnswer c (replies.RejectedInput had want) = IsVerdictOn c (verdicts.Input had want)
 IsVerifyAnswer c reply = ⊥
@@ -123,7 +124,8 @@ IsDemoAnswer number reply = ⊥
 -- when a reply is the one of a command, or of words that name none
 abbrev pub IsCommandReply : Option Command → List ℕ → Reply → Type 0
 IsCommandReply None input reply = reply ≡ replies.Usage
-IsCommandReply (Some (OfCase command)) input reply = IsCaseReply (form_of command) (IsAnswer command) input reply
+IsCommandReply (Some (OfCase command)) input reply = IsCaseReply (form_of command)
+    (IsAnswer command) input reply
 IsCommandReply (Some (Demo number workers)) input reply = IsDemoAnswer number reply
 
 -- The reply to the words, and to the input of the command that they name.

@@ -21,7 +21,8 @@ use Rattle.gkr_cmd.specs.declared.status.Status.TheVariants as statuses
 use Rattle.gkr_cmd.specs.Replies.{IsOfCase, IsReply, status_of}
 use Rattle.gkr_cmd.specs.Reached.{WritesFront}
 
--- What a command reads is told by the source. `demo`, and words that are no command, read nothing, so any input is theirs.
+-- What a command reads is told by the source. `demo`, and words that are no command, read nothing,
+-- so any input is theirs.
 abbrev pub IsInput : Option Command → Option (List ℕ) → List ℕ → Type 0
 IsInput None left input = ⊤
 IsInput (Some (OfCase command)) left input = left ≡ Some input
@@ -35,20 +36,24 @@ IsReplied statuses.Memory = ⊥
 IsReplied status = ⊤
 
 -- The run ended with the status of the reply to its words and input, and wrote that reply's text.
-pub record EndsWithReply (words : List (List ℕ)) (input : List ℕ) (ended : Status) (before after : Option (List ℕ)) : Type 0 where
+pub record EndsWithReply (words : List (List ℕ)) (input : List ℕ) (ended : Status)
+    (before after : Option (List ℕ)) : Type 0 where
   pub reply : Reply
   pub is_reply : IsReply words input reply
   pub status : ended ≡ status_of reply
   pub written : Grows before after (reply_text reply)
 
 -- The run wrote a front of the text of the reply to its words and input.
-pub record WritesReplyFront (words : List (List ℕ)) (input : List ℕ) (before after : Option (List ℕ)) : Type 0 where
+pub record WritesReplyFront (words : List (List ℕ)) (input : List ℕ)
+    (before after : Option (List ℕ)) : Type 0 where
   pub reply : Reply
   pub is_reply : IsReply words input reply
   pub front : WritesFront before after (reply_text reply)
 
--- What a run wrote: nothing where it has no reply, and else a front of the reply to its words and input.
-abbrev pub WritesNoMore : Status → List (List ℕ) → List ℕ → Option (List ℕ) → Option (List ℕ) → Type 0
+-- What a run wrote: nothing where it has no reply, and else a front of the reply to its words and
+-- input.
+abbrev pub WritesNoMore : Status → List (List ℕ) → List ℕ → Option (List ℕ) → Option (List ℕ)
+    → Type 0
 WritesNoMore statuses.ReadFault words input before after = Grows before after []
 WritesNoMore statuses.Memory words input before after = Grows before after []
 WritesNoMore status words input before after = WritesReplyFront words input before after
@@ -69,8 +74,8 @@ pub record HasCircuit (c : Content) : Type 0 where
 abbrev pub HasAcceptedProof : Content → Type 0
 HasAcceptedProof c = IsVerdictOn c Accepted
 
--- The run wrote the text of this case with its program's meaning on its inputs as outputs and the one honest proof of them, and that
--- text is one of an accepted case.
+-- The run wrote the text of this case with its program's meaning on its inputs as outputs and the
+-- one honest proof of them, and that text is one of an accepted case.
 pub record WritesHonestProof (c : Content) (before after : Option (List ℕ)) : Type 0 where
   pub proved : Content
   pub is_proved : IsProved c proved

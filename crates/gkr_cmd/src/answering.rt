@@ -29,7 +29,8 @@ pub fn answer<R: Threads + Sync, G: Gate>(
 ) -> Result<Reply, ReplyError>
     requires workers { HasWorkers (Command.OfCase command) }
     requires limit { IsWithinLimit input.now }
-    ensures reply { IfOk result (λ reply. IsCaseReply (form_of command) (IsAnswer command) input.now reply) }
+    ensures reply { IfOk result (λ reply. IsCaseReply (form_of command)
+        (IsAnswer command) input.now reply) }
     ensures fault { result ≢ Err ReplyError.ReadFault }
 {
     let case = match read_case(alloc, input, form_of(command)) {

@@ -170,7 +170,8 @@ fn proof_of(proved: &Case) -> &[u8]
     }
 }
 
-/// What is told of the case of a number that was proved and accepted, where its circuit has these sizes.
+/// What is told of the case of a number that was proved and accepted, where its circuit has these
+/// sizes.
 fn summary(number: u32, sizes: &CircuitSizes, case: &Case, proved: &Case) -> DemoSummary
     requires case { case.now ≡ demo_case number }
     requires laid_out { IsLaidOut case.now sizes.now }

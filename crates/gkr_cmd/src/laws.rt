@@ -20,25 +20,32 @@ use proof_wire::laws::{no_trouble, one_reading, one_trouble};
 
 /// The number of a word is the one below 2^32 whose decimal it is.
 pub fn number_by_decimal()
-    ensures { (word : List ℕ) (n : ℕ) → (number_of word ≡ Some n) ↔ ((n < 2 ^ 32) × (word ≡ decimal n)) }
+    ensures { (word : List ℕ) (n : ℕ)
+        → (number_of word ≡ Some n) ↔ ((n < 2 ^ 32) × (word ≡ decimal n)) }
 {}
 
 /// A subcommand's name by itself names that command; `prove` then means one worker.
 pub fn words_alone()
-    ensures eval { (program : List ℕ) → command_of (program ∷ codes "eval" ∷ []) ≡ Some (Command.OfCase CaseCommand.Eval) }
-    ensures circuit { (program : List ℕ) → command_of (program ∷ codes "circuit" ∷ []) ≡ Some (Command.OfCase CaseCommand.Circuit) }
-    ensures prove { (program : List ℕ) → command_of (program ∷ codes "prove" ∷ []) ≡ Some (Command.OfCase (CaseCommand.Prove 1)) }
-    ensures verify { (program : List ℕ) → command_of (program ∷ codes "verify" ∷ []) ≡ Some (Command.OfCase CaseCommand.Verify) }
+    ensures eval { (program : List ℕ)
+        → command_of (program ∷ codes "eval" ∷ []) ≡ Some (Command.OfCase CaseCommand.Eval) }
+    ensures circuit { (program : List ℕ)
+        → command_of (program ∷ codes "circuit" ∷ []) ≡ Some (Command.OfCase CaseCommand.Circuit) }
+    ensures prove { (program : List ℕ)
+        → command_of (program ∷ codes "prove" ∷ []) ≡ Some (Command.OfCase (CaseCommand.Prove 1)) }
+    ensures verify { (program : List ℕ)
+        → command_of (program ∷ codes "verify" ∷ []) ≡ Some (Command.OfCase CaseCommand.Verify) }
 {}
 
-/// `prove --workers W` and `demo N --workers W` name these commands for each W from 1 to 64 and each N below 2^32, both
-/// in decimal; `demo N` means one worker.
+/// `prove --workers W` and `demo N --workers W` name these commands for each W from 1 to 64 and
+/// each N below 2^32, both in decimal; `demo N` means one worker.
 pub fn words_with_numbers()
     ensures prove { (program : List ℕ) (workers : ℕ) → 1 ≤ workers → workers ≤ 64
-        → command_of (program ∷ codes "prove" ∷ codes "--workers" ∷ decimal workers ∷ []) ≡ Some (Command.OfCase (CaseCommand.Prove workers)) }
+        → command_of (program ∷ codes "prove" ∷ codes "--workers" ∷ decimal workers ∷ [])
+        ≡ Some (Command.OfCase (CaseCommand.Prove workers)) }
     ensures demo { (program : List ℕ) (number : ℕ) → number < 2 ^ 32
         → command_of (program ∷ codes "demo" ∷ decimal number ∷ []) ≡ Some (Command.Demo number 1) }
-    ensures demo_by { (program : List ℕ) (number workers : ℕ) → number < 2 ^ 32 → 1 ≤ workers → workers ≤ 64
+    ensures demo_by { (program : List ℕ) (number workers : ℕ) → number < 2 ^ 32 → 1 ≤ workers
+        → workers ≤ 64
         → command_of (program ∷ codes "demo" ∷ decimal number ∷ codes "--workers" ∷ decimal workers ∷ []) ≡ Some (Command.Demo number workers) }
 {}
 
@@ -46,13 +53,16 @@ pub fn words_with_numbers()
 pub fn other_words()
     ensures none { command_of [] ≡ None }
     ensures own_name { (program : List ℕ) → command_of (program ∷ []) ≡ None }
-    ensures other { (program word : List ℕ) (rest : List (List ℕ)) → word ≢ codes "eval" → word ≢ codes "circuit" → word ≢ codes "prove" → word ≢ codes "verify" → word ≢ codes "demo"
+    ensures other { (program word : List ℕ) (rest : List (List ℕ)) → word ≢ codes "eval"
+        → word ≢ codes "circuit" → word ≢ codes "prove" → word ≢ codes "verify"
+        → word ≢ codes "demo"
         → command_of (program ∷ word ∷ rest) ≡ None }
 {}
 
 /// Words and an input have at most one reply.
 pub fn one_reply()
-    ensures { (words : List (List ℕ)) (input : List ℕ) (a b : Reply) → IsReply words input a → IsReply words input b → a ≡ b }
+    ensures { (words : List (List ℕ)) (input : List ℕ) (a b : Reply) → IsReply words input a
+        → IsReply words input b → a ≡ b }
 {
     one_tree();
     one_refusal();
@@ -69,7 +79,8 @@ pub fn one_reply()
 
 /// The reply to a case with an accepted program and as many inputs as it needs is its outputs.
 pub fn evaluable_is_done()
-    ensures { (input : List ℕ) (reply : Reply) → IsCaseReply Plain IsEvalAnswer input reply → IsOfCase Plain input IsEvaluable → status_of reply ≡ Done }
+    ensures { (input : List ℕ) (reply : Reply) → IsCaseReply Plain IsEvalAnswer input reply
+        → IsOfCase Plain input IsEvaluable → status_of reply ≡ Done }
 {
     one_tree();
     one_refusal();
@@ -78,16 +89,19 @@ pub fn evaluable_is_done()
 
 /// The reply to a case whose program has a circuit with as many inputs is the circuit's sizes.
 pub fn laid_out_is_done()
-    ensures { (input : List ℕ) (reply : Reply) → IsCaseReply Plain IsCircuitAnswer input reply → IsOfCase Plain input HasCircuit → status_of reply ≡ Done }
+    ensures { (input : List ℕ) (reply : Reply) → IsCaseReply Plain IsCircuitAnswer input reply
+        → IsOfCase Plain input HasCircuit → status_of reply ≡ Done }
 {
     one_circuit();
     one_circuit_refusal();
     compiled_or_refused();
 }
 
-/// The reply of `prove` to a case whose program has a circuit with as many inputs is the case with the proof.
+/// The reply of `prove` to a case whose program has a circuit with as many inputs is the case with
+/// the proof.
 pub fn provable_is_done()
-    ensures { (input : List ℕ) (reply : Reply) → IsCaseReply Plain IsProveAnswer input reply → IsOfCase Plain input HasCircuit → status_of reply ≡ Done }
+    ensures { (input : List ℕ) (reply : Reply) → IsCaseReply Plain IsProveAnswer input reply
+        → IsOfCase Plain input HasCircuit → status_of reply ≡ Done }
 {
     one_circuit();
     one_circuit_refusal();
@@ -108,7 +122,8 @@ pub fn demo_has_circuit()
 
 /// The reply to a case whose proof meets every equation of acceptance is that it is accepted.
 pub fn accepted_is_done()
-    ensures { (input : List ℕ) (reply : Reply) → IsCaseReply Full IsVerifyAnswer input reply → IsOfCase Full input HasAcceptedProof → status_of reply ≡ Done }
+    ensures { (input : List ℕ) (reply : Reply) → IsCaseReply Full IsVerifyAnswer input reply
+        → IsOfCase Full input HasAcceptedProof → status_of reply ≡ Done }
 {
     one_circuit();
     one_circuit_refusal();

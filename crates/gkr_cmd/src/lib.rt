@@ -1,8 +1,8 @@
 //! The commands of the program: one function from the words and the input to the status and the reply.
 //!
-//! `gkr_run` reads the whole input where the command reads a case, makes the whole reply, and then writes it. Its
-//! contract is the theorem of the program: status and bytes are the reply that the definitions give, and a failing source
-//! or sink is told exactly where it failed.
+//! `gkr_run` reads the whole input where the command reads a case, makes the whole reply, and then
+//! writes it. Its contract is the theorem of the program (`specs/Headline.antt`): status and bytes are
+//! the reply that the definitions give, and a failing source or sink is told exactly where it failed.
 //!
 //! ```text
 //! gkr_run(&rt, alloc, &words, &mut source, &mut sink, &OpenGate)      // Status::Done

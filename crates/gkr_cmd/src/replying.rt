@@ -31,11 +31,15 @@ fn run_command<R: Threads + Sync, S: Source, G: Gate>(
     gate: &G,
 ) -> Result<Reply, ReplyError>
     requires { HasWorkers (Command.OfCase command) }
-    ensures reply { IfOk result (λ reply. (input : List ℕ) → S.left source.old ≡ Some input → IsCommandReply (Some (Command.OfCase command)) input reply) }
+    ensures reply { IfOk result (λ reply. (input : List ℕ) → S.left source.old ≡ Some input
+        → IsCommandReply (Some (Command.OfCase command)) input reply) }
     ensures named { IfOk result (λ reply. status_of reply ≢ Status.Usage) }
-    ensures read { OnOk result (IsReadUpTo (case_limit + 1) (S.left source.old) (S.left source.new)) }
-    ensures fault { IsErrOf result ReplyError.ReadFault → Rose (S.faults source.old) (S.faults source.new) }
-    ensures no_fault { result ≢ Err ReplyError.ReadFault → S.faults source.new ≡ S.faults source.old }
+    ensures read { OnOk result (IsReadUpTo (case_limit + 1) (S.left source.old)
+        (S.left source.new)) }
+    ensures fault { IsErrOf result ReplyError.ReadFault
+        → Rose (S.faults source.old) (S.faults source.new) }
+    ensures no_fault { result ≢ Err ReplyError.ReadFault
+        → S.faults source.new ≡ S.faults source.old }
 {
     let input = read_input(alloc, source, CASE_LIMIT as usize)?;
     if input.len() > CASE_LIMIT as usize {
@@ -52,12 +56,19 @@ pub fn make_reply<R: Threads + Sync, S: Source, G: Gate>(
     source: &mut S,
     gate: &G,
 ) -> Result<Reply, ReplyError>
-    ensures reply { IfOk result (λ reply. (input : List ℕ) → IsInput (command_of (map string_bytes words.now)) (S.left source.old) input → IsReply (map string_bytes words.now) input reply) }
-    ensures usage { IfOk result (λ reply. (status_of reply ≡ Status.Usage) ↔ (command_of (map string_bytes words.now) ≡ None)) }
-    ensures read { ReadsCase (command_of (map string_bytes words.now)) → OnOk result (IsReadUpTo (case_limit + 1) (S.left source.old) (S.left source.new)) }
-    ensures unread { ¬ ReadsCase (command_of (map string_bytes words.now)) → source.new ≡ source.old }
-    ensures fault { IsErrOf result ReplyError.ReadFault → Rose (S.faults source.old) (S.faults source.new) }
-    ensures no_fault { result ≢ Err ReplyError.ReadFault → S.faults source.new ≡ S.faults source.old }
+    ensures reply { IfOk result (λ reply. (input : List ℕ)
+        → IsInput (command_of (map string_bytes words.now)) (S.left source.old) input
+        → IsReply (map string_bytes words.now) input reply) }
+    ensures usage { IfOk result (λ reply. (status_of reply ≡ Status.Usage)
+        ↔ (command_of (map string_bytes words.now) ≡ None)) }
+    ensures read { ReadsCase (command_of (map string_bytes words.now))
+        → OnOk result (IsReadUpTo (case_limit + 1) (S.left source.old) (S.left source.new)) }
+    ensures unread { ¬ ReadsCase (command_of (map string_bytes words.now))
+        → source.new ≡ source.old }
+    ensures fault { IsErrOf result ReplyError.ReadFault
+        → Rose (S.faults source.old) (S.faults source.new) }
+    ensures no_fault { result ≢ Err ReplyError.ReadFault
+        → S.faults source.new ≡ S.faults source.old }
 {
     match named_command(alloc, words)? {
         None => Ok(Reply::Usage),

@@ -1,0 +1,122 @@
+-- What holds of every run of the program: the headline, the one reply, and the causes of faults.
+use Rattle.std.specs.Prelude.{◌≡◌, ◌≢◌, ◌<◌, ◌↔◌, ◌+◌, ℕ, List, [], Option, Some, None, Ok}
+use Rattle.io_edge.specs.Causes.{Rose}
+use Rattle.io_edge.specs.Written.{Grows}
+use Rattle.case_prove.specs.Sound.{HasExceptionalChallenge, HasMeaning}
+use Rattle.case_text.specs.Content.{Content}
+use Rattle.case_text.specs.Reading.{reading}
+use Rattle.case_text.specs.Replies.{reply_text}
+use Rattle.case_text.specs.declared.form.Form.TheVariants.{Plain, Full}
+use Rattle.case_text.specs.declared.reply.Reply.TheVariants as replies
+use Rattle.gkr_cmd.specs.declared.status.Status.{Status}
+use Rattle.gkr_cmd.specs.declared.status.Status.TheVariants as statuses
+use Rattle.gkr_cmd.specs.declared.words.Command.{Command}
+use Rattle.gkr_cmd.specs.declared.words.Command.TheVariants.{OfCase, Demo}
+use Rattle.gkr_cmd.specs.declared.words.CaseCommand.TheVariants.{Eval, Circuit, Prove, Verify}
+use Rattle.gkr_cmd.specs.Commands.{ReadsCase, command_of}
+use Rattle.gkr_cmd.specs.Reached.{IsReadUpTo}
+use Rattle.gkr_cmd.specs.Replies.{IsOfCase, case_limit}
+use Rattle.gkr_cmd.specs.Runs.{EndsWithReply, HasAcceptedProof, HasCircuit, IsEvaluable, IsInput}
+use Rattle.gkr_cmd.specs.Runs.{IsReplied, WritesHonestProof, WritesNoMore}
+
+-- What the source and the sink of a run tell at one moment: the bytes that are left and those that
+-- were written, where they tell them, and how often each has failed.
+pub record Ends : Type 0 where
+  pub left : Option (List ℕ)
+  pub read_faults : ℕ
+  pub written : Option (List ℕ)
+  pub write_faults : ℕ
+
+-- One run: its words, the first of which is the program's own name, what its ends told before and
+-- after it, and the status that it ended with.
+pub record Run : Type 0 where
+  pub words : List (List ℕ)
+  pub before : Ends
+  pub after : Ends
+  pub ended : Status
+
+-- The run's words name this command, and its source holds this input.
+pub record Asks (run : Run) (command : Command) (input : List ℕ) : Type 0 where
+  pub named : command_of run.words ≡ Some command
+  pub told : run.before.left ≡ Some input
+
+-- ---- the headline
+
+pub record Headline (run : Run) : Type 0 where
+  -- `verify` accepts exactly the cases whose proof meets every equation of acceptance.
+  pub accepted : (input : List ℕ) → Asks run (OfCase Verify) input → IsReplied run.ended
+      → (run.ended ≡ statuses.Done) ↔ IsOfCase Full input HasAcceptedProof
+  -- It then writes that they are accepted.
+  pub accepted_text : (input : List ℕ) → Asks run (OfCase Verify) input → run.ended ≡ statuses.Done
+      → Grows run.before.written run.after.written (reply_text replies.Accepted)
+  -- What `prove` writes, with any number of workers, is the case with its program's meaning as
+  -- outputs and the one honest proof of them; and that text is accepted.
+  pub honest : (input : List ℕ) (workers : ℕ) (content : Content)
+      → Asks run (OfCase (Prove workers)) input → reading Plain input ≡ Ok content
+      → run.ended ≡ statuses.Done
+      → WritesHonestProof content run.before.written run.after.written
+  -- Where an accepted case's outputs aren't its program's meaning on its inputs, some challenge is
+  -- one of few exceptional ones, which earlier messages fix.
+  pub sound : (input : List ℕ) (content : Content) → Asks run (OfCase Verify) input
+      → reading Full input ≡ Ok content → run.ended ≡ statuses.Done → ¬ HasMeaning content
+      → (n : ℕ) × HasExceptionalChallenge content n
+  -- A case whose program has a circuit with as many inputs is proved.
+  pub proved : (input : List ℕ) (workers : ℕ) → Asks run (OfCase (Prove workers)) input
+      → IsOfCase Plain input HasCircuit → IsReplied run.ended → run.ended ≡ statuses.Done
+  -- Such a case is answered by `circuit` with the circuit's sizes.
+  pub laid_out : (input : List ℕ) → Asks run (OfCase Circuit) input
+      → IsOfCase Plain input HasCircuit → IsReplied run.ended → run.ended ≡ statuses.Done
+  -- A case with an accepted program and as many inputs as the program needs is evaluated.
+  pub done : (input : List ℕ) → Asks run (OfCase Eval) input
+      → IsOfCase Plain input IsEvaluable → IsReplied run.ended → run.ended ≡ statuses.Done
+  -- `demo` answers every number with what is told of its case's proof.
+  pub demonstrated : (number workers : ℕ) → command_of run.words ≡ Some (Demo number workers)
+      → IsReplied run.ended → run.ended ≡ statuses.Done
+
+-- ---- the one reply
+
+pub record HasOneReply (run : Run) : Type 0 where
+  -- The run ends with the status of the reply to the words and the input, and writes its text.
+  pub answer : (input : List ℕ) → IsInput (command_of run.words) run.before.left input
+      → IsReplied run.ended
+      → EndsWithReply run.words input run.ended run.before.written run.after.written
+  -- Whatever happens, no more than a front of that reply was written.
+  pub front : (input : List ℕ) → IsInput (command_of run.words) run.before.left input
+      → WritesNoMore run.ended run.words input run.before.written run.after.written
+  -- The words are refused exactly where they are no command.
+  pub usage : IsReplied run.ended
+      → (run.ended ≡ statuses.Usage) ↔ (command_of run.words ≡ None)
+  -- Where nothing failed and memory was found, the run replied.
+  pub complete : ¬ Rose run.before.read_faults run.after.read_faults
+      → ¬ Rose run.before.write_faults run.after.write_faults
+      → run.ended ≢ statuses.Memory → IsReplied run.ended
+
+-- ---- the causes of faults
+
+pub record HasCauses (run : Run) : Type 0 where
+  -- Where a command on a case is named, its input was read to the end or one byte past the limit.
+  pub read : ReadsCase (command_of run.words)
+      → run.ended ≢ statuses.ReadFault → run.ended ≢ statuses.Memory
+      → IsReadUpTo (case_limit + 1) run.before.left run.after.left
+  -- A failure of the source, only where it failed and always there; then nothing is written.
+  pub read_fault : run.ended ≡ statuses.ReadFault
+      → Rose run.before.read_faults run.after.read_faults
+  pub read_failed : run.before.read_faults < run.after.read_faults
+      → run.ended ≡ statuses.ReadFault
+  pub read_fault_unwritten : run.ended ≡ statuses.ReadFault
+      → Grows run.before.written run.after.written []
+  -- A failure of the sink, only where it failed and always there.
+  pub write_fault : run.ended ≡ statuses.WriteFault
+      → Rose run.before.write_faults run.after.write_faults
+  pub write_failed : run.before.write_faults < run.after.write_faults
+      → run.ended ≡ statuses.WriteFault
+  -- Want of memory comes before the first byte is written.
+  pub memory_unwritten : run.ended ≡ statuses.Memory
+      → Grows run.before.written run.after.written []
+
+-- ---- all of them
+
+pub record KeepsPromises (run : Run) : Type 0 where
+  pub headline : Headline run
+  pub reply : HasOneReply run
+  pub causes : HasCauses run
