@@ -3,6 +3,7 @@
 //! `gkr_run` reads the whole input where the command reads a case, makes the whole reply, and then
 //! writes it. Its contract is the theorem of the program (`specs/Headline.antt`): status and bytes are
 //! the reply that the definitions give, and a failing source or sink is told exactly where it failed.
+//! `run_program` ends a process with the number of that status.
 //!
 //! ```text
 //! gkr_run(&rt, alloc, &words, &mut source, &mut sink, &OpenGate)      // Status::Done
@@ -14,12 +15,14 @@ mod demo;
 mod input;
 pub mod laws;
 mod output;
+mod program;
 mod reply_error;
 mod replying;
 mod run;
 mod status;
 mod words;
 
+pub use program::{NoWords, run_program};
 pub use run::gkr_run;
 pub use status::Status;
 pub use words::{CaseCommand, Command};
