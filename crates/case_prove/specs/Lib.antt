@@ -1,3 +1,4 @@
+pub mod Answers
 pub mod Blank
 pub mod Circuits
 pub mod Evaluated

@@ -12,6 +12,7 @@
 //! ```
 #![tactic(auto)]
 
+mod answered;
 mod circuit;
 mod evaluation;
 pub mod laws;
@@ -21,6 +22,7 @@ mod refused;
 mod tests;
 mod verification;
 
+pub use answered::{Answered, answer_case};
 pub use circuit::circuit_case;
 pub use evaluation::eval_case;
 pub use proving::prove_case;
