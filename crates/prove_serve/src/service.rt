@@ -67,6 +67,7 @@ fn spread<
     submitting: &AtomicU64,
     work: &W,
 ) -> Pass<Job<C>, Reply<A>>
+    requires works { W.works work.now }
     requires of { IsPassOf table.now pass }
     requires idle { pass.held ≡ 0 }
     requires threads { (0 < vec_len lists) × (vec_len lists ≡ pass.shares) }
@@ -84,7 +85,7 @@ fn spread<
     let proves_alone = lists.len() >= clients as usize;
     let theirs = part(table, &mut pass, script);
     let one = move || -> Pass<Job<C>, Reply<A>>
-        requires { IsSync R.row × IsSync W.row × IsSend C.row × IsSend A.row × IsPassOf table.now theirs × (theirs.held ≡ 0) × AreOf script.now.value.items jobs.items × SubmitsOf script.now.value.items theirs }
+        requires { W.works work.now × IsSync R.row × IsSync W.row × IsSend C.row × IsSend A.row × IsPassOf table.now theirs × (theirs.held ≡ 0) × AreOf script.now.value.items jobs.items × SubmitsOf script.now.value.items theirs }
         ensures { IsPassOf table.entry.now result × (result.held ≡ 0) × (result.shares ≡ theirs.shares) × SubmitsOf script.entry.now.value.items result }
     {
         member(
@@ -100,7 +101,7 @@ fn spread<
         )
     };
     let others = move || -> Pass<Job<C>, Reply<A>>
-        requires { IsSync R.row × IsSync W.row × IsSend C.row × IsSend A.row × IsPassOf table.now pass × (pass.held ≡ 0) × (0 < vec_len lists) × (vec_len lists ≡ pass.shares) × AreDealt script.now.value.items lists.items × SubmitsOf script.now.value.items pass }
+        requires { W.works work.now × IsSync R.row × IsSync W.row × IsSend C.row × IsSend A.row × IsPassOf table.now pass × (pass.held ≡ 0) × (0 < vec_len lists) × (vec_len lists ≡ pass.shares) × AreDealt script.now.value.items lists.items × SubmitsOf script.now.value.items pass }
         ensures { IsPassOf table.entry.now result × (result.held ≡ 0) × (result.shares ≡ pass.shares) × SubmitsOf script.entry.now.value.items result }
     {
         spread(
@@ -124,6 +125,7 @@ fn run<R: Threads + Wait + Sync, W: CaseWork + Sync>(
 where
     W::Case: Drop + Send,
     W::Answer: Drop + Send,
+    requires works { W.works work.now }
     requires few { vec_len jobs ≤ 256 }
     requires places { AreInPlace jobs.items }
     requires provers { provers ≤ 64 }
@@ -166,6 +168,7 @@ pub fn serve<R: Threads + Wait + Sync, W: CaseWork + Sync>(
 where
     W::Case: Drop + Send,
     W::Answer: Drop + Send,
+    requires works { W.works work.now }
     requires few { vec_len jobs ≤ 256 }
     requires provers { (0 < provers) × (provers ≤ 64) }
     requires clients { (0 < clients) × (clients ≤ 64) }

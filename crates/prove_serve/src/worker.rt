@@ -17,6 +17,7 @@ fn outcome_of<W: CaseWork>(alloc: Global, work: &W, job: &Job<W::Case>) -> Outco
 where
     W::Case: Drop,
     W::Answer: Drop,
+    requires { W.works work.now }
     ensures { OutcomeFits (λ reply job. W.Answer.fits reply.answer job.case) result job.now }
 {
     match work.work(alloc, &job.case) {
@@ -37,6 +38,7 @@ fn answer_one<R: Wait, W: CaseWork>(
 where
     W::Case: Drop,
     W::Answer: Drop,
+    requires works { W.works work.now }
     requires of { IsPassOf table.now pass.old }
     requires idle { pass.old.held ≡ 0 }
     requires submits { SubmitsOf script.now.value.items pass.old }
@@ -67,6 +69,7 @@ pub(crate) fn drain<R: Wait, W: CaseWork>(
 where
     W::Case: Drop,
     W::Answer: Drop,
+    requires works { W.works work.now }
     requires of { IsPassOf table.now pass.old }
     requires idle { pass.old.held ≡ 0 }
     requires submits { SubmitsOf script.now.value.items pass.old }
@@ -97,6 +100,7 @@ pub(crate) fn prover<R: Wait, W: CaseWork>(
 where
     W::Case: Drop,
     W::Answer: Drop,
+    requires works { W.works work.now }
     requires of { IsPassOf table.now pass }
     requires idle { pass.held ≡ 0 }
     requires submits { SubmitsOf script.now.value.items pass }
@@ -153,6 +157,7 @@ pub(crate) fn client<R: Wait, W: CaseWork>(
 where
     W::Case: Drop,
     W::Answer: Drop,
+    requires works { W.works work.now }
     requires of { IsPassOf table.now pass }
     requires idle { pass.held ≡ 0 }
     requires jobs { AreOf script.now.value.items jobs.items }
@@ -184,6 +189,7 @@ pub(crate) fn member<R: Wait, W: CaseWork>(
 where
     W::Case: Drop,
     W::Answer: Drop,
+    requires works { W.works work.now }
     requires of { IsPassOf table.now pass }
     requires idle { pass.held ≡ 0 }
     requires jobs { AreOf script.now.value.items jobs.items }

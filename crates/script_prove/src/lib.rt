@@ -1,0 +1,16 @@
+//! The jobs of a script, answered by the proving service.
+//!
+//! Each job's case is proved, or refused, as `prove` does it, and the replies stand in the script's order. How many
+//! workers a proof has, how many threads prove and how many submit changes no reply.
+//!
+//! ```text
+//! serve_script(rt, alloc, script, Threading { workers: 2, provers: 2, clients: 3 }, &OpenGate)
+//! ```
+#![tactic(auto)]
+
+mod prover;
+mod script;
+#[cfg(test)]
+mod tests;
+
+pub use script::{Threading, serve_script};
