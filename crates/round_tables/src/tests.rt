@@ -78,6 +78,21 @@ fn copies_a_value_outside_the_base_field(rt: HostRuntime) -> Result<(), Fail> {
     Ok(())
 }
 
+/// A claim at 2 and, four times, at 3: each message is the one at 2 and four times the one at 3.
+#[test]
+fn copies_at_two_points(rt: HostRuntime) -> Result<(), Fail> {
+    let gates = [gate(Kind::Add, 0, 0), gate(Kind::Add, 1, 0)];
+    let values = table(rt.alloc(), &[0, 5], Ext::one())?;
+    let (first, second) = ([number(2)], [number(3)]);
+    if values.k() != 1 {
+        return Err(Fail::new("another size"));
+    }
+    let mut sum = GateTables::start_two(rt.alloc(), &gates, &values, &first, &second, number(4))?;
+    let rounds = [([0, -45, 115], 3), ([900, -600, -300], 4)];
+    follows(&rt, &mut sum, &rounds, Ext::one());
+    Ok(())
+}
+
 #[test]
 fn multiplies_two_values(rt: HostRuntime) -> Result<(), Fail> {
     let gates = [gate(Kind::Add, 0, 0), gate(Kind::Mul, 1, 2)];
