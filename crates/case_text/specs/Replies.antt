@@ -123,6 +123,7 @@ reply_text (replies.OutputCount have need) = pair_text (codes "refused count out
 reply_text (replies.Proof bad) = bad_proof_text bad
 reply_text (replies.Proved c) = lower_case_text c
 reply_text (replies.Demo summary) = demo_text summary
+reply_text (replies.Served jobs) = served_text jobs
 reply_text replies.Accepted = codes "accepted" ++ 10 ∷ []
 reply_text (replies.RejectedSum layer round had claim) = failed_round_text (codes "rejected sum ") layer round had claim
 reply_text (replies.RejectedEnd layer had want) = failed_layer_text (codes "rejected end ") layer had want

@@ -32,7 +32,7 @@ mod writing;
 
 pub use refusal::{BadCase, CaseRefused, Kind};
 pub use rule::Rule;
-pub use served::{ServedJob, write_served};
+pub use served::{ServedJob, ServedJobs, write_served};
 pub use sizes::{CircuitSizes, LayerSize};
 pub use stop::{ReadError, Stop, stop_at};
 pub use values::Values;

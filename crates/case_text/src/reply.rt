@@ -6,6 +6,7 @@ ghost use Rattle.case_text.specs.Replies.{reply_text, sizes_text, layer_lines, l
 use crate::case::Case;
 use crate::demo::DemoSummary;
 use crate::refusal::{BadCase, Kind};
+use crate::served::{ServedJobs, write_served};
 use crate::sizes::{CircuitSizes, LayerSize};
 use crate::values::Values;
 use crate::writing::{hex_text, put_counted, put_number, write_case};
@@ -58,6 +59,8 @@ pub enum Reply {
     Proved(Case),
     /// A generated case was proved and accepted.
     Demo(DemoSummary),
+    /// The replies to the jobs of a script.
+    Served(ServedJobs),
     /// The proof is accepted.
     Accepted,
     /// A round's message at 0 plus that at 1 isn't the claim before it. Layers count from 0, rounds from 1.
@@ -328,6 +331,7 @@ pub fn write_reply(alloc: Global, reply: &Reply) -> Result<Vec<u8>, AllocError>
         Reply::Circuit(sizes) => put_sizes(&mut out, sizes)?,
         Reply::Proved(case) => return write_case(alloc, case),
         Reply::Demo(demo) => put_demo(alloc, &mut out, demo)?,
+        Reply::Served(jobs) => return write_served(alloc, jobs.as_slice()),
         Reply::Accepted => out.extend_from_slice(b"accepted\n")?,
         Reply::RejectedSum {
             layer,

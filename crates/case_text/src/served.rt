@@ -61,6 +61,39 @@ impl ServedJob {
     }
 }
 
+/// The replies to the jobs of a script, which contracts see as their list.
+#[derive(Debug, Drop)]
+pub struct ServedJobs {
+    items: Vec<ServedJob>,
+}
+
+impl Model for ServedJobs {
+    ghost use Rattle.std.specs.Prelude.{List};
+    ghost use Rattle.case_text.specs.Served.{Served};
+
+    ghost Value = { List Served };
+
+    ghost view = { λ v. v.items.items };
+}
+
+impl ServedJobs {
+    ghost use Rattle.std.specs.Prelude.{◌≡◌};
+
+    /// These replies, without a copy.
+    pub fn new(items: Vec<ServedJob>) -> ServedJobs
+        ensures { result ≡ items.items }
+    {
+        ServedJobs { items }
+    }
+
+    /// The replies in the script's order.
+    pub fn as_slice(&self) -> &[ServedJob]
+        ensures { result.now ≡ self.now }
+    {
+        &self.items
+    }
+}
+
 /// The lines of a script's jobs.
 fn put_served_lines(out: &mut Vec<u8>, jobs: &[ServedJob]) -> Result<(), AllocError>
     ensures { OnOk result (out.new.items ≡ out.old.items ++ served_lines jobs.now) }

@@ -61,6 +61,7 @@ answer number (replies.InputCount have need) is = absurd is
 answer number (replies.Outputs outputs) is = absurd is
 answer number (replies.Circuit sizes) is = absurd is
 answer number (replies.Proved proved) is = absurd is
+answer number (replies.Served jobs) is = absurd is
 answer number (replies.OutputCount have need) is = absurd is
 answer number (replies.Proof bad) is = absurd is
 answer number replies.Accepted is = absurd is

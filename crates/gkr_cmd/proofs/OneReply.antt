@@ -36,6 +36,7 @@ found form answers input (replies.Outputs outputs) is = of_case is.content is.wi
 found form answers input (replies.Circuit sizes) is = of_case is.content is.within is.read is.holds
 found form answers input (replies.Proved proved) is = of_case is.content is.within is.read is.holds
 found form answers input (replies.Demo summary) is = of_case is.content is.within is.read is.holds
+found form answers input (replies.Served jobs) is = of_case is.content is.within is.read is.holds
 found form answers input (replies.OutputCount have need) is = of_case is.content is.within is.read is.holds
 found form answers input (replies.Proof bad) is = of_case is.content is.within is.read is.holds
 found form answers input replies.Accepted is = of_case is.content is.within is.read is.holds

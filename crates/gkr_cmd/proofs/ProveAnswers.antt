@@ -42,6 +42,7 @@ answer c (replies.Outputs outputs) is = absurd is
 answer c (replies.Circuit sizes) is = absurd is
 answer c (replies.Proved p) is = proved p is
 answer c (replies.Demo summary) is = absurd is
+answer c (replies.Served jobs) is = absurd is
 answer c (replies.OutputCount have need) is = absurd is
 answer c (replies.Proof bad) is = absurd is
 answer c replies.Accepted is = absurd is

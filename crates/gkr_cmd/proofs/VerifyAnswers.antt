@@ -56,6 +56,7 @@ answer c (replies.Outputs outputs) is = absurd is
 answer c (replies.Circuit sizes) is = absurd is
 answer c (replies.Proved proved) is = absurd is
 answer c (replies.Demo summary) is = absurd is
+answer c (replies.Served jobs) is = absurd is
 answer c (replies.OutputCount have need) is = outputs_miscounted have need is
 answer c (replies.Proof bad) is = bad_proof bad is
 answer c replies.Accepted is = verdict verdicts.Accepted is

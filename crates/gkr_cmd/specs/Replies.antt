@@ -146,6 +146,7 @@ status_of (replies.Proof bad) = statuses.BadProof
 status_of (replies.Circuit sizes) = statuses.Done
 status_of (replies.Proved proved) = statuses.Done
 status_of (replies.Demo summary) = statuses.Done
+status_of (replies.Served jobs) = statuses.Done
 status_of replies.Accepted = statuses.Done
 status_of (replies.RejectedSum layer round had claim) = statuses.Rejected
 status_of (replies.RejectedEnd layer had want) = statuses.Rejected

@@ -42,6 +42,7 @@ impl Status {
             | Reply::Circuit(_)
             | Reply::Proved(_)
             | Reply::Demo(_)
+            | Reply::Served(_)
             | Reply::Accepted => Status::Done,
             Reply::RejectedSum { .. } | Reply::RejectedEnd { .. } | Reply::RejectedInput { .. } => {
                 Status::Rejected
