@@ -16,10 +16,16 @@ use std::alloc::{AllocError, Global};
 use std::marker::Sync;
 use std::thread::Threads;
 
-// Starting two threads costs as much as summing two or three pieces of 1,024 pairs.
-const PIECES_FOR_TWO: u32 = 4;
+// Starting two threads costs as much as summing some eight pieces of 1,024 pairs, so a round pays for them from 16 pieces on.
+// The first round of a layer, once in the layer, may start them from 4 pieces on.
+const PIECES_FOR_TWO: u32 = 16;
+
+const PIECES_FOR_TWO_AT_FIRST: u32 = 4;
 
 const PIECES_FOR_EACH: u32 = 4;
+
+// A piece of 1,024 pairs stands for 2^11 positions of the layer below.
+const COORDINATES_OF_A_PIECE: u32 = 11;
 
 /// The coefficients of 1, X and X² of the next round's polynomial, where a round is left: the sum of what its pieces give,
 /// whatever the number of workers and the order of their claims. Each piece is entered at the gate before it is summed.
@@ -64,7 +70,7 @@ fn summed_ahead<R: Threads + Sync, G: Gate>(
     let Ok(pieces) = u32::try_from(tables.pieces()) else {
         return Ok(None);
     };
-    let threads = threads_for(pieces, workers);
+    let threads = threads_for(pieces, tables.rounds_left(), workers);
     if threads == 1 {
         return Ok(None);
     }
@@ -72,15 +78,28 @@ fn summed_ahead<R: Threads + Sync, G: Gate>(
     Ok(Some(sums))
 }
 
-/// How many threads a round of so many pieces pays for, of so many workers.
-fn threads_for(pieces: u32, workers: u32) -> u32
+/// How many threads a round of so many pieces pays for, with so many rounds left, of so many workers.
+fn threads_for(pieces: u32, rounds_left: usize, workers: u32) -> u32
     requires { IsWorkerCount workers }
     ensures { IsWorkerCount result }
 {
-    if pieces < PIECES_FOR_TWO {
+    let least = if is_first(pieces, rounds_left) {
+        PIECES_FOR_TWO_AT_FIRST
+    } else {
+        PIECES_FOR_TWO
+    };
+    if pieces < least {
         return 1;
     }
     workers.min((pieces / PIECES_FOR_EACH).max(2))
+}
+
+/// Whether a round of so many whole pieces is a layer's first: two rounds are left then for each coordinate of the layer below.
+fn is_first(pieces: u32, rounds_left: usize) -> bool {
+    if pieces == 0 {
+        return false;
+    }
+    rounds_left == 2 * (pieces.ilog2() + COORDINATES_OF_A_PIECE) as usize
 }
 
 /// The message of a piece: as it was summed ahead, or summed now, by worker 0.
