@@ -6,6 +6,7 @@ mod evaluates;
 mod lays_out;
 mod proves;
 mod refuses;
+mod serves;
 mod verifies;
 mod works;
 

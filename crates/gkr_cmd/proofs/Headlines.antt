@@ -16,14 +16,16 @@ use Rattle.std.specs.Prelude.{◌+◌, length}
 use Rattle.gkr_cmd.specs.declared.status.Status.{Status}
 use Rattle.gkr_cmd.specs.declared.status.Status.TheVariants as statuses
 use Rattle.gkr_cmd.specs.declared.words.CaseCommand.TheVariants.{Eval, Circuit, Prove, Verify}
-use Rattle.gkr_cmd.specs.Commands.{ReadsCase, command_of}
+use Rattle.gkr_cmd.specs.Commands.{ReadsCase, command_of, input_limit}
 use Rattle.gkr_cmd.specs.Headline.{Asks, HasCauses, HasOneReply, Headline, Run}
 use Rattle.gkr_cmd.specs.Reached.{IsReadUpTo}
-use Rattle.gkr_cmd.specs.Replies.{IsCaseReply, IsCircuitAnswer, IsDemoAnswer, IsEvalAnswer, IsOfCase, IsProveAnswer, IsReply, IsVerifyAnswer, case_limit, status_of}
+use Rattle.gkr_cmd.specs.Replies.{IsCaseReply, IsCircuitAnswer, IsDemoAnswer, IsEvalAnswer, IsOfCase, IsReply, IsVerifyAnswer, status_of}
+use Rattle.case_prove.specs.Answers.{IsProveAnswer}
 use Rattle.gkr_cmd.specs.Runs.{EndsWithReply, HasAcceptedProof, HasCircuit, IsEvaluable, IsInput, IsReplied}
 use Rattle.gkr_cmd.proofs.AcceptedCases.{accepted_of, sound_of}
 use Rattle.gkr_cmd.proofs.ProvedCases.{accepted_text, proved_of}
-use Rattle.gkr_cmd.proofs.Replied.{demo_done_of, done_of, input_of, no_more, replied, whole_front}
+use Rattle.gkr_cmd.proofs.Replied.{demo_done_of, done_of, input_of, no_more, replied, script_reply_of, whole_front}
+use Rattle.gkr_cmd.proofs.ScriptReplies.{serves}
 
 -- the laws that the headline stands on
 pub record Laws : Type 0 where
@@ -79,6 +81,16 @@ headline_of laws run reply wrote =
           wrote.status ∙ done_of Plain Eval IsEvaluable laws.evaluable command input reply asks.named (wrote.made.is_reply input (input_of Eval command left input asks.named asks.told)) case;
       demonstrated = λ number workers named replies.
           wrote.status ∙ demo_done_of number workers (laws.demo number) command left reply named wrote.made.is_reply;
+      served = λ input workers provers clients script asks read within replies.
+          let is = script_reply_of workers provers clients command left reply asks.named (wrote.made.is_reply) input asks.told in
+          let case = serves input reply is script read within in (
+            wrote.status ∙ case.done,
+            record {
+              served = case.jobs;
+              replies = case.replies_are;
+              written = subst (λ r. Grows run.before.written run.after.written (reply_text r)) case.reply_is wrote.written;
+            },
+          );
     }
 
 pub reply_of : (run : Run) (reply : Reply) → Wrote run reply → HasOneReply run
@@ -92,7 +104,7 @@ reply_of run reply wrote = record {
 }
 
 -- a run that made a reply and wrote it met no fault
-pub causes_of : (run : Run) (reply : Reply) → run.ended ≡ status_of reply → (ReadsCase (command_of run.words) → IsReadUpTo (case_limit + 1) run.before.left run.after.left)
+pub causes_of : (run : Run) (reply : Reply) → run.ended ≡ status_of reply → (ReadsCase (command_of run.words) → IsReadUpTo (input_limit (command_of run.words) + 1) run.before.left run.after.left)
     → run.after.read_faults ≡ run.before.read_faults → run.after.write_faults ≡ run.before.write_faults → HasCauses run
 causes_of run reply status read reads writes =
     let ends : (other : Status) → run.ended ≡ other → IsReplied other = λ other is. subst IsReplied (sym status ∙ is) (replied reply) in

@@ -12,6 +12,7 @@ mod OneReply
 mod ProveAnswers
 mod ProvedCases
 mod Replied
+mod ScriptReplies
 mod SumLevels
 mod VerifyAnswers
 mod WordLaws

@@ -8,11 +8,13 @@ use Rattle.case_text.specs.declared.reply.Reply.{Reply}
 use Rattle.case_text.specs.declared.reply.Reply.TheVariants as replies
 use Rattle.gkr_cmd.specs.declared.status.Status.TheVariants.{Done}
 use Rattle.gkr_cmd.specs.declared.words.Command.{Command}
-use Rattle.gkr_cmd.specs.declared.words.Command.TheVariants.{OfCase, Demo}
+use Rattle.gkr_cmd.specs.declared.words.Command.TheVariants.{OfCase, Demo, Serve}
 use Rattle.gkr_cmd.specs.declared.words.CaseCommand.{CaseCommand}
 use Rattle.gkr_cmd.specs.declared.words.CaseCommand.TheVariants.{Eval, Circuit, Prove, Verify}
-use Rattle.gkr_cmd.specs.Commands.{command_of}
-use Rattle.gkr_cmd.specs.Replies.{IsWithinLimit, IsOfCase, IsNoCase, IsTooLong, IsCaseReply, IsAnswer, IsEvalAnswer, IsCircuitAnswer, IsDemoAnswer, IsProveAnswer, IsVerifyAnswer, form_of, IsCommandReply, IsReply, status_of}
+use Rattle.gkr_cmd.specs.Commands.{case_limit, command_of}
+use Rattle.gkr_cmd.proofs.ScriptReplies.{one_script}
+use Rattle.gkr_cmd.specs.Replies.{IsWithinLimit, IsOfCase, IsNoCase, IsTooLong, IsCaseReply, IsAnswer, IsEvalAnswer, IsCircuitAnswer, IsDemoAnswer, IsVerifyAnswer, form_of, IsCommandReply, IsReply, status_of}
+use Rattle.case_prove.specs.Answers.{IsProveAnswer}
 
 -- a case has at most one answer
 abbrev pub OneAnswer : (Content → Reply → Type 0) → Type 0
@@ -20,7 +22,7 @@ OneAnswer answers = (c : Content) (a b : Reply) → answers c a → answers c b 
 
 -- what is said of an input
 pub data Found (form : Form) (answers : Content → Reply → Type 0) (input : List ℕ) : Reply → Type 0 where
-  long : (limit : ℕ) → IsTooLong input limit → Found form answers input (replies.TooLong limit)
+  long : (limit : ℕ) → IsTooLong case_limit input limit → Found form answers input (replies.TooLong limit)
   no_case : (bad : BadCase) → IsNoCase form input bad → Found form answers input (replies.Case bad)
   of_case : {reply : Reply} (c : Content) → IsWithinLimit input → reading form input ≡ Ok c → answers c reply → Found form answers input reply
 
@@ -53,7 +55,7 @@ same_stop r a b is is' = cc
 case_or_not : (r : Result Content BadCase) (c : Content) (bad : BadCase) → r ≡ Ok c → r ≡ Err bad → ⊥
 case_or_not r c bad is is' = cc
 
-long_or_not : (input : List ℕ) (limit : ℕ) → IsTooLong input limit → IsWithinLimit input → ⊥
+long_or_not : (input : List ℕ) (limit : ℕ) → IsTooLong case_limit input limit → IsWithinLimit input → ⊥
 long_or_not input limit is within = let longer = is.longer in omega arith
 
 one_found : (form : Form) (answers : Content → Reply → Type 0) → OneAnswer answers → (input : List ℕ) {a b : Reply} → Found form answers input a → Found form answers input b → a ≡ b
@@ -89,6 +91,7 @@ one_of_command one (Some (OfCase command)) input a b is is' =
     let found_in = found (form_of command) (IsAnswer command) input in
     one_found (form_of command) (IsAnswer command) (one_of_each one command) input (found_in a is) (found_in b is')
 one_of_command one (Some (Demo number workers)) input a b is is' = one.demo number a b is is'
+one_of_command one (Some (Serve workers provers clients)) input a b is is' = one_script one.prove input a b is is'
 
 pub one_reply : OneEach → (words : List (List ℕ)) (input : List ℕ) (a b : Reply) → IsReply words input a → IsReply words input b → a ≡ b
 one_reply one words input a b is is' = one_of_command one (command_of words) input a b is is'

@@ -13,7 +13,8 @@ use Rattle.case_text.specs.declared.reply.Reply.TheVariants as replies
 use Rattle.case_prove.specs.Circuits.{IsCircuitMiscounted}
 use Rattle.case_prove.specs.Proved.{IsProved}
 use Rattle.gkr_cmd.specs.declared.status.Status.TheVariants.{Done}
-use Rattle.gkr_cmd.specs.Replies.{IsProveAnswer, status_of}
+use Rattle.gkr_cmd.specs.Replies.{status_of}
+use Rattle.case_prove.specs.Answers.{IsProveAnswer}
 use Rattle.gkr_cmd.specs.Runs.{HasCircuit}
 use Rattle.gkr_cmd.proofs.CircuitAnswers.{IsOne, reply_to, same_counts, counted_or_not}
 use Rattle.gkr_cmd.proofs.OneReply.{OneAnswer}

@@ -16,7 +16,8 @@ use Rattle.gkr_cmd.specs.declared.status.Status.TheVariants.{Done}
 use Rattle.gkr_cmd.specs.declared.words.CaseCommand.TheVariants.{Prove}
 use Rattle.gkr_cmd.specs.declared.words.Command.{Command}
 use Rattle.gkr_cmd.specs.declared.words.Command.TheVariants.{OfCase}
-use Rattle.gkr_cmd.specs.Replies.{IsCommandReply, IsOfCase, IsProveAnswer, status_of}
+use Rattle.gkr_cmd.specs.Replies.{IsCommandReply, IsOfCase, status_of}
+use Rattle.case_prove.specs.Answers.{IsProveAnswer}
 use Rattle.gkr_cmd.specs.Runs.{HasAcceptedProof}
 use Rattle.gkr_cmd.proofs.OneReply.{Found, found, long, no_case, of_case}
 use Rattle.gkr_cmd.proofs.ProveAnswers.{Answer, answer, refused, miscounted, proved}

@@ -22,41 +22,78 @@ use Rattle.gkr_cmd.specs.declared.reply_error.ReplyError.{ReplyError}
 use Rattle.gkr_cmd.specs.declared.status.Status.{Status}
 use Rattle.gkr_cmd.specs.declared.status.Status.TheVariants as statuses
 use Rattle.gkr_cmd.specs.declared.words.Command.{Command}
-use Rattle.gkr_cmd.specs.declared.words.Command.TheVariants.{OfCase, Demo}
+use Rattle.gkr_cmd.specs.declared.words.Command.TheVariants.{OfCase, Demo, Serve}
 use Rattle.gkr_cmd.specs.declared.words.CaseCommand.{CaseCommand}
 use Rattle.gkr_cmd.specs.declared.words.CaseCommand.TheVariants.{Eval, Circuit, Prove, Verify}
 use Rattle.io_edge.specs.Written.{Grows}
 use Rattle.gkr_cmd.specs.Reached.{ReadsUpTo, WritesFront}
-use Rattle.gkr_cmd.specs.Replies.{case_limit, IsWithinLimit, IsTooLong, IsCommandReply, IsCaseReply, IsAnswer, IsCircuitAnswer, IsDemoAnswer, IsEvalAnswer, IsProveAnswer, IsVerifyAnswer, IsOfCase, form_of, refused_reply, verdict_reply, status_of}
+use Rattle.gkr_cmd.specs.Replies.{IsWithinLimit, IsTooLong, IsCommandReply, IsScriptReply, IsCaseReply, IsAnswer, IsCircuitAnswer, IsDemoAnswer, IsEvalAnswer, IsVerifyAnswer, IsOfCase, form_of, refused_reply, verdict_reply, status_of}
+use Rattle.gkr_cmd.specs.Commands.{case_limit, script_limit}
+use Rattle.case_prove.specs.Answers.{IsProveAnswer}
 use Rattle.gkr_cmd.specs.Runs.{IsInput, IsReplied, WritesNoMore, WritesReplyFront}
 
 front_of : (most : ℕ) (left new : Option (List ℕ)) (bytes input : List ℕ) → ReadsUpTo most left new bytes → left ≡ Some input → bytes ≡ take most input
 front_of most None new bytes input h e = absurd cc
 front_of most (Some told) new bytes input h e = let same : told ≡ input = cc in h.0 ∙ ap (take most) same
 
-longer : (left new : Option (List ℕ)) (bytes : List ℕ) → ReadsUpTo (case_limit + 1) left new bytes → case_limit < length bytes → (input : List ℕ) → left ≡ Some input → IsTooLong input case_limit
-longer left new bytes h long input e =
-    let front = front_of (case_limit + 1) left new bytes input h e in
-    record { limit_is = refl; longer = omega (arith, ap length front, length-take (case_limit + 1) input) }
+longer : (most : ℕ) (left new : Option (List ℕ)) (bytes : List ℕ) → ReadsUpTo (most + 1) left new bytes → most < length bytes → (input : List ℕ) → left ≡ Some input → IsTooLong most input most
+longer most left new bytes h long input e =
+    let front = front_of (most + 1) left new bytes input h e in
+    record { limit_is = refl; longer = omega (arith, ap length front, length-take (most + 1) input) }
 
 pub too_long : (command : CaseCommand) (left new : Option (List ℕ)) (bytes : List ℕ) → ReadsUpTo (case_limit + 1) left new bytes → case_limit < length bytes → (input : List ℕ) → left ≡ Some input → IsCommandReply (Some (OfCase command)) input (replies.TooLong case_limit)
-too_long command left new bytes h long input e = longer left new bytes h long input e
+too_long command left new bytes h long input e = longer case_limit left new bytes h long input e
 
-whole : (left new : Option (List ℕ)) (bytes : List ℕ) → ReadsUpTo (case_limit + 1) left new bytes → length bytes ≤ case_limit → (input : List ℕ) → left ≡ Some input → bytes ≡ input
-whole left new bytes h short input e =
-    let front = front_of (case_limit + 1) left new bytes input h e in
-    let within : length input ≤ case_limit = omega (arith, ap length front, length-take (case_limit + 1) input) in
-    front ∙ take_all (case_limit + 1) input (omega arith)
+pub script_too_long : (left new : Option (List ℕ)) (bytes : List ℕ) → ReadsUpTo (script_limit + 1) left new bytes → script_limit < length bytes → (input : List ℕ) → left ≡ Some input → IsScriptReply input (replies.TooLong script_limit)
+script_too_long left new bytes h long input e = longer script_limit left new bytes h long input e
+
+whole : (most : ℕ) (left new : Option (List ℕ)) (bytes : List ℕ) → ReadsUpTo (most + 1) left new bytes → length bytes ≤ most → (input : List ℕ) → left ≡ Some input → bytes ≡ input
+whole most left new bytes h short input e =
+    let front = front_of (most + 1) left new bytes input h e in
+    let within : length input ≤ most = omega (arith, ap length front, length-take (most + 1) input) in
+    front ∙ take_all (most + 1) input (omega arith)
 
 -- the reply to what was read is the reply to the input
+replied_whole : (most : ℕ) (P : List ℕ → Reply → Type 0) (left new : Option (List ℕ)) (bytes : List ℕ) (result : Result Reply ReplyError) → ReadsUpTo (most + 1) left new bytes → length bytes ≤ most
+    → IfOk result (λ reply. P bytes reply) → IfOk result (λ reply. (input : List ℕ) → left ≡ Some input → P input reply)
+replied_whole most P left new bytes result h short replied =
+    IfOk-weaker result _ _ (λ reply is input told. subst (λ read. P read reply) (whole most left new bytes h short input told) is) replied
+
 pub command_replied : (command : CaseCommand) (left new : Option (List ℕ)) (bytes : List ℕ) (result : Result Reply ReplyError) → ReadsUpTo (case_limit + 1) left new bytes → length bytes ≤ case_limit
     → IfOk result (λ reply. IsCommandReply (Some (OfCase command)) bytes reply) → IfOk result (λ reply. (input : List ℕ) → left ≡ Some input → IsCommandReply (Some (OfCase command)) input reply)
 command_replied command left new bytes result h short replied =
-    IfOk-weaker result _ _ (λ reply is input told. subst (λ read. IsCommandReply (Some (OfCase command)) read reply) (whole left new bytes h short input told) is) replied
+    replied_whole case_limit (λ read reply. IsCommandReply (Some (OfCase command)) read reply) left new bytes result h short replied
+
+pub script_replied : (left new : Option (List ℕ)) (bytes : List ℕ) (result : Result Reply ReplyError) → ReadsUpTo (script_limit + 1) left new bytes → length bytes ≤ script_limit
+    → IfOk result (λ reply. IsScriptReply bytes reply) → IfOk result (λ reply. (input : List ℕ) → left ≡ Some input → IsScriptReply input reply)
+script_replied left new bytes result h short replied =
+    replied_whole script_limit (λ read reply. IsScriptReply read reply) left new bytes result h short replied
+
+-- the reply of `serve` doesn't refuse the words
+pub script_named : (input : List ℕ) (reply : Reply) → IsScriptReply input reply → status_of reply ≢ statuses.Usage
+script_named input (replies.Outputs values) is = absurd is
+script_named input replies.Usage is = absurd is
+script_named input (replies.TooLong limit) is = λ e. cc
+script_named input (replies.Case bad) is = λ e. cc
+script_named input (replies.Program kind at) is = absurd is
+script_named input (replies.Deep levels) is = absurd is
+script_named input (replies.Wide height width) is = absurd is
+script_named input (replies.InputCount have need) is = absurd is
+script_named input (replies.Circuit sizes) is = absurd is
+script_named input (replies.Proved proved) is = absurd is
+script_named input (replies.Demo summary) is = absurd is
+script_named input (replies.Served served) is = λ e. cc
+script_named input (replies.OutputCount have need) is = absurd is
+script_named input (replies.Proof bad) is = absurd is
+script_named input replies.Accepted is = absurd is
+script_named input (replies.RejectedSum layer round had claim) is = absurd is
+script_named input (replies.RejectedEnd layer had want) is = absurd is
+script_named input (replies.RejectedInput had want) is = absurd is
 
 -- a named command's input is told by its source
 pub input_of : (named : CaseCommand) (command : Option Command) (left : Option (List ℕ)) (input : List ℕ) → command ≡ Some (OfCase named) → left ≡ Some input → IsInput command left input
 input_of named (Some (Demo number workers)) left input is told = absurd cc
+input_of named (Some (Serve workers provers clients)) left input is told = absurd cc
 input_of named None left input is told = absurd cc
 input_of named (Some (OfCase command)) left input is told = told
 
@@ -71,6 +108,12 @@ pub demo_done_of : (number workers : ℕ) → ((reply : Reply) → IsDemoAnswer 
     → status_of reply ≡ statuses.Done
 demo_done_of number workers law command left reply is replied =
     law reply (subst (λ c. IsCommandReply c [] reply) is (replied [] (subst (λ c. IsInput c left []) (sym is) tt)))
+
+-- the reply of `serve` is one to the script that is told
+pub script_reply_of : (workers provers clients : ℕ) (command : Option Command) (left : Option (List ℕ)) (reply : Reply) → command ≡ Some (Serve workers provers clients)
+    → ((input : List ℕ) → IsInput command left input → IsCommandReply command input reply) → (input : List ℕ) → left ≡ Some input → IsScriptReply input reply
+script_reply_of workers provers clients command left reply is replied input told =
+    subst (λ c. IsCommandReply c input reply) is (replied input (subst (λ c. IsInput c left input) (sym is) told))
 
 -- the status of a reply is none of a run that wrote none
 pub replied : (reply : Reply) → IsReplied (status_of reply)

@@ -16,7 +16,7 @@ use Rattle.clap.specs.Simple.{App, Shape, built, entered, label_of, names_of, ro
 use Rattle.clap.specs.Walk.{Held, Names, Row, Rule, Text, Waiting, Walk, after_flag, after_step, answers_to, bundle_met, bundle_step, finished, idle, long_or_other, nothing_held, option, plain, plain_word, positional, rows_after, settled, short_or_plain, subcommand_met, subcommand_or_other, trailing, walk, walk_from, walked, word_met}
 use Rattle.clap.specs.Words.{fault_of, subcommand_of}
 use Rattle.clap.proofs.OnLiterals.{clap_on_literals}
-use Rattle.gkr_cmd.specs.declared.words.Command.TheVariants.{OfCase, Demo}
+use Rattle.gkr_cmd.specs.declared.words.Command.TheVariants.{OfCase, Demo, Serve}
 use Rattle.gkr_cmd.specs.declared.words.CaseCommand.TheVariants.{Eval, Circuit, Prove, Verify}
 use Rattle.gkr_cmd.specs.Commands.{command_line, command_of, command_of_rows, command_unless, demo_of, if_worker_count, number_of, workers_of}
 use Rattle.gkr_cmd.proofs.Numbers.{number_taken}
@@ -111,6 +111,14 @@ verify_is = record { stops = refl; passes = refl; found = refl; named = refl }
 demo_is : IsNameOf (codes "demo") (leaf (codes "demo"))
 unfolding clap_on_literals
 demo_is = record { stops = refl; passes = refl; found = refl; named = refl }
+
+serve_is : IsNameOf (codes "serve") (leaf (codes "serve"))
+unfolding clap_on_literals
+serve_is = record { stops = refl; passes = refl; found = refl; named = refl }
+
+pub serve_words : (program : Text) → command_of (program ∷ codes "serve" ∷ []) ≡ Some (Serve 1 1 1)
+unfolding clap_on_literals
+serve_words program = by_leaf (codes "serve") (leaf (codes "serve")) serve_is program [] refl
 
 pub eval_words : (program : Text) → command_of (program ∷ codes "eval" ∷ []) ≡ Some (OfCase Eval)
 unfolding clap_on_literals
@@ -382,17 +390,17 @@ is_other name word other = elim (cases_Bool (bytes_eq name word)) [
   | inr differs ↦ differs
 ]
 
-pub other_words : (program word : Text) (ws : List Text) → word ≢ codes "eval" → word ≢ codes "circuit" → word ≢ codes "prove" → word ≢ codes "verify" → word ≢ codes "demo"
+pub other_words : (program word : Text) (ws : List Text) → word ≢ codes "eval" → word ≢ codes "circuit" → word ≢ codes "prove" → word ≢ codes "verify" → word ≢ codes "demo" → word ≢ codes "serve"
     → command_of (program ∷ word ∷ ws) ≡ None
 unfolding command_of
-other_words program word ws a b c d e =
+other_words program word ws a b c d e f =
     let none : subcommand_met (names_of line) idle word ≡ None =
-    names_by word (is_other (codes "eval") word a) (is_other (codes "circuit") word b) (is_other (codes "prove") word c) (is_other (codes "verify") word d) (is_other (codes "demo") word e) in
+    names_by word (is_other (codes "eval") word a) (is_other (codes "circuit") word b) (is_other (codes "prove") word c) (is_other (codes "verify") word d) (is_other (codes "demo") word e) (is_other (codes "serve") word f) in
     unless_fails (fault_of command_line (program ∷ word ∷ ws)) (subcommand_of command_line (program ∷ word ∷ ws)) (by_dashes word ws (bytes_eq word (45 ∷ 45 ∷ [])) refl none)
   where
     names_by : (word : Text) → bytes_eq (codes "eval") word ≡ false → bytes_eq (codes "circuit") word ≡ false → bytes_eq (codes "prove") word ≡ false → bytes_eq (codes "verify") word ≡ false
-        → bytes_eq (codes "demo") word ≡ false → subcommand_met (names_of line) idle word ≡ None
-    names_by word a b c d e = rw (a, b, c, d, e) refl
+        → bytes_eq (codes "demo") word ≡ false → bytes_eq (codes "serve") word ≡ false → subcommand_met (names_of line) idle word ≡ None
+    names_by word a b c d e f = rw (a, b, c, d, e, f) refl
 
 pub no_words : command_of [] ≡ None
 unfolding command_of clap_on_literals

@@ -1,5 +1,5 @@
 -- What holds of every run of the program: the headline, the one reply, and the causes of faults.
-use Rattle.std.specs.Prelude.{◌≡◌, ◌≢◌, ◌<◌, ◌↔◌, ◌+◌, ℕ, List, [], Option, Some, None, Ok}
+use Rattle.std.specs.Prelude.{◌≡◌, ◌≢◌, ◌<◌, ◌≤◌, ◌↔◌, ◌+◌, ℕ, List, [], length, Option, Some, None, Ok}
 use Rattle.io_edge.specs.Causes.{Rose}
 use Rattle.io_edge.specs.Written.{Grows}
 use Rattle.case_prove.specs.Sound.{HasExceptionalChallenge, HasMeaning}
@@ -11,13 +11,15 @@ use Rattle.case_text.specs.declared.reply.Reply.TheVariants as replies
 use Rattle.gkr_cmd.specs.declared.status.Status.{Status}
 use Rattle.gkr_cmd.specs.declared.status.Status.TheVariants as statuses
 use Rattle.gkr_cmd.specs.declared.words.Command.{Command}
-use Rattle.gkr_cmd.specs.declared.words.Command.TheVariants.{OfCase, Demo}
+use Rattle.gkr_cmd.specs.declared.words.Command.TheVariants.{OfCase, Demo, Serve}
 use Rattle.gkr_cmd.specs.declared.words.CaseCommand.TheVariants.{Eval, Circuit, Prove, Verify}
-use Rattle.gkr_cmd.specs.Commands.{ReadsCase, command_of}
+use Rattle.script_text.specs.declared.script.ScriptJob.{ScriptJob}
+use Rattle.script_text.specs.Scripts.{script_reading}
+use Rattle.gkr_cmd.specs.Commands.{ReadsCase, command_of, input_limit, script_limit}
 use Rattle.gkr_cmd.specs.Reached.{IsReadUpTo}
-use Rattle.gkr_cmd.specs.Replies.{IsOfCase, case_limit}
+use Rattle.gkr_cmd.specs.Replies.{IsOfCase}
 use Rattle.gkr_cmd.specs.Runs.{EndsWithReply, HasAcceptedProof, HasCircuit, IsEvaluable, IsInput}
-use Rattle.gkr_cmd.specs.Runs.{IsReplied, WritesHonestProof, WritesNoMore}
+use Rattle.gkr_cmd.specs.Runs.{IsReplied, WritesHonestProof, WritesNoMore, WritesReplies}
 
 -- What the source and the sink of a run tell at one moment: the bytes that are left and those that
 -- were written, where they tell them, and how often each has failed.
@@ -72,6 +74,12 @@ pub record Headline (run : Run) : Type 0 where
   -- `demo` answers every number with what is told of its case's proof.
   pub demonstrated : (number workers : ℕ) → command_of run.words ≡ Some (Demo number workers)
       → IsReplied run.ended → run.ended ≡ statuses.Done
+  -- `serve` answers every script with the replies of `prove` to its jobs, in the script's order,
+  -- with any number of workers, provers and clients.
+  pub served : (input : List ℕ) (workers provers clients : ℕ) (script : List ScriptJob)
+      → Asks run (Serve workers provers clients) input → script_reading input ≡ Ok script
+      → length input ≤ script_limit → IsReplied run.ended
+      → (run.ended ≡ statuses.Done) × WritesReplies script run.before.written run.after.written
 
 -- ---- the one reply
 
@@ -94,10 +102,11 @@ pub record HasOneReply (run : Run) : Type 0 where
 -- ---- the causes of faults
 
 pub record HasCauses (run : Run) : Type 0 where
-  -- Where a command on a case is named, its input was read to the end or one byte past the limit.
+  -- Where a command on a case or a script is named, its input was read to the end or one byte past
+  -- the limit.
   pub read : ReadsCase (command_of run.words)
       → run.ended ≢ statuses.ReadFault → run.ended ≢ statuses.Memory
-      → IsReadUpTo (case_limit + 1) run.before.left run.after.left
+      → IsReadUpTo (input_limit (command_of run.words) + 1) run.before.left run.after.left
   -- A failure of the source, only where it failed and always there; then nothing is written.
   pub read_fault : run.ended ≡ statuses.ReadFault
       → Rose run.before.read_faults run.after.read_faults

@@ -26,13 +26,14 @@ use Rattle.gkr_cmd.specs.declared.status.Status.TheVariants as statuses
 use Rattle.gkr_cmd.specs.declared.words.CaseCommand.{CaseCommand}
 use Rattle.gkr_cmd.specs.declared.words.CaseCommand.TheVariants as commands
 use Rattle.gkr_cmd.specs.declared.words.Command.{Command}
-use Rattle.gkr_cmd.specs.declared.words.Command.TheVariants.{OfCase, Demo}
-use Rattle.gkr_cmd.specs.Commands.{command_of}
+use Rattle.gkr_cmd.specs.declared.words.Command.TheVariants.{OfCase, Demo, Serve}
+use Rattle.case_prove.specs.Answers.{IsProveAnswer}
+use Rattle.case_text.specs.Served.{Served}
+use Rattle.script_text.specs.declared.script.ScriptJob.{ScriptJob}
+use Rattle.script_text.specs.Scripts.{script_reading}
+use Rattle.script_prove.specs.Served.{AreServed}
+use Rattle.gkr_cmd.specs.Commands.{case_limit, command_of, script_limit}
 use Rattle.gkr_cmd.specs.Demo.{IsDemo}
-
--- the most bytes of a case
-abbrev pub case_limit : ℕ
-case_limit = 4194304
 
 -- The input is no longer than a case may be.
 abbrev pub IsWithinLimit : List ℕ → Type 0
@@ -50,10 +51,10 @@ pub record IsNoCase (form : Form) (input : List ℕ) (bad : BadCase) : Type 0 wh
   pub within : IsWithinLimit input
   pub read : reading form input ≡ Err bad
 
--- The input is longer than a case may be.
-pub record IsTooLong (input : List ℕ) (limit : ℕ) : Type 0 where
-  pub limit_is : limit ≡ case_limit
-  pub longer : case_limit < length input
+-- The input is longer than it may be.
+pub record IsTooLong (most : ℕ) (input : List ℕ) (limit : ℕ) : Type 0 where
+  pub limit_is : limit ≡ most
+  pub longer : most < length input
 
 -- when a reply is what `eval` says of a case
 abbrev pub IsEvalAnswer : Content → Reply → Type 0
@@ -70,15 +71,6 @@ IsCircuitAnswer c (replies.Wide height width) = IsTooLarge c.program (layout.Wid
 IsCircuitAnswer c (replies.InputCount have need) = IsCircuitMiscounted c have need
 IsCircuitAnswer c (replies.Circuit sizes) = IsLaidOut c sizes
 IsCircuitAnswer c reply = ⊥
-
--- when a reply is what `prove` says of a case
-abbrev pub IsProveAnswer : Content → Reply → Type 0
-IsProveAnswer c (replies.Program kind at) = IsRefusedAs c.program at kind
-IsProveAnswer c (replies.Deep levels) = IsTooLarge c.program (layout.Deep levels)
-IsProveAnswer c (replies.Wide height width) = IsTooLarge c.program (layout.Wide height width)
-IsProveAnswer c (replies.InputCount have need) = IsCircuitMiscounted c have need
-IsProveAnswer c (replies.Proved proved) = IsProved c proved
-IsProveAnswer c reply = ⊥
 
 -- when a reply is what `verify` says of a case
 abbrev pub IsVerifyAnswer : Content → Reply → Type 0
@@ -98,7 +90,7 @@ IsVerifyAnswer c reply = ⊥
 -- when a reply is the one of a command that reads a case of this form, and says this of it
 abbrev pub IsCaseReply : Form → (Content → Reply → Type 0) → List ℕ → Reply → Type 0
 IsCaseReply form answers input replies.Usage = ⊥
-IsCaseReply form answers input (replies.TooLong limit) = IsTooLong input limit
+IsCaseReply form answers input (replies.TooLong limit) = IsTooLong case_limit input limit
 IsCaseReply form answers input (replies.Case bad) = IsNoCase form input bad
 IsCaseReply form answers input reply = IsOfCase form input (λ c. answers c reply)
 
@@ -121,12 +113,32 @@ abbrev pub IsDemoAnswer : ℕ → Reply → Type 0
 IsDemoAnswer number (replies.Demo summary) = IsDemo number summary
 IsDemoAnswer number reply = ⊥
 
+-- The input is within the limit and no script's text, for this reason at this place.
+pub record IsNoScript (input : List ℕ) (bad : BadCase) : Type 0 where
+  pub within : length input ≤ script_limit
+  pub read : script_reading input ≡ Err bad
+
+-- The input is a script's text, and these are the replies of `prove` to its jobs, in its order.
+pub record IsServedScript (input : List ℕ) (served : List Served) : Type 0 where
+  pub within : length input ≤ script_limit
+  pub script : List ScriptJob
+  pub read : script_reading input ≡ Ok script
+  pub replies : AreServed script served
+
+-- when a reply is the one of `serve`
+abbrev pub IsScriptReply : List ℕ → Reply → Type 0
+IsScriptReply input (replies.TooLong limit) = IsTooLong script_limit input limit
+IsScriptReply input (replies.Case bad) = IsNoScript input bad
+IsScriptReply input (replies.Served served) = IsServedScript input served
+IsScriptReply input reply = ⊥
+
 -- when a reply is the one of a command, or of words that name none
 abbrev pub IsCommandReply : Option Command → List ℕ → Reply → Type 0
 IsCommandReply None input reply = reply ≡ replies.Usage
 IsCommandReply (Some (OfCase command)) input reply = IsCaseReply (form_of command)
     (IsAnswer command) input reply
 IsCommandReply (Some (Demo number workers)) input reply = IsDemoAnswer number reply
+IsCommandReply (Some (Serve workers provers clients)) input reply = IsScriptReply input reply
 
 -- The reply to the words, and to the input of the command that they name.
 abbrev pub IsReply : List (List ℕ) → List ℕ → Reply → Type 0

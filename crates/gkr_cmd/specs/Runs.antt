@@ -10,12 +10,15 @@ use Rattle.case_prove.specs.Proved.{IsProved}
 use Rattle.case_prove.specs.Verified.{IsVerdictOn}
 use Rattle.gkr_layers.specs.declared.verdict.Verdict.TheVariants.{Accepted}
 use Rattle.case_text.specs.Content.{Content}
-use Rattle.case_text.specs.Replies.{reply_text}
+use Rattle.case_text.specs.Replies.{reply_text, served_text}
+use Rattle.case_text.specs.Served.{Served}
+use Rattle.script_text.specs.declared.script.ScriptJob.{ScriptJob}
+use Rattle.script_prove.specs.Served.{AreServed}
 use Rattle.case_text.specs.Spelling.{lower_case_text}
 use Rattle.case_text.specs.declared.form.Form.TheVariants.{Full}
 use Rattle.case_text.specs.declared.reply.Reply.{Reply}
 use Rattle.gkr_cmd.specs.declared.words.Command.{Command}
-use Rattle.gkr_cmd.specs.declared.words.Command.TheVariants.{OfCase, Demo}
+use Rattle.gkr_cmd.specs.declared.words.Command.TheVariants.{OfCase, Demo, Serve}
 use Rattle.gkr_cmd.specs.declared.status.Status.{Status}
 use Rattle.gkr_cmd.specs.declared.status.Status.TheVariants as statuses
 use Rattle.gkr_cmd.specs.Replies.{IsOfCase, IsReply, status_of}
@@ -27,6 +30,7 @@ abbrev pub IsInput : Option Command → Option (List ℕ) → List ℕ → Type 
 IsInput None left input = ⊤
 IsInput (Some (OfCase command)) left input = left ≡ Some input
 IsInput (Some (Demo number workers)) left input = ⊤
+IsInput (Some (Serve workers provers clients)) left input = left ≡ Some input
 
 -- A run that wrote its reply whole.
 abbrev pub IsReplied : Status → Type 0
@@ -81,3 +85,9 @@ pub record WritesHonestProof (c : Content) (before after : Option (List ℕ)) : 
   pub is_proved : IsProved c proved
   pub written : Grows before after (lower_case_text proved)
   pub accepted : IsOfCase Full (lower_case_text proved) HasAcceptedProof
+
+-- The run wrote the replies of `prove` to these jobs, in their order, and the line on all of them.
+pub record WritesReplies (script : List ScriptJob) (before after : Option (List ℕ)) : Type 0 where
+  pub served : List Served
+  pub replies : AreServed script served
+  pub written : Grows before after (served_text served)

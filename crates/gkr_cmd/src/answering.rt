@@ -5,7 +5,8 @@ ghost use Rattle.case_text.specs.Forms.{Allows};
 ghost use Rattle.case_text.specs.declared.form.Form.TheVariants.{Full};
 ghost use Rattle.phase_run.specs.Work.{IsWorkerCount};
 ghost use Rattle.gkr_cmd.specs.Commands.{HasWorkers};
-ghost use Rattle.gkr_cmd.specs.Replies.{form_of, IsAnswer, IsCaseReply, IsCircuitAnswer, IsEvalAnswer, IsProveAnswer, IsVerifyAnswer, IsWithinLimit, refused_reply, verdict_reply};
+ghost use Rattle.gkr_cmd.specs.Replies.{form_of, IsAnswer, IsCaseReply, IsCircuitAnswer, IsEvalAnswer, IsVerifyAnswer, IsWithinLimit, refused_reply, verdict_reply};
+ghost use Rattle.case_prove.specs.Answers.{IsProveAnswer};
 
 use crate::reply_error::ReplyError;
 use crate::words::{CaseCommand, Command};

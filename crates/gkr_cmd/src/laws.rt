@@ -4,7 +4,8 @@ ghost use Rattle.std.specs.Prelude.{◌≡◌, ◌≢◌, ◌<◌, ◌≤◌, �
 ghost use Rattle.case_text.specs.declared.form.Form.TheVariants.{Full, Plain};
 ghost use Rattle.case_text.specs.declared.reply.Reply.{Reply};
 ghost use Rattle.gkr_cmd.specs.declared.status.Status.TheVariants.{Done};
-ghost use Rattle.gkr_cmd.specs.Replies.{IsCaseReply, IsCircuitAnswer, IsDemoAnswer, IsEvalAnswer, IsProveAnswer, IsVerifyAnswer, IsOfCase, IsReply, status_of};
+ghost use Rattle.gkr_cmd.specs.Replies.{IsCaseReply, IsCircuitAnswer, IsDemoAnswer, IsEvalAnswer, IsVerifyAnswer, IsOfCase, IsReply, status_of};
+ghost use Rattle.case_prove.specs.Answers.{IsProveAnswer};
 ghost use Rattle.gkr_cmd.specs.Runs.{HasAcceptedProof, HasCircuit, IsEvaluable};
 ghost use Rattle.gkr_cmd.specs.Commands.{command_of, number_of};
 ghost use Rattle.gkr_cmd.specs.Demo.{demo_case};
@@ -24,7 +25,8 @@ pub fn number_by_decimal()
         → (number_of word ≡ Some n) ↔ ((n < 2 ^ 32) × (word ≡ decimal n)) }
 {}
 
-/// A subcommand's name by itself names that command; `prove` then means one worker.
+/// A subcommand's name by itself names that command; `prove` then means one worker, and `serve` one
+/// of each.
 pub fn words_alone()
     ensures eval { (program : List ℕ)
         → command_of (program ∷ codes "eval" ∷ []) ≡ Some (Command.OfCase CaseCommand.Eval) }
@@ -34,6 +36,8 @@ pub fn words_alone()
         → command_of (program ∷ codes "prove" ∷ []) ≡ Some (Command.OfCase (CaseCommand.Prove 1)) }
     ensures verify { (program : List ℕ)
         → command_of (program ∷ codes "verify" ∷ []) ≡ Some (Command.OfCase CaseCommand.Verify) }
+    ensures serve { (program : List ℕ)
+        → command_of (program ∷ codes "serve" ∷ []) ≡ Some (Command.Serve 1 1 1) }
 {}
 
 /// `prove --workers W` and `demo N --workers W` name these commands for each W from 1 to 64 and
@@ -55,7 +59,7 @@ pub fn other_words()
     ensures own_name { (program : List ℕ) → command_of (program ∷ []) ≡ None }
     ensures other { (program word : List ℕ) (rest : List (List ℕ)) → word ≢ codes "eval"
         → word ≢ codes "circuit" → word ≢ codes "prove" → word ≢ codes "verify"
-        → word ≢ codes "demo"
+        → word ≢ codes "demo" → word ≢ codes "serve"
         → command_of (program ∷ word ∷ rest) ≡ None }
 {}
 

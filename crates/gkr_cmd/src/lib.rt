@@ -19,6 +19,7 @@ mod program;
 mod reply_error;
 mod replying;
 mod run;
+mod serving;
 mod status;
 mod words;
 

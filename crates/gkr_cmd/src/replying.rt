@@ -2,21 +2,24 @@
 
 ghost use Rattle.std.specs.Prelude.{◌≡◌, ◌≢◌, ◌↔◌, ◌+◌, List, ℕ, map, IfOk, OnOk, IsErrOf, None, Some, Ok, Err, string_bytes};
 ghost use Rattle.io_edge.specs.Causes.{Rose};
-ghost use Rattle.gkr_cmd.specs.Commands.{HasWorkers, ReadsCase, command_of};
+ghost use Rattle.gkr_cmd.specs.Commands.{HasWorkers, case_limit, input_limit, ReadsCase, command_of};
 ghost use Rattle.gkr_cmd.specs.Reached.{IsReadUpTo};
-ghost use Rattle.gkr_cmd.specs.Replies.{case_limit, IsCommandReply, IsReply, status_of};
+ghost use Rattle.gkr_cmd.specs.Replies.{IsCommandReply, IsReply, status_of};
 ghost use Rattle.gkr_cmd.specs.Runs.{IsInput};
 
 use crate::answering::answer;
 use crate::demo::demo;
 use crate::input::read_input;
 use crate::reply_error::ReplyError;
+use crate::serving::serve;
 use crate::status::Status;
 use crate::words::{CaseCommand, Command, named_command};
 use case_text::Reply;
 use io_edge::{Gate, Source};
+use script_prove::Threading;
 use std::alloc::Global;
 use std::marker::Sync;
+use std::sync::Wait;
 use std::thread::Threads;
 
 /// The most bytes of a case.
@@ -49,7 +52,7 @@ fn run_command<R: Threads + Sync, S: Source, G: Gate>(
 }
 
 /// The reply to the words, and to what their command reads.
-pub fn make_reply<R: Threads + Sync, S: Source, G: Gate>(
+pub fn make_reply<R: Threads + Wait + Sync, S: Source, G: Gate>(
     rt: &R,
     alloc: Global,
     words: &[String],
@@ -62,7 +65,8 @@ pub fn make_reply<R: Threads + Sync, S: Source, G: Gate>(
     ensures usage { IfOk result (λ reply. (status_of reply ≡ Status.Usage)
         ↔ (command_of (map string_bytes words.now) ≡ None)) }
     ensures read { ReadsCase (command_of (map string_bytes words.now))
-        → OnOk result (IsReadUpTo (case_limit + 1) (S.left source.old) (S.left source.new)) }
+        → OnOk result (IsReadUpTo (input_limit (command_of (map string_bytes words.now)) + 1)
+        (S.left source.old) (S.left source.new)) }
     ensures unread { ¬ ReadsCase (command_of (map string_bytes words.now))
         → source.new ≡ source.old }
     ensures fault { IsErrOf result ReplyError.ReadFault
@@ -74,5 +78,19 @@ pub fn make_reply<R: Threads + Sync, S: Source, G: Gate>(
         None => Ok(Reply::Usage),
         Some(Command::OfCase(command)) => run_command(rt, alloc, command, source, gate),
         Some(Command::Demo { number, workers }) => demo(rt, alloc, number, workers, gate),
+        Some(
+            Command::Serve {
+                workers,
+                provers,
+                clients,
+            },
+        ) => {
+            let threading = Threading {
+                workers,
+                provers,
+                clients,
+            };
+            serve(rt, alloc, threading, source, gate)
+        }
     }
 }

@@ -1,5 +1,5 @@
 use Rattle.case_text.specs.declared.form.Form.TheVariants.{Plain}
-use Rattle.gkr_cmd.specs.Replies.{IsProveAnswer}
+use Rattle.case_prove.specs.Answers.{IsProveAnswer}
 use Rattle.gkr_cmd.specs.Runs.{HasCircuit}
 use Rattle.gkr_cmd.proofs.ProveAnswers.{prove_done}
 use Rattle.gkr_cmd.proofs.OneReply.{done}

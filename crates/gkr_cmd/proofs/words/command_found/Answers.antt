@@ -1,10 +1,10 @@
-use Rattle.std.proofs.Common.{◌∙◌, ap, ap₂, sym, codes}
+use Rattle.std.proofs.Common.{◌∙◌, ap, sym, codes}
 use Rattle.std.specs.Prelude.{option_and_then}
 use Rattle.clap.specs.Words.{found_of, rows_of}
 use Rattle.clap.specs.declared.parser.matches.ArgMatches.TheViews.{out-ArgMatches}
 use Rattle.clap.proofs.WalkLemmas.{first_value-rows}
 use Rattle.gkr_cmd.specs.Commands.{command_named, command_of_rows}
-use Rattle.gkr_cmd.proofs.WordsRead.{entered_is}
+use Rattle.gkr_cmd.proofs.WordsRead.{entered_is, same_named}
 use Rattle.gkr_cmd.proofs.words.command_found.Goals as goal
 
 pub returns : goal.returns
@@ -12,5 +12,6 @@ returns c =
     let found = found_of c.in_ok-name.arguments.now in
     let entered = entered_is (out-ArgMatches c.args.matches.now).subcommand c.in_ok-name.name.now (rows_of found) c.in_ok-name.ensures.name c.in_ok-name.ensures.rows in
     c.command_named.ensures
-    ∙ (ap₂ (command_named c.in_ok-name.name.now) (c.get_str.ensures ∙ first_value-rows found (codes "number")) (c.get_str-2.ensures ∙ first_value-rows found (codes "workers"))
+    ∙ (same_named c.in_ok-name.name.now (c.get_str.ensures ∙ first_value-rows found (codes "number")) (c.get_str-2.ensures ∙ first_value-rows found (codes "workers"))
+    (c.get_str-3.ensures ∙ first_value-rows found (codes "provers")) (c.get_str-4.ensures ∙ first_value-rows found (codes "clients"))
     ∙ sym (ap (option_and_then command_of_rows) entered))
