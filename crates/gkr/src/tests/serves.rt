@@ -1,6 +1,13 @@
 //! The command `serve` over inputs in memory, by status and bytes.
 
 use super::*;
+use std::sync::atomic::{AtomicU64, Ordering};
+
+/// The most bytes that are written here, and how many a write takes.
+const ROOM: Room = Room {
+    most: 65_536,
+    piece: 4096,
+};
 
 // How many workers, provers and clients there are.
 const COUNTS: [&str; 4] = ["1", "2", "3", "64"];
@@ -82,73 +89,203 @@ fn serves_a_script_by_any_threads(rt: HostRuntime) -> Result<(), Fail> {
     Ok(())
 }
 
-/// A script that is refused, and how.
+/// A script, the words, and what the program answers.
 #[derive(Clone, Copy)]
-struct BadScript {
+struct Served {
     text: &'static [u8],
+    words: &'static [&'static str],
+    status: Status,
     reply: &'static [u8],
 }
 
+const fn bad(text: &'static [u8], reply: &'static [u8]) -> Served {
+    Served {
+        text,
+        words: &["gkr", "serve"],
+        status: Status::BadCase,
+        reply,
+    }
+}
+
+const fn unasked(words: &'static [&'static str]) -> Served {
+    Served {
+        text: b"done\n",
+        words,
+        status: Status::Usage,
+        reply: b"refused usage\n",
+    }
+}
+
+const fn empty(words: &'static [&'static str]) -> Served {
+    Served {
+        text: b"done\n",
+        words,
+        status: Status::Done,
+        reply: b"jobs 0 proved 0 refused 0\n",
+    }
+}
+
+/// Runs the program with these words, and sees how it ends and what it writes.
+fn answers<R: Threads + Wait + Sync + Abort + AllocGlobal, G: Gate>(
+    rt: &R,
+    words: &[&str],
+    text: &[u8],
+    gate: &G,
+    status: Status,
+    reply: &[u8],
+) -> Result<(), Fail> {
+    let (found, written) = ended_by(rt, words, &Ends::steady(text), ROOM, gate)?;
+    assert_eq!(rt; found, status);
+    assert_eq!(rt; written.as_slice(), reply);
+    Ok(())
+}
+
 #[test]
-fn refuses_what_is_no_script(rt: HostRuntime) -> Result<(), Fail> {
+fn answers_small_scripts(rt: HostRuntime) -> Result<(), Fail> {
     let rows = [
-        BadScript {
-            text: b"",
-            reply: b"refused case end 0\n",
-        },
-        BadScript {
-            text: b"done",
-            reply: b"refused case end 4\n",
-        },
-        BadScript {
-            text: b"done\n\n",
-            reply: b"refused case rest 5\n",
-        },
-        BadScript {
-            text: b"client 0\n",
-            reply: b"refused case length 7\n",
-        },
-        BadScript {
-            text: b"client 01\n",
-            reply: b"refused case length 7\n",
-        },
-        BadScript {
-            text: b"client 65\n",
-            reply: b"refused case length 8\n",
-        },
-        BadScript {
-            text: b"client 1\ndone\n",
-            reply: b"refused case header 9\n",
-        },
+        empty(&["gkr", "serve"]),
+        empty(&["gkr", "serve", "--provers", "64", "--clients", "64"]),
+        unasked(&["gkr", "serve", "--workers", "0"]),
+        unasked(&["gkr", "serve", "--provers", "0"]),
+        unasked(&["gkr", "serve", "--clients", "65"]),
+        unasked(&["gkr", "serve", "--clients", "01"]),
+        bad(b"", b"refused case end 0\n"),
+        bad(b"done", b"refused case end 4\n"),
+        bad(b"done\n\n", b"refused case rest 5\n"),
+        bad(b"client 0\n", b"refused case length 7\n"),
+        bad(b"client 01\n", b"refused case length 7\n"),
+        bad(b"client 65\n", b"refused case length 8\n"),
+        bad(b"client 1\ndone\n", b"refused case header 9\n"),
+        bad(b"client 1\n", b"refused case end 9\n"),
     ];
     for row in rows {
-        sees(
+        answers(&rt, row.words, row.text, &OpenGate, row.status, row.reply)?;
+    }
+    Ok(())
+}
+
+#[test]
+fn refuses_each_front_of_a_script(rt: HostRuntime) -> Result<(), Fail> {
+    let text = script(rt.alloc())?;
+    for length in 0..text.len() {
+        let reply = format!(in rt.alloc(); "refused case end {}\n", length)?;
+        let status = Status::BadCase;
+        answers(
             &rt,
             &["gkr", "serve"],
-            &Ends::steady(row.text),
-            Status::BadCase,
-            row.reply,
+            &text[..length],
+            &OpenGate,
+            status,
+            reply.as_bytes(),
         )?;
     }
-    sees(
+    Ok(())
+}
+
+/// So many jobs of one client, all of them refused, and the last line.
+fn refused_jobs(alloc: Global, count: u32) -> Result<Vec<u8>, AllocError> {
+    let mut out = Vec::new(alloc);
+    for _ in 0..count {
+        out.extend_from_slice(REFUSED)?;
+    }
+    out.extend_from_slice(b"done\n")?;
+    Ok(out)
+}
+
+#[test]
+fn serves_as_many_jobs_as_a_script_may_have(rt: HostRuntime) -> Result<(), Fail> {
+    let alloc = rt.alloc();
+    let mut want = Vec::new(alloc);
+    for _ in 0..256 {
+        want.extend_from_slice(b"client 2\nrefused program unknown 7\n")?;
+    }
+    want.extend_from_slice(b"jobs 256 proved 0 refused 256\n")?;
+    let most = refused_jobs(alloc, 256)?;
+    for option in ["--workers", "--provers", "--clients"] {
+        let words = ["gkr", "serve", option, "3"];
+        answers(&rt, &words, &most, &OpenGate, Status::Done, &want)?;
+    }
+    let more = refused_jobs(alloc, 257)?;
+    let reply = b"refused case section 13312\n";
+    answers(
         &rt,
         &["gkr", "serve"],
-        &Ends::steady(b"done\n"),
-        Status::Done,
-        b"jobs 0 proved 0 refused 0\n",
-    )?;
-    sees(
-        &rt,
-        &["gkr", "serve", "--provers", "0"],
-        &Ends::steady(b"done\n"),
-        Status::Usage,
-        b"refused usage\n",
-    )?;
-    sees(
-        &rt,
-        &["gkr", "serve", "--clients", "65"],
-        &Ends::steady(b"done\n"),
-        Status::Usage,
-        b"refused usage\n",
+        &more,
+        &OpenGate,
+        Status::BadCase,
+        reply,
     )
+}
+
+#[test]
+fn reads_no_longer_script(rt: HostRuntime) -> Result<(), Fail> {
+    let long = vec![in rt.alloc(); b'd'; 16_777_217]?;
+    let reply = b"refused long 16777216\n";
+    answers(
+        &rt,
+        &["gkr", "serve"],
+        &long,
+        &OpenGate,
+        Status::TooLong,
+        reply,
+    )?;
+    let reply = b"refused case section 1\n";
+    answers(
+        &rt,
+        &["gkr", "serve"],
+        &long[1..],
+        &OpenGate,
+        Status::BadCase,
+        reply,
+    )
+}
+
+/// Holds the first entry until a second, for at most 10,000,000 turns, and then raises its mark.
+#[derive(Drop)]
+struct FirstHeld {
+    entries: AtomicU64,
+    raised: AtomicU64,
+}
+
+impl Gate for FirstHeld {
+    fn enter(&self, _worker: u32, _piece: u32) {
+        if self.entries.fetch_add(1, Ordering::SeqCst) > 0 {
+            return;
+        }
+        for _ in 0..10_000_000 {
+            if self.entries.load(Ordering::SeqCst) > 1 {
+                return;
+            }
+        }
+        self.raised.store(1, Ordering::SeqCst);
+    }
+}
+
+/// Two clients are at work at one time.
+#[test]
+fn serves_two_beside_each_other(rt: HostRuntime) -> Result<(), Fail> {
+    let alloc = rt.alloc();
+    let mut text = Vec::new(alloc);
+    put_job(&mut text, b"client 1\n", FIRST)?;
+    put_job(&mut text, b"client 2\n", FIRST)?;
+    text.extend_from_slice(b"done\n")?;
+    let mut want = Vec::new(alloc);
+    put_proved(&mut want, b"client 1\n", FIRST, b"proof 68\n", 64)?;
+    put_proved(&mut want, b"client 2\n", FIRST, b"proof 68\n", 64)?;
+    want.extend_from_slice(b"jobs 2 proved 2 refused 0\n")?;
+    let gate = FirstHeld {
+        entries: AtomicU64::new(0),
+        raised: AtomicU64::new(0),
+    };
+    answers(
+        &rt,
+        &["gkr", "serve", "--clients", "2"],
+        &text,
+        &gate,
+        Status::Done,
+        &want,
+    )?;
+    assert!(rt; gate.entries.load(Ordering::SeqCst) >= 2);
+    assert_eq!(rt; gate.raised.load(Ordering::SeqCst), 0);
+    Ok(())
 }
