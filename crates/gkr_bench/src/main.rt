@@ -8,7 +8,7 @@
 //! many rows of 1,000 elements. `gkr_bench carried LEVELS`: the same of 60,000 values carried over so many layers.
 //! `gkr_bench layer K`: all rounds of one layer of `2^K` random gates, its line, and the verifier's wiring polynomials,
 //! beside plain loops that prove as many rounds. `gkr_bench workers K`: all rounds of such a layer with one, two, three and
-//! four workers in turn.
+//! four workers in turn. `gkr_bench turns N`: so many turns of the lock of the job table, where no other thread waits.
 #![tactic(auto)]
 
 mod circuits;
@@ -17,12 +17,13 @@ mod plain_layer;
 mod programs;
 mod proving;
 mod texts;
+mod turns;
 mod workers;
 
 use std::{env, io};
 
 const USAGE: &str =
-    "gkr_bench matmul N | steps N | names KIB | fold K | case KIB | proof N | wide ROWS | carried LEVELS | layer K | workers K";
+    "gkr_bench matmul N | steps N | names KIB | fold K | case KIB | proof N | wide ROWS | carried LEVELS | layer K | workers K | turns N";
 
 fn main(rt: HostRuntime) -> io::Result<()> {
     let alloc = rt.alloc();
@@ -55,6 +56,9 @@ fn main(rt: HostRuntime) -> io::Result<()> {
             }
             if kind.as_str() == "workers" {
                 return workers::layer(&rt, &rt, size);
+            }
+            if kind.as_str() == "turns" {
+                return turns::turns(&rt, &rt, size);
             }
             let text = match kind.as_str() {
                 "matmul" => programs::matrix_product(alloc, size)?,
