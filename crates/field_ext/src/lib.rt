@@ -15,8 +15,6 @@
 mod ext;
 mod fp;
 pub mod laws;
-#[cfg(test)]
-mod tests;
 
 pub use ext::Ext;
 pub use fp::{Fp, PRIME};

@@ -26,8 +26,6 @@ mod std_sink;
 mod std_source;
 mod steady_sink;
 mod steady_source;
-#[cfg(test)]
-mod tests;
 
 pub use failed::Failed;
 pub use gate::{Gate, OpenGate};

@@ -16,8 +16,6 @@
 mod equality;
 pub mod laws;
 mod table;
-#[cfg(test)]
-mod tests;
 mod values;
 
 pub use equality::fill_equality;

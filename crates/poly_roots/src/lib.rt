@@ -15,8 +15,6 @@
 pub mod laws;
 mod poly;
 mod product;
-#[cfg(test)]
-mod tests;
 mod value;
 
 pub use poly::Poly;

@@ -18,8 +18,6 @@ pub mod laws;
 mod length;
 mod messages;
 mod refused;
-#[cfg(test)]
-mod tests;
 
 pub use decoding::decode;
 pub use encoding::encode;

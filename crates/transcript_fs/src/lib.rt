@@ -19,8 +19,6 @@ mod given;
 pub mod laws;
 mod point;
 mod statement;
-#[cfg(test)]
-mod tests;
 mod transcript;
 
 pub use challenges::Challenges;

@@ -1,4 +1,9 @@
-use super::*;
+//! Sources and sinks over std and in memory, with calls that fail.
+
+use io_edge::{
+    Failed, Gate, MemorySink, MemorySource, OpenGate, Sink, Source, StdSink, StdSource, SteadySink,
+    SteadySource,
+};
 use std::io;
 use std::io::{Read, Write};
 use std::test::Fail;

@@ -1,29 +1,25 @@
-use crate::Poly;
-use field_ext::{Ext, Fp};
+//! Polynomials by hand.
+
+use crate::numbers::{P, element, number};
+use poly_roots::Poly;
 use std::alloc::{AllocError, Global};
 
 // The polynomial with these coefficients, modulo the prime.
 fn poly(alloc: Global, numbers: &[u64]) -> Result<Poly, AllocError> {
     let mut coefficients = Vec::new(alloc);
     for n in numbers {
-        coefficients.push(Ext::embed(Fp::reduce(*n)))?;
+        coefficients.push(number(*n))?;
     }
     Ok(Poly::of_coeffs(coefficients))
 }
 
-fn k(n: u64) -> Ext {
-    Ext::embed(Fp::reduce(n))
-}
-
-const P: u64 = 2147483647;
-
 #[test]
 fn evaluates_by_hand(rt: HostRuntime) -> Result<(), AllocError> {
     let p = poly(rt.alloc(), &[1, 2, 3])?;
-    assert!(rt; p.value_at(k(2)) == k(17));
-    assert!(rt; p.sum01() == k(7));
+    assert!(rt; p.value_at(number(2)) == number(17));
+    assert!(rt; p.sum01() == number(7));
     let none = poly(rt.alloc(), &[])?;
-    assert!(rt; none.value_at(k(5)) == k(0) && none.sum01() == k(0));
+    assert!(rt; none.value_at(number(5)) == number(0) && none.sum01() == number(0));
     Ok(())
 }
 
@@ -31,19 +27,14 @@ fn evaluates_by_hand(rt: HostRuntime) -> Result<(), AllocError> {
 fn adds_and_multiplies_by_hand(rt: HostRuntime) -> Result<(), AllocError> {
     let alloc = rt.alloc();
     let product = poly(alloc, &[1, 1])?.mul(alloc, &poly(alloc, &[1, P - 1])?)?;
-    assert!(rt; product.coefficients() == [k(1), k(0), k(P - 1)].as_slice());
+    assert!(rt; product.coefficients() == [number(1), number(0), number(P - 1)].as_slice());
     let sum = poly(alloc, &[1, 2])?.add(alloc, &poly(alloc, &[3, 4])?)?;
-    assert!(rt; sum.coefficients() == [k(4), k(6)].as_slice());
+    assert!(rt; sum.coefficients() == [number(4), number(6)].as_slice());
     let longer = poly(alloc, &[5])?.add(alloc, &poly(alloc, &[1, 2, 3])?)?;
-    assert!(rt; longer.coefficients() == [k(6), k(2), k(3)].as_slice());
+    assert!(rt; longer.coefficients() == [number(6), number(2), number(3)].as_slice());
     let nothing = poly(alloc, &[])?.mul(alloc, &poly(alloc, &[1, 2])?)?;
     assert!(rt; nothing.coefficients().len() == 0);
     Ok(())
-}
-
-// The element `re + im i` of numbers modulo the prime.
-fn element(re: u64, im: u64) -> Ext {
-    Ext::of(Fp::reduce(re), Fp::reduce(im))
 }
 
 #[test]

@@ -1,6 +1,10 @@
-use super::*;
+//! A worked proof as bytes, and the bytes that are none.
+
+use crate::numbers::number;
 use circuit_core::Shape;
-use field_ext::{Ext, Fp};
+use proof_wire::{
+    BadProof, LayerMessages, Messages, ProofRefused, Round, decode, encode, proof_len,
+};
 use std::alloc::{AllocError, Global};
 use std::test::Fail;
 
@@ -10,20 +14,16 @@ const PROOF: [u8; 68] = *b"GKR1\
 \x78\0\0\0\0\0\0\0\xaf\xff\xff\x7f\0\0\0\0\xd7\xff\xff\x7f\0\0\0\0\
 \x0f\0\0\0\0\0\0\0\x05\0\0\0\0\0\0\0";
 
-fn real(value: u64) -> Ext {
-    Ext::of(Fp::reduce(value), Fp::zero())
-}
-
 /// The rounds (0, -5, 15) and (120, -80, -40), and the line (15, 5).
 fn messages(alloc: Global) -> Result<Messages, AllocError> {
     let rounds = [
-        Round::of([real(0), real(2_147_483_642), real(15)]),
-        Round::of([real(120), real(2_147_483_567), real(2_147_483_607)]),
+        Round::of([number(0), number(2_147_483_642), number(15)]),
+        Round::of([number(120), number(2_147_483_567), number(2_147_483_607)]),
     ];
     let mut layers = Vec::new(alloc);
     layers.push(LayerMessages {
         rounds: Vec::from_slice(alloc, &rounds)?,
-        line: Vec::from_slice(alloc, &[real(15), real(5)])?,
+        line: Vec::from_slice(alloc, &[number(15), number(5)])?,
     })?;
     Ok(Messages { layers })
 }

@@ -1,17 +1,14 @@
-use crate::Table;
-use field_ext::{Ext, Fp};
+//! Tables and their extensions by hand.
+
+use crate::numbers::{P, number};
+use field_ext::Ext;
+use mle_table::Table;
 use std::alloc::{AllocError, Global};
-
-const P: u64 = 2147483647;
-
-fn k(n: u64) -> Ext {
-    Ext::embed(Fp::reduce(n))
-}
 
 fn elements(alloc: Global, numbers: &[u64]) -> Result<Vec<Ext>, AllocError> {
     let mut values = Vec::new(alloc);
     for n in numbers {
-        values.push(k(*n))?;
+        values.push(number(*n))?;
     }
     Ok(values)
 }
@@ -24,11 +21,11 @@ fn folds_and_evaluates_by_hand(rt: HostRuntime) -> Result<(), AllocError> {
             assert_eq!(rt; table.k(), 2);
             let mut room = [Ext::zero(); 2];
             if table.k() == 2 {
-                assert!(rt; table.eval_at(alloc, &[k(5), k(7)])? == k(20));
-                table.fold_into(k(5), &mut room);
-                assert!(rt; room == [k(6), k(8)]);
-                table.fold(k(5));
-                assert!(rt; table.at(0) == k(6) && table.at(1) == k(8));
+                assert!(rt; table.eval_at(alloc, &[number(5), number(7)])? == number(20));
+                table.fold_into(number(5), &mut room);
+                assert!(rt; room == [number(6), number(8)]);
+                table.fold(number(5));
+                assert!(rt; table.at(0) == number(6) && table.at(1) == number(8));
             }
         }
         Err(_) => assert!(rt; false, "four values are a table"),
@@ -38,9 +35,9 @@ fn folds_and_evaluates_by_hand(rt: HostRuntime) -> Result<(), AllocError> {
 
 #[test]
 fn lists_the_equality_polynomial(rt: HostRuntime) -> Result<(), AllocError> {
-    let table = Table::eq_table(rt.alloc(), &[k(2), k(3)])?;
-    assert!(rt; table.at(0) == k(2) && table.at(1) == k(P - 4));
-    assert!(rt; table.at(2) == k(P - 3) && table.at(3) == k(6));
+    let table = Table::eq_table(rt.alloc(), &[number(2), number(3)])?;
+    assert!(rt; table.at(0) == number(2) && table.at(1) == number(P - 4));
+    assert!(rt; table.at(2) == number(P - 3) && table.at(3) == number(6));
     Ok(())
 }
 
@@ -48,7 +45,9 @@ fn lists_the_equality_polynomial(rt: HostRuntime) -> Result<(), AllocError> {
 fn refuses_three_values(rt: HostRuntime) -> Result<(), AllocError> {
     match Table::of_values(elements(rt.alloc(), &[1, 2, 3])?) {
         Ok(_) => assert!(rt; false, "three values are no table"),
-        Err(refused) => assert!(rt; refused.values.as_slice() == [k(1), k(2), k(3)].as_slice()),
+        Err(refused) => assert!(rt;
+            refused.values.as_slice() == [number(1), number(2), number(3)].as_slice()
+        ),
     }
     Ok(())
 }

@@ -1,11 +1,7 @@
-use crate::{Ext, Fp};
+//! The operations of the field by hand, and its elements as bytes.
 
-// The element `re + im i` of numbers modulo the prime.
-fn k(re: u64, im: u64) -> Ext {
-    Ext::of(Fp::reduce(re), Fp::reduce(im))
-}
-
-const P: u64 = 2147483647;
+use crate::numbers::{P, element};
+use field_ext::{Ext, Fp};
 
 #[test]
 fn multiplies_by_hand(rt: HostRuntime) {
@@ -25,11 +21,11 @@ fn multiplies_by_hand(rt: HostRuntime) {
     ];
     for ((a, b), (c, d), (re, im)) in rows {
         assert!(rt;
-            k(a, b).mul(k(c, d)) == k(re, im),
+            element(a, b).mul(element(c, d)) == element(re, im),
             "({a} + {b}i)({c} + {d}i)"
         );
         assert!(rt;
-            k(c, d).mul(k(a, b)).equals(k(re, im)),
+            element(c, d).mul(element(a, b)).equals(element(re, im)),
             "({c} + {d}i)({a} + {b}i)"
         );
     }
@@ -45,17 +41,17 @@ fn adds_and_subtracts_by_hand(rt: HostRuntime) {
         ((5, 0), (0, 5), (5, 5), (5, P - 5)),
     ];
     for ((a, b), (c, d), (re, im), (less_re, less_im)) in rows {
-        let (x, y) = (k(a, b), k(c, d));
-        assert!(rt; x.add(y) == k(re, im), "({a} + {b}i) + ({c} + {d}i)");
+        let (x, y) = (element(a, b), element(c, d));
+        assert!(rt; x.add(y) == element(re, im), "({a} + {b}i) + ({c} + {d}i)");
         assert!(rt;
-            x.sub(y) == k(less_re, less_im),
+            x.sub(y) == element(less_re, less_im),
             "({a} + {b}i) - ({c} + {d}i)"
         );
         assert!(rt; x.add(y.neg()) == x.sub(y), "({a} + {b}i) + -({c} + {d}i)");
     }
-    assert!(rt; Ext::embed(Fp::reduce(7)) == k(7, 0));
-    assert!(rt; Ext::zero() == k(0, 0) && Ext::one() == k(1, 0));
-    assert!(rt; !k(7, 0).equals(k(7, 1)) && !k(7, 0).equals(k(8, 0)));
+    assert!(rt; Ext::embed(Fp::reduce(7)) == element(7, 0));
+    assert!(rt; Ext::zero() == element(0, 0) && Ext::one() == element(1, 0));
+    assert!(rt; !element(7, 0).equals(element(7, 1)) && !element(7, 0).equals(element(8, 0)));
 }
 
 #[test]
@@ -79,15 +75,18 @@ fn reduces_numbers_of_64_bits(rt: HostRuntime) {
 
 #[test]
 fn writes_and_reads_eight_bytes(rt: HostRuntime) {
-    let product = k(1, 2).mul(k(3, 4));
+    let product = element(1, 2).mul(element(3, 4));
     assert_eq!(rt; product.to_bytes(), [0xfa, 0xff, 0xff, 0x7f, 0x0a, 0, 0, 0]);
     let rows = [
         ([0xfa, 0xff, 0xff, 0x7f, 0x0a, 0, 0, 0], Some(product)),
         ([0, 0, 0, 0, 0, 0, 0, 0], Some(Ext::zero())),
-        ([1, 2, 3, 4, 5, 6, 7, 8], Some(k(0x04030201, 0x08070605))),
+        (
+            [1, 2, 3, 4, 5, 6, 7, 8],
+            Some(element(0x04030201, 0x08070605)),
+        ),
         (
             [0xfe, 0xff, 0xff, 0x7f, 0xfe, 0xff, 0xff, 0x7f],
-            Some(k(P - 1, P - 1)),
+            Some(element(P - 1, P - 1)),
         ),
         ([0xff, 0xff, 0xff, 0x7f, 0, 0, 0, 0], None),
         ([0, 0, 0, 0, 0xff, 0xff, 0xff, 0x7f], None),

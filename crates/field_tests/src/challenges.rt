@@ -1,16 +1,15 @@
-use super::*;
+//! The challenges of a transcript, by SHA-256 alone, and those of a list.
+
+use crate::numbers::element;
 use field_ext::{Ext, Fp};
 use sha2::{Digest, Sha256};
 use std::test::Fail;
+use transcript_fs::{Challenges, Given, Statement, Transcript};
 
 const TEXT: &[u8] = b"input a; output a;";
 
 /// The 38 bytes that tell of the program `input a; output a;` with input 5 and output 5.
 const STATEMENT: &[u8] = b"\x12\0\0\0input a; output a;\x01\0\0\0\x05\0\0\0\x01\0\0\0\x05\0\0\0";
-
-fn element(real: u64, imaginary: u64) -> Ext {
-    Ext::of(Fp::reduce(real), Fp::reduce(imaginary))
-}
 
 /// The hash of two pieces, one behind the other.
 fn hash(first: &[u8], second: &[u8]) -> [u8; 32] {
