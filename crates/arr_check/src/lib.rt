@@ -24,8 +24,6 @@ mod scope;
 mod shape;
 mod statement;
 mod target;
-#[cfg(test)]
-mod tests;
 
 pub use binding::Binding;
 pub use checked::Checked;

@@ -12,8 +12,6 @@ pub mod laws;
 mod lexer;
 mod number;
 mod refused;
-#[cfg(test)]
-mod tests;
 mod token;
 mod word;
 

@@ -25,7 +25,5 @@ mod statement;
 mod stopped;
 mod store;
 mod sum;
-#[cfg(test)]
-mod tests;
 
 pub use lowering::lower;

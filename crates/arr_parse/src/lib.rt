@@ -21,8 +21,6 @@ mod program;
 mod refused;
 mod signs;
 mod statement;
-#[cfg(test)]
-mod tests;
 
 pub use program::parse;
 pub use refused::ParseRefused;

@@ -12,8 +12,6 @@
 
 pub mod laws;
 mod layer;
-#[cfg(test)]
-mod tests;
 mod values;
 
 pub use values::{Values, layer_values};

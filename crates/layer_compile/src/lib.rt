@@ -23,8 +23,6 @@ mod positions;
 mod refused;
 mod rows;
 mod sizes;
-#[cfg(test)]
-mod tests;
 mod uses;
 
 pub use layout::layer;

@@ -15,8 +15,6 @@ mod builder;
 pub mod laws;
 mod list;
 mod node;
-#[cfg(test)]
-mod tests;
 mod values;
 
 pub use builder::NodeListBuilder;

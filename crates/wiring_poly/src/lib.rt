@@ -11,8 +11,6 @@
 
 pub mod laws;
 mod split_equality;
-#[cfg(test)]
-mod tests;
 mod wiring;
 
 pub use split_equality::SplitEquality;

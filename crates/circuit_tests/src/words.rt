@@ -1,5 +1,6 @@
 //! Texts with their tokens, and texts with the byte that is no token's.
-use crate::{LexRefused, Symbol, Token, tokens};
+
+use arr_lex::{LexRefused, Symbol, Token, tokens};
 
 fn token(symbol: Symbol, start: usize, end: usize) -> Token {
     Token { symbol, start, end }

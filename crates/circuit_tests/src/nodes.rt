@@ -1,33 +1,12 @@
+//! The values of a list of nodes.
 ghost use Rattle.std.specs.Prelude.{◌≡◌, IfOk};
-ghost use Rattle.circuit_core.specs.declared.gate.Kind.TheVariants as kind;
-ghost use Rattle.node_core.specs.declared.node.Node.TheVariants as node;
 
-use super::*;
-use circuit_core::{CircuitGate, Kind};
+use crate::gates::{add_node, mul_node};
 use field_ext::Fp;
+use node_core::{Node, NodeList, NodeListBuilder};
 use std::alloc::{AllocError, Global};
 use std::process::Abort;
 use std::test::Fail;
-
-fn add(left: u32, right: u32) -> Node
-    ensures { result ≡ node.Operation (record { kind = kind.Add; left = left; right = right }) }
-{
-    Node::Operation(CircuitGate {
-        kind: Kind::Add,
-        left,
-        right,
-    })
-}
-
-fn mul(left: u32, right: u32) -> Node
-    ensures { result ≡ node.Operation (record { kind = kind.Mul; left = left; right = right }) }
-{
-    Node::Operation(CircuitGate {
-        kind: Kind::Mul,
-        left,
-        right,
-    })
-}
 
 /// The list of `a * b - b`, whose outputs are the difference and the product.
 fn difference(alloc: Global) -> Result<NodeList, AllocError>
@@ -36,10 +15,10 @@ fn difference(alloc: Global) -> Result<NodeList, AllocError>
     let mut nodes = NodeListBuilder::new(alloc, 2);
     let a = nodes.push(Node::Input(0))?;
     let b = nodes.push(Node::Input(1))?;
-    let product = nodes.push(mul(a, b))?;
+    let product = nodes.push(mul_node(a, b))?;
     let minus_one = nodes.push(Node::Constant(Fp::one().neg()))?;
-    let negated = nodes.push(mul(b, minus_one))?;
-    let difference = nodes.push(add(product, negated))?;
+    let negated = nodes.push(mul_node(b, minus_one))?;
+    let difference = nodes.push(add_node(product, negated))?;
     nodes.output(difference)?;
     nodes.output(product)?;
     Ok(nodes.finish())

@@ -1,8 +1,9 @@
 //! Programs of one output, built as trees, with their counts or their refusal.
-use crate::{CheckKind, CheckRefused, check};
+
 use arr_ast::{
     Dimension, Dimensions, Expression, Factor, Input, Name, Program, Term, TopStatement,
 };
+use arr_check::{CheckKind, CheckRefused, check};
 use std::alloc::{AllocError, AllocFailed, Global};
 
 // The name of an input, at a place.

@@ -1,8 +1,8 @@
 //! Texts with the refusal that reading them gives, at the edges of the grammar and of the nesting limit.
 ghost use Rattle.std.specs.Prelude.{◌≤◌, length};
 
-use crate::{ParseRefused, parse};
 use arr_lex::tokens;
+use arr_parse::{ParseRefused, parse};
 use std::alloc::{AllocError, Global};
 
 // The refusal of a text whose tokens are there.

@@ -1,13 +1,13 @@
 //! The nodes of small programs, built as trees.
 
-use super::*;
+use crate::gates::{add_node, mul_node};
 use arr_ast::{
     AddedTerm, Dimension, Dimensions, Expression, Factor, IndexExpression, IndexFactor, IndexTerm,
     Input, Name, PairFunction, Program, Sign, SingleFunction, Statement, Term, TimesFactor,
     TopStatement,
 };
 use arr_check::check;
-use circuit_core::{CircuitGate, Kind};
+use arr_lower::lower;
 use field_ext::Fp;
 use node_core::Node;
 use std::alloc::{AllocError, Global};
@@ -15,22 +15,6 @@ use std::process::Abort;
 use std::test::Fail;
 
 const MINUS_ONE: u64 = 2_147_483_646;
-
-fn add(left: u32, right: u32) -> Node {
-    Node::Operation(CircuitGate {
-        kind: Kind::Add,
-        left,
-        right,
-    })
-}
-
-fn mul(left: u32, right: u32) -> Node {
-    Node::Operation(CircuitGate {
-        kind: Kind::Mul,
-        left,
-        right,
-    })
-}
 
 fn constant(value: u64) -> Node {
     Node::Constant(Fp::reduce(value))
@@ -228,25 +212,25 @@ fn lowers_programs(rt: HostRuntime) -> Result<(), Fail> {
     lowers(
         &rt,
         shares_no_leaf(alloc)?,
-        &[a, b, mul(0, 1), constant(2), mul(0, 3), add(2, 4)],
+        &[a, b, mul_node(0, 1), constant(2), mul_node(0, 3), add_node(2, 4)],
         &[5],
     )?;
     lowers(
         &rt,
         subtracts(alloc)?,
-        &[a, constant(MINUS_ONE), mul(0, 1), add(0, 2)],
+        &[a, constant(MINUS_ONE), mul_node(0, 1), add_node(0, 2)],
         &[3],
     )?;
     lowers(
         &rt,
         sums(alloc)?,
-        &[a, b, Node::Input(2), add(0, 1), add(3, 2)],
+        &[a, b, Node::Input(2), add_node(0, 1), add_node(3, 2)],
         &[4],
     )?;
     lowers(
         &rt,
         loops(alloc)?,
-        &[constant(1), mul(0, 0), constant(2), mul(1, 2)],
+        &[constant(1), mul_node(0, 0), constant(2), mul_node(1, 2)],
         &[3],
     )?;
     Ok(())
@@ -256,9 +240,9 @@ fn lowers_programs(rt: HostRuntime) -> Result<(), Fail> {
 fn multiplies_a_matrix_by_its_transpose(rt: HostRuntime) -> Result<(), Fail> {
     let alloc = rt.alloc();
     let row = |at: u32, i: u32, j: u32| [
-        mul(2 * i, 2 * j),
-        mul(2 * i + 1, 2 * j + 1),
-        add(at, at + 1),
+        mul_node(2 * i, 2 * j),
+        mul_node(2 * i + 1, 2 * j + 1),
+        add_node(at, at + 1),
     ];
     let mut nodes = Vec::new(alloc);
     for j in 0..4 {

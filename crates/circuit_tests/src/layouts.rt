@@ -1,33 +1,15 @@
-ghost use Rattle.std.specs.Prelude.{◌≡◌, ◌<◌, ◌^◌, IsTrue, length};
-ghost use Rattle.circuit_core.specs.declared.gate.Kind.TheVariants as kind;
+//! Lists of nodes with the circuits that they are laid out as, and those that exceed a limit.
+ghost use Rattle.std.specs.Prelude.{◌<◌, ◌^◌, IsTrue, length};
 ghost use Rattle.node_core.specs.Nodes.{IsFineAt};
-ghost use Rattle.node_core.specs.declared.node.Node.TheVariants as node;
 
-use super::*;
-use circuit_core::{Circuit, CircuitGate, Kind, Leaf};
+use crate::gates::{add_node, mul_node};
+use circuit_core::{Circuit, Kind, Leaf};
 use field_ext::Fp;
+use layer_compile::{LayerRefused, Limits, layer};
 use node_core::{Node, NodeList, NodeListBuilder};
 use std::alloc::{AllocError, Global};
 use std::process::Abort;
 use std::test::Fail;
-
-fn add(left: u32, right: u32) -> Node
-    ensures { result ≡ node.Operation (record { kind = kind.Add; left = left; right = right }) }
-{
-    Node::Operation(CircuitGate {
-        kind: Kind::Add,
-        left,
-        right,
-    })
-}
-
-fn mul(left: u32, right: u32) -> Node {
-    Node::Operation(CircuitGate {
-        kind: Kind::Mul,
-        left,
-        right,
-    })
-}
 
 fn is_fine(inputs: u32, k: usize, node: &Node) -> bool
     ensures { IsTrue result → IsFineAt inputs k node.now }
@@ -107,16 +89,16 @@ const C: Node = Node::Input(2);
 #[test]
 fn lays_out_by_position(rt: HostRuntime) -> Result<(), Fail> {
     let alloc = rt.alloc();
-    let product = program(alloc, 2, &[A, B, mul(0, 1)], &[2])?;
+    let product = program(alloc, 2, &[A, B, mul_node(0, 1)], &[2])?;
     shows(&rt, &product, "0+0 1+0 / 0+0 1*2 / 4: in0 in1")?;
     let minus_one = Node::Constant(Fp::one().neg());
-    let difference = program(alloc, 2, &[A, B, minus_one, mul(1, 2), add(0, 3)], &[4])?;
+    let difference = program(alloc, 2, &[A, B, minus_one, mul_node(1, 2), add_node(0, 3)], &[4])?;
     shows(
         &rt,
         &difference,
         "0+0 1+0 / 0+0 1+2 / 0+0 1+0 2*3 0+0 / 4: in0 in1 2147483646",
     )?;
-    let sum = program(alloc, 3, &[A, B, C, add(0, 1), add(3, 2)], &[4])?;
+    let sum = program(alloc, 3, &[A, B, C, add_node(0, 1), add_node(3, 2)], &[4])?;
     shows(
         &rt,
         &sum,
@@ -127,7 +109,7 @@ fn lays_out_by_position(rt: HostRuntime) -> Result<(), Fail> {
 #[test]
 fn drops_unneeded_nodes(rt: HostRuntime) -> Result<(), Fail> {
     let alloc = rt.alloc();
-    let list = program(alloc, 2, &[A, B, mul(0, 1), add(2, 2)], &[0, 0])?;
+    let list = program(alloc, 2, &[A, B, mul_node(0, 1), add_node(2, 2)], &[0, 0])?;
     shows(&rt, &list, "0+0 1+0 1+0 0+0 / 4: in0 in1")
 }
 
@@ -137,7 +119,7 @@ fn refuses_by_limits(rt: HostRuntime) -> Result<(), Fail> {
     let many = program(
         alloc,
         3,
-        &[A, B, C, mul(0, 1), mul(0, 2), mul(1, 2), add(0, 1)],
+        &[A, B, C, mul_node(0, 1), mul_node(0, 2), mul_node(1, 2), add_node(0, 1)],
         &[3, 4, 5, 6],
     )?;
     for (height, exponent, want) in [
@@ -173,7 +155,7 @@ fn doubled(alloc: Global, times: u32) -> Result<NodeList, AllocError>
     let mut list = NodeListBuilder::new(alloc, 1);
     let mut last = list.push(A)?;
     for _ in 0..times {
-        last = list.push(add(last, last))?;
+        last = list.push(add_node(last, last))?;
     }
     list.output(last)?;
     Ok(list.finish())

@@ -1,24 +1,11 @@
-use super::*;
+//! Circuits by their parts, and parts that are none, in the order of the refusals.
+
+use crate::gates::{add, mul};
+use circuit_core::{BadCircuit, Circuit, CircuitGate, CircuitRefused, Layer, Leaf, leaf_value};
 use field_ext::Fp;
 use std::alloc::Global;
 use std::process::Abort;
 use std::test::Fail;
-
-fn add(left: u32, right: u32) -> CircuitGate {
-    CircuitGate {
-        kind: Kind::Add,
-        left,
-        right,
-    }
-}
-
-fn mul(left: u32, right: u32) -> CircuitGate {
-    CircuitGate {
-        kind: Kind::Mul,
-        left,
-        right,
-    }
-}
 
 /// A circuit of one layer with one output over two inputs.
 fn made(

@@ -1,6 +1,6 @@
 -- The nodes and outputs passed are in the list
 use Rattle.std.proofs.Common.{◌≡◌, length}
-use Rattle.layer_compile.proofs.tests.program.Given as goal
+use Rattle.circuit_tests.proofs.layouts.program.Given as goal
 
 abbrev pub invariant-loop-k : goal.invariant-loop-k
 invariant-loop-k l = record {

@@ -1,29 +1,15 @@
+//! The values of all layers of a circuit, of a narrow one and of a wide one.
 ghost use Rattle.std.specs.Prelude.{◌<◌, ◌≤◌, length};
 
-use super::*;
-use circuit_core::{Circuit, CircuitGate, CircuitRefused, Kind, Layer, Leaf};
+use crate::gates::{add, mul};
+use circuit_core::{Circuit, CircuitRefused, Layer, Leaf};
+use circuit_eval::{Values, layer_values};
 use field_ext::{Ext, Fp};
 use std::alloc::Global;
 use std::marker::Sync;
 use std::process::Abort;
 use std::test::Fail;
 use std::thread::Threads;
-
-fn add(left: u32, right: u32) -> CircuitGate {
-    CircuitGate {
-        kind: Kind::Add,
-        left,
-        right,
-    }
-}
-
-fn mul(left: u32, right: u32) -> CircuitGate {
-    CircuitGate {
-        kind: Kind::Mul,
-        left,
-        right,
-    }
-}
 
 /// The circuit of `(a + b) * 3`, where the constant is carried.
 fn triple(alloc: Global) -> Result<Circuit, CircuitRefused> {

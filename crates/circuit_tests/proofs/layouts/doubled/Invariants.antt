@@ -1,6 +1,6 @@
 -- The last node is the one of this number
 use Rattle.std.proofs.Common.{◌≡◌, ◌+◌, length}
-use Rattle.layer_compile.proofs.tests.doubled.Given as goal
+use Rattle.circuit_tests.proofs.layouts.doubled.Given as goal
 
 abbrev pub invariant-loop : goal.invariant-loop
 invariant-loop l = record {

@@ -1,0 +1,25 @@
+//! Tests of circuits and of the array language: tokens, trees, counts, nodes, layouts, values and wiring.
+//!
+//! They call public functions alone, and compare with values worked by hand: what no contract says.
+#![tactic(auto)]
+
+#[cfg(test)]
+mod circuits;
+#[cfg(test)]
+mod counts;
+#[cfg(test)]
+mod evaluation;
+#[cfg(test)]
+mod gates;
+#[cfg(test)]
+mod grammar;
+#[cfg(test)]
+mod layouts;
+#[cfg(test)]
+mod lowering;
+#[cfg(test)]
+mod nodes;
+#[cfg(test)]
+mod wirings;
+#[cfg(test)]
+mod words;
