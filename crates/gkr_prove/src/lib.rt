@@ -15,7 +15,5 @@ mod layer;
 mod layers;
 mod prover;
 mod rounds;
-#[cfg(test)]
-mod tests;
 
 pub use prover::prove;

@@ -15,8 +15,6 @@ mod extension;
 mod layer;
 mod layers;
 mod rounds;
-#[cfg(test)]
-mod tests;
 mod verifier;
 
 pub use gkr_layers::{Verdict, bound_sum, challenge_count};

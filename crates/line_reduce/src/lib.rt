@@ -13,8 +13,6 @@
 mod line;
 mod point;
 mod rows;
-#[cfg(test)]
-mod tests;
 
 pub use line::{claim_at, line_poly};
 pub use point::point_at;

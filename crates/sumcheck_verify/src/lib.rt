@@ -12,7 +12,5 @@
 #![tactic(auto)]
 
 mod rounds;
-#[cfg(test)]
-mod tests;
 
 pub use rounds::{Rounds, SumFault};

@@ -2,7 +2,7 @@
 use Rattle.std.proofs.Common.{◌≡◌, ℕ, ◌^◌, [], ◌∷◌, ap, arith}
 use Rattle.std.proofs.lemmas.List.Elements.{All-cons, All-nil}
 use Rattle.circuit_core.specs.Parts.{IsOver}
-use Rattle.round_tables.proofs.tests.copies_a_value_outside_the_base_field.Goals as goal
+use Rattle.protocol_tests.proofs.messages.copies_a_value_outside_the_base_field.Goals as goal
 
 pub start-requires-clause-operands : goal.start-requires-clause-operands
 start-requires-clause-operands g c =

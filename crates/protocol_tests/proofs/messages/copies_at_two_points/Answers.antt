@@ -2,7 +2,7 @@
 use Rattle.std.proofs.Common.{◌≡◌, ℕ, ◌^◌, [], ◌∷◌, ap, arith}
 use Rattle.std.proofs.lemmas.List.Elements.{All-cons, All-nil}
 use Rattle.circuit_core.specs.Parts.{IsOver}
-use Rattle.round_tables.proofs.tests.copies_at_two_points.Goals as goal
+use Rattle.protocol_tests.proofs.messages.copies_at_two_points.Goals as goal
 
 pub start_two-requires-clause-operands : goal.start_two-requires-clause-operands
 start_two-requires-clause-operands g c =

@@ -2,7 +2,7 @@
 use Rattle.std.proofs.Common.{◌≡◌, ℕ, ◌^◌, [], ◌∷◌, ap, arith}
 use Rattle.std.proofs.lemmas.List.Elements.{All-cons, All-nil}
 use Rattle.circuit_core.specs.Parts.{IsOver}
-use Rattle.round_tables.proofs.tests.multiplies_two_values.Goals as goal
+use Rattle.protocol_tests.proofs.messages.multiplies_two_values.Goals as goal
 
 pub start-requires-clause-operands : goal.start-requires-clause-operands
 start-requires-clause-operands g c =

@@ -1,24 +1,14 @@
-ghost use Rattle.std.specs.Prelude.{◌≡◌};
+//! The messages of a layer's rounds for given challenges, by hand.
 
-use super::*;
-use circuit_core::{CircuitGate, Kind};
+use crate::circuits::gate;
+use crate::numbers::number;
+use circuit_core::Kind;
 use field_ext::{Ext, Fp};
 use mle_table::Table;
-use std::alloc::{AllocError, Global};
+use round_tables::GateTables;
+use std::alloc::Global;
 use std::process::Abort;
 use std::test::Fail;
-
-fn number(n: i32) -> Ext {
-    let size = Ext::embed(Fp::reduce(n.unsigned_abs() as u64));
-    if n < 0 { size.neg() } else { size }
-}
-
-fn gate(kind: Kind, left: u32, right: u32) -> CircuitGate
-    ensures left { result.left ≡ left }
-    ensures right { result.right ≡ right }
-{
-    CircuitGate { kind, left, right }
-}
 
 /// A table of these multiples of an element, which are a power of two.
 fn table(alloc: Global, ns: &[i32], unit: Ext) -> Result<Table, Fail> {

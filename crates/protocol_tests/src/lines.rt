@@ -1,12 +1,10 @@
-use super::*;
-use field_ext::{Ext, Fp};
-use mle_table::Table;
-use poly_roots::Poly;
-use std::test::Fail;
+//! The extension on a line, by hand.
 
-fn number(n: u64) -> Ext {
-    Ext::embed(Fp::reduce(n))
-}
+use crate::numbers::number;
+use field_ext::Ext;
+use line_reduce::{claim_at, line_poly, point_at};
+use mle_table::Table;
+use std::test::Fail;
 
 #[test]
 fn meets_the_extension_on_the_line(rt: HostRuntime) -> Result<(), Fail> {

@@ -1,59 +1,14 @@
-use super::*;
-use circuit_core::{Circuit, CircuitGate, CircuitRefused, Kind, Layer, Leaf};
-use field_ext::{Ext, Fp};
+//! Verdicts on messages for given challenges, by hand.
+
+use crate::circuits::{copy, product};
+use crate::numbers::{number, numbers, spelled};
+use circuit_core::Circuit;
+use field_ext::Fp;
+use gkr_verify::{Verdict, challenge_count, check};
 use proof_wire::decode;
-use std::alloc::{AllocError, Global};
 use std::process::Abort;
 use std::test::Fail;
 use transcript_fs::{Challenges, Given};
-
-fn number(n: i32) -> Ext {
-    let size = Ext::embed(Fp::reduce(n.unsigned_abs() as u64));
-    if n < 0 { size.neg() } else { size }
-}
-
-fn numbers(alloc: Global, ns: &[i32]) -> Result<Vec<Ext>, AllocError> {
-    let mut elements = Vec::new(alloc);
-    for n in ns {
-        elements.push(number(*n))?;
-    }
-    Ok(elements)
-}
-
-fn gate(kind: Kind, left: u32, right: u32) -> CircuitGate {
-    CircuitGate { kind, left, right }
-}
-
-/// A layer of the zero gate and one more.
-fn layer(alloc: Global, second: CircuitGate) -> Result<Layer, AllocError> {
-    Ok(Layer::of(Vec::from_slice(alloc, &[gate(Kind::Add, 0, 0), second])?))
-}
-
-/// The circuit of `input a; output a;`.
-fn copy(alloc: Global) -> Result<Circuit, CircuitRefused> {
-    let first = layer(alloc, gate(Kind::Add, 1, 0))?;
-    let layers = vec![in alloc; first].map_err(|_| CircuitRefused::Memory)?;
-    let leaves = Vec::from_slice(alloc, &[Leaf::Input(0)])?;
-    Circuit::of(alloc, layers, 2, leaves, 1, 1)
-}
-
-/// The circuit of `input a; input b; output a * b;`, with one layer that copies.
-fn product(alloc: Global) -> Result<Circuit, CircuitRefused> {
-    let first = layer(alloc, gate(Kind::Add, 1, 0))?;
-    let second = layer(alloc, gate(Kind::Mul, 1, 2))?;
-    let layers = vec![in alloc; first, second].map_err(|_| CircuitRefused::Memory)?;
-    let leaves = Vec::from_slice(alloc, &[Leaf::Input(0), Leaf::Input(1)])?;
-    Circuit::of(alloc, layers, 4, leaves, 2, 1)
-}
-
-/// The bytes of a proof of these coefficients.
-fn spelled(alloc: Global, coefficients: &[i32]) -> Result<Vec<u8>, AllocError> {
-    let mut bytes = Vec::from_slice(alloc, b"GKR1")?;
-    for n in coefficients {
-        bytes.extend_from_slice(&number(*n).to_bytes())?;
-    }
-    Ok(bytes)
-}
 
 /// The answer to messages of these coefficients, with these challenges, for one output.
 fn answer<R: Abort + AllocGlobal>(

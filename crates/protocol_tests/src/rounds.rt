@@ -1,9 +1,7 @@
-use super::*;
-use field_ext::{Ext, Fp};
+//! A claim bound by rounds, by hand.
 
-fn number(n: u64) -> Ext {
-    Ext::embed(Fp::reduce(n))
-}
+use crate::numbers::number;
+use sumcheck_verify::{Rounds, SumFault};
 
 #[test]
 fn binds_a_claim_by_rounds(rt: HostRuntime) {
