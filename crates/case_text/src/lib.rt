@@ -38,5 +38,3 @@ pub use stop::{ReadError, Stop, stop_at};
 pub use values::Values;
 pub use writing::write_case;
 
-#[cfg(test)]
-mod tests;

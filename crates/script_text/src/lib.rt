@@ -16,5 +16,3 @@ mod script;
 pub use jobs::read_script;
 pub use script::ScriptJob;
 
-#[cfg(test)]
-mod tests;

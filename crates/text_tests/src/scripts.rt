@@ -1,6 +1,6 @@
 //! A worked script.
 
-use crate::read_script;
+use script_text::read_script;
 
 #[test]
 fn reads_a_script(rt: HostRuntime) {

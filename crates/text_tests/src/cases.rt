@@ -1,7 +1,9 @@
 //! Worked texts: what is read, what is written, and where a refusal stands.
 
-use crate::{BadCase, CaseRefused, Form, Kind, Reply, Values, read_case, write_case, write_reply};
 use arr_ast::ProgramKind;
+use case_text::{
+    BadCase, CaseRefused, Form, Kind, Reply, Values, read_case, write_case, write_reply,
+};
 use field_ext::Fp;
 use std::process::Abort;
 use std::test::Fail;

@@ -1,0 +1,9 @@
+//! Tests of worked texts: cases, replies and scripts.
+//!
+//! They call public functions alone, and compare with texts written by hand: what no contract says.
+#![tactic(auto)]
+
+#[cfg(test)]
+mod cases;
+#[cfg(test)]
+mod scripts;
