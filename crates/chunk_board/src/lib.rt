@@ -20,7 +20,5 @@
 mod board;
 pub mod laws;
 mod rule;
-#[cfg(test)]
-mod tests;
 
 pub use board::{ChunkBoard, Claimer};

@@ -13,8 +13,6 @@
 
 mod gathering;
 mod phase;
-#[cfg(test)]
-mod tests;
 mod work;
 mod workers;
 

@@ -1,7 +1,7 @@
 //! The command `serve` over inputs in memory, by status and bytes.
 
 use super::*;
-use std::sync::atomic::{AtomicU64, Ordering};
+use test_gates::MeetingGate;
 
 /// The most bytes that are written here, and how many a write takes.
 const ROOM: Room = Room {
@@ -240,27 +240,6 @@ fn reads_no_longer_script(rt: HostRuntime) -> Result<(), Fail> {
     )
 }
 
-/// Holds the first entry until a second, for at most 10,000,000 turns, and then raises its mark.
-#[derive(Drop)]
-struct FirstHeld {
-    entries: AtomicU64,
-    raised: AtomicU64,
-}
-
-impl Gate for FirstHeld {
-    fn enter(&self, _worker: u32, _piece: u32) {
-        if self.entries.fetch_add(1, Ordering::SeqCst) > 0 {
-            return;
-        }
-        for _ in 0..10_000_000 {
-            if self.entries.load(Ordering::SeqCst) > 1 {
-                return;
-            }
-        }
-        self.raised.store(1, Ordering::SeqCst);
-    }
-}
-
 /// Two clients are at work at one time.
 #[test]
 fn serves_two_beside_each_other(rt: HostRuntime) -> Result<(), Fail> {
@@ -273,10 +252,7 @@ fn serves_two_beside_each_other(rt: HostRuntime) -> Result<(), Fail> {
     put_proved(&mut want, b"client 1\n", FIRST, b"proof 68\n", 64)?;
     put_proved(&mut want, b"client 2\n", FIRST, b"proof 68\n", 64)?;
     want.extend_from_slice(b"jobs 2 proved 2 refused 0\n")?;
-    let gate = FirstHeld {
-        entries: AtomicU64::new(0),
-        raised: AtomicU64::new(0),
-    };
+    let gate = MeetingGate::new(0);
     answers(
         &rt,
         &["gkr", "serve", "--clients", "2"],
@@ -285,7 +261,7 @@ fn serves_two_beside_each_other(rt: HostRuntime) -> Result<(), Fail> {
         Status::Done,
         &want,
     )?;
-    assert!(rt; gate.entries.load(Ordering::SeqCst) >= 2);
-    assert_eq!(rt; gate.raised.load(Ordering::SeqCst), 0);
+    assert!(rt; gate.entries() >= 2);
+    assert!(rt; !gate.is_raised());
     Ok(())
 }

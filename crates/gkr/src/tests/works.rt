@@ -1,7 +1,7 @@
 //! `prove` and `demo` by several workers: the same bytes by any number of them, and two that are at work beside each other.
 
 use super::*;
-use std::sync::atomic::{AtomicU64, Ordering};
+use test_gates::{CountingGate, MeetingGate};
 
 /// The most bytes that are written here, and how many a write takes.
 const ROOM: Room = Room {
@@ -75,76 +75,25 @@ fn demonstrates_the_same_by_any_number_of_workers(rt: HostRuntime) -> Result<(),
     Ok(())
 }
 
-/// Counts the entries, and notes which of them was the first with a piece of number 2 or more, and the greatest number.
-#[derive(Drop)]
-struct CountingGate {
-    entries: AtomicU64,
-    first: AtomicU64,
-    greatest: AtomicU64,
-}
-
-impl Gate for CountingGate {
-    fn enter(&self, _worker: u32, piece: u32) {
-        let before = self.entries.fetch_add(1, Ordering::SeqCst);
-        if piece >= 2 && self.first.load(Ordering::SeqCst) == 0 {
-            self.first.store(before.wrapping_add(1), Ordering::SeqCst);
-        }
-        if u64::from(piece) > self.greatest.load(Ordering::SeqCst) {
-            self.greatest.store(u64::from(piece), Ordering::SeqCst);
-        }
-    }
-}
-
 /// The rounds of layers 0 to 11 have 158 pieces, none of which has a number above 1; those of layer 12 have 34, and its first
 /// round has four.
 #[test]
 fn works_each_piece_once(rt: HostRuntime) -> Result<(), Fail> {
-    let gate = CountingGate {
-        entries: AtomicU64::new(0),
-        first: AtomicU64::new(0),
-        greatest: AtomicU64::new(0),
-    };
+    let gate = CountingGate::new(2);
     done(&rt, &["gkr", "prove"], &sum_case(rt.alloc())?, &gate)?;
-    assert_eq!(rt; gate.entries.load(Ordering::SeqCst), 192);
-    assert_eq!(rt; gate.first.load(Ordering::SeqCst), 161);
-    assert_eq!(rt; gate.greatest.load(Ordering::SeqCst), 3);
+    assert_eq!(rt; gate.entries(), 192);
+    assert_eq!(rt; gate.first(), 161);
+    assert_eq!(rt; gate.greatest(), 3);
     Ok(())
-}
-
-/// Holds the first entry with a piece of number `from` or more until a second such entry, for at most 10,000,000 turns, and
-/// then raises its mark.
-#[derive(Drop)]
-struct MeetingGate {
-    from: u32,
-    entries: AtomicU64,
-    raised: AtomicU64,
-}
-
-impl Gate for MeetingGate {
-    fn enter(&self, _worker: u32, piece: u32) {
-        if piece < self.from || self.entries.fetch_add(1, Ordering::SeqCst) > 0 {
-            return;
-        }
-        for _ in 0..10_000_000 {
-            if self.entries.load(Ordering::SeqCst) > 1 {
-                return;
-            }
-        }
-        self.raised.store(1, Ordering::SeqCst);
-    }
 }
 
 /// Two workers are at work on the first round with four pieces at one time.
 #[test]
 fn works_by_two_beside_each_other(rt: HostRuntime) -> Result<(), Fail> {
-    let gate = MeetingGate {
-        from: 2,
-        entries: AtomicU64::new(0),
-        raised: AtomicU64::new(0),
-    };
+    let gate = MeetingGate::new(2);
     let words = ["gkr", "prove", "--workers", "2"];
     done(&rt, &words, &sum_case(rt.alloc())?, &gate)?;
-    assert!(rt; gate.entries.load(Ordering::SeqCst) >= 2);
-    assert_eq!(rt; gate.raised.load(Ordering::SeqCst), 0);
+    assert!(rt; gate.entries() >= 2);
+    assert!(rt; !gate.is_raised());
     Ok(())
 }

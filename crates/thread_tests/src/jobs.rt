@@ -1,13 +1,8 @@
-// One table, its answers and its fronts.
+//! One table of jobs, its answers and its fronts.
 ghost use Rattle.std.specs.Prelude.{◌≡◌, Some, length};
 ghost use Rattle.job_table.specs.Passes.{IsPassOf};
 
-use crate::event::Outcome;
-use crate::pass::Pass;
-use crate::slot::Seen;
-use crate::table::{JobTable, Late};
-use crate::values::{Copied, Fits};
-use job_core::JobState;
+use job_table::{Copied, Fits, JobState, JobTable, Late, Outcome, Pass, Seen};
 use std::alloc::{AllocError, Global};
 
 #[derive(Drop)]

@@ -1,7 +1,8 @@
-ghost use Rattle.std.specs.Prelude.{◌≡◌, ◌+◌, false};
+//! Claims of pieces, in one thread.
+ghost use Rattle.std.specs.Prelude.{◌≡◌, false};
 ghost use Rattle.chunk_board.specs.Board.{IsOf};
 
-use super::*;
+use chunk_board::{ChunkBoard, Claimer};
 use std::process::Abort;
 use std::test::Fail;
 
