@@ -18,8 +18,6 @@ mod evaluation;
 pub mod laws;
 mod proving;
 mod refused;
-#[cfg(test)]
-mod tests;
 mod verification;
 
 pub use answered::{Answered, answer_case};

@@ -10,7 +10,5 @@
 
 mod prover;
 mod script;
-#[cfg(test)]
-mod tests;
 
 pub use script::{Threading, serve_script};

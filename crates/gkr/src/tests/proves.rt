@@ -122,6 +122,18 @@ fn verifies_what_it_proves(rt: HostRuntime) -> Result<(), Fail> {
             660,
         ),
         stated(
+            b"input v[2]; output scale(3,v); output -v[0]; output dot(v,v);",
+            b"2 1 2",
+            b"4 3 6 2147483646 5",
+            532,
+        ),
+        stated(
+            b"input a[2][2]; let s = 0; for i in 0..2 { s = s + a[i][1]; } output s; output transpose(a);",
+            b"4 1 2 3 4",
+            b"5 6 1 3 2 4",
+            532,
+        ),
+        stated(
             b"input v[2]; let w = v; for i in 0..2 { w[i] = v[1-i]; } output w;",
             b"2 8 9",
             b"2 9 8",
