@@ -11,9 +11,9 @@ use Rattle.case_prove.specs.Sound.{HasExceptionalChallenge, HasMeaning}
 use Rattle.case_prove.specs.Verified.{IsVerdictOn}
 use Rattle.gkr_layers.specs.declared.verdict.Verdict.TheVariants as verdicts
 use Rattle.gkr_cmd.specs.declared.status.Status.TheVariants.{Done}
-use Rattle.gkr_cmd.specs.declared.words.Command.{Command}
-use Rattle.gkr_cmd.specs.declared.words.CaseCommand.TheVariants.{Verify}
-use Rattle.gkr_cmd.specs.declared.words.Command.TheVariants.{OfCase}
+use Rattle.gkr_words.specs.declared.words.Command.{Command}
+use Rattle.gkr_words.specs.declared.words.CaseCommand.TheVariants.{Verify}
+use Rattle.gkr_words.specs.declared.words.Command.TheVariants.{OfCase}
 use Rattle.gkr_cmd.specs.Replies.{IsCommandReply, IsOfCase, IsVerifyAnswer, status_of}
 use Rattle.gkr_cmd.specs.Runs.{HasAcceptedProof}
 use Rattle.gkr_cmd.proofs.OneReply.{Found, found, long, no_case, of_case}

@@ -15,8 +15,8 @@ use Rattle.io_edge.specs.Written.{Grows}
 use Rattle.std.specs.Prelude.{◌+◌, length}
 use Rattle.gkr_cmd.specs.declared.status.Status.{Status}
 use Rattle.gkr_cmd.specs.declared.status.Status.TheVariants as statuses
-use Rattle.gkr_cmd.specs.declared.words.CaseCommand.TheVariants.{Eval, Circuit, Prove, Verify}
-use Rattle.gkr_cmd.specs.Commands.{ReadsCase, command_of, input_limit}
+use Rattle.gkr_words.specs.declared.words.CaseCommand.TheVariants.{Eval, Circuit, Prove, Verify}
+use Rattle.gkr_words.specs.Commands.{ReadsCase, command_of, input_limit}
 use Rattle.gkr_cmd.specs.Headline.{Asks, HasCauses, HasOneReply, Headline, Run}
 use Rattle.gkr_cmd.specs.Reached.{IsReadUpTo}
 use Rattle.gkr_cmd.specs.Replies.{IsCaseReply, IsCircuitAnswer, IsDemoAnswer, IsEvalAnswer, IsOfCase, IsReply, IsVerifyAnswer, status_of}

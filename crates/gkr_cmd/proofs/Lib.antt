@@ -7,7 +7,6 @@ mod Demos
 mod Ends
 mod EvalAnswers
 mod Headlines
-mod Numbers
 mod OneReply
 mod ProveAnswers
 mod ProvedCases
@@ -15,5 +14,3 @@ mod Replied
 mod ScriptReplies
 mod SumLevels
 mod VerifyAnswers
-mod WordLaws
-mod WordsRead

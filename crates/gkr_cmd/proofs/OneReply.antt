@@ -7,11 +7,11 @@ use Rattle.case_text.specs.declared.refusal.BadCase.{BadCase}
 use Rattle.case_text.specs.declared.reply.Reply.{Reply}
 use Rattle.case_text.specs.declared.reply.Reply.TheVariants as replies
 use Rattle.gkr_cmd.specs.declared.status.Status.TheVariants.{Done}
-use Rattle.gkr_cmd.specs.declared.words.Command.{Command}
-use Rattle.gkr_cmd.specs.declared.words.Command.TheVariants.{OfCase, Demo, Serve}
-use Rattle.gkr_cmd.specs.declared.words.CaseCommand.{CaseCommand}
-use Rattle.gkr_cmd.specs.declared.words.CaseCommand.TheVariants.{Eval, Circuit, Prove, Verify}
-use Rattle.gkr_cmd.specs.Commands.{case_limit, command_of}
+use Rattle.gkr_words.specs.declared.words.Command.{Command}
+use Rattle.gkr_words.specs.declared.words.Command.TheVariants.{OfCase, Demo, Serve}
+use Rattle.gkr_words.specs.declared.words.CaseCommand.{CaseCommand}
+use Rattle.gkr_words.specs.declared.words.CaseCommand.TheVariants.{Eval, Circuit, Prove, Verify}
+use Rattle.gkr_words.specs.Commands.{case_limit, command_of}
 use Rattle.gkr_cmd.proofs.ScriptReplies.{one_script}
 use Rattle.gkr_cmd.specs.Replies.{IsWithinLimit, IsOfCase, IsNoCase, IsTooLong, IsCaseReply, IsAnswer, IsEvalAnswer, IsCircuitAnswer, IsDemoAnswer, IsVerifyAnswer, form_of, IsCommandReply, IsReply, status_of}
 use Rattle.case_prove.specs.Answers.{IsProveAnswer}

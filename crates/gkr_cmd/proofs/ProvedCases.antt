@@ -13,9 +13,9 @@ use Rattle.case_prove.specs.Proved.{IsProved}
 use Rattle.case_prove.specs.Verified.{IsVerdictOn}
 use Rattle.gkr_layers.specs.declared.verdict.Verdict.TheVariants as verdicts
 use Rattle.gkr_cmd.specs.declared.status.Status.TheVariants.{Done}
-use Rattle.gkr_cmd.specs.declared.words.CaseCommand.TheVariants.{Prove}
-use Rattle.gkr_cmd.specs.declared.words.Command.{Command}
-use Rattle.gkr_cmd.specs.declared.words.Command.TheVariants.{OfCase}
+use Rattle.gkr_words.specs.declared.words.CaseCommand.TheVariants.{Prove}
+use Rattle.gkr_words.specs.declared.words.Command.{Command}
+use Rattle.gkr_words.specs.declared.words.Command.TheVariants.{OfCase}
 use Rattle.gkr_cmd.specs.Replies.{IsCommandReply, IsOfCase, status_of}
 use Rattle.case_prove.specs.Answers.{IsProveAnswer}
 use Rattle.gkr_cmd.specs.Runs.{HasAcceptedProof}

@@ -21,14 +21,14 @@ use Rattle.case_text.specs.declared.reply.Reply.TheVariants as replies
 use Rattle.gkr_cmd.specs.declared.reply_error.ReplyError.{ReplyError}
 use Rattle.gkr_cmd.specs.declared.status.Status.{Status}
 use Rattle.gkr_cmd.specs.declared.status.Status.TheVariants as statuses
-use Rattle.gkr_cmd.specs.declared.words.Command.{Command}
-use Rattle.gkr_cmd.specs.declared.words.Command.TheVariants.{OfCase, Demo, Serve}
-use Rattle.gkr_cmd.specs.declared.words.CaseCommand.{CaseCommand}
-use Rattle.gkr_cmd.specs.declared.words.CaseCommand.TheVariants.{Eval, Circuit, Prove, Verify}
+use Rattle.gkr_words.specs.declared.words.Command.{Command}
+use Rattle.gkr_words.specs.declared.words.Command.TheVariants.{OfCase, Demo, Serve}
+use Rattle.gkr_words.specs.declared.words.CaseCommand.{CaseCommand}
+use Rattle.gkr_words.specs.declared.words.CaseCommand.TheVariants.{Eval, Circuit, Prove, Verify}
 use Rattle.io_edge.specs.Written.{Grows}
 use Rattle.gkr_cmd.specs.Reached.{ReadsUpTo, WritesFront}
 use Rattle.gkr_cmd.specs.Replies.{IsWithinLimit, IsTooLong, IsCommandReply, IsScriptReply, IsCaseReply, IsAnswer, IsCircuitAnswer, IsDemoAnswer, IsEvalAnswer, IsVerifyAnswer, IsOfCase, form_of, refused_reply, verdict_reply, status_of}
-use Rattle.gkr_cmd.specs.Commands.{case_limit, script_limit}
+use Rattle.gkr_words.specs.Commands.{case_limit, script_limit}
 use Rattle.case_prove.specs.Answers.{IsProveAnswer}
 use Rattle.gkr_cmd.specs.Runs.{IsInput, IsReplied, WritesNoMore, WritesReplyFront}
 

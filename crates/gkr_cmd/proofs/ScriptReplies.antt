@@ -12,7 +12,7 @@ use Rattle.script_text.specs.declared.script.ScriptJob.{ScriptJob}
 use Rattle.script_text.specs.Scripts.{script_reading}
 use Rattle.script_prove.specs.Served.{AreServed, IsServed}
 use Rattle.gkr_cmd.specs.declared.status.Status.TheVariants.{Done}
-use Rattle.gkr_cmd.specs.Commands.{script_limit}
+use Rattle.gkr_words.specs.Commands.{script_limit}
 use Rattle.gkr_cmd.specs.Replies.{IsNoScript, IsScriptReply, IsServedScript, IsTooLong, status_of}
 
 -- what is said of an input

@@ -10,12 +10,12 @@ use Rattle.case_text.specs.declared.form.Form.TheVariants.{Plain, Full}
 use Rattle.case_text.specs.declared.reply.Reply.TheVariants as replies
 use Rattle.gkr_cmd.specs.declared.status.Status.{Status}
 use Rattle.gkr_cmd.specs.declared.status.Status.TheVariants as statuses
-use Rattle.gkr_cmd.specs.declared.words.Command.{Command}
-use Rattle.gkr_cmd.specs.declared.words.Command.TheVariants.{OfCase, Demo, Serve}
-use Rattle.gkr_cmd.specs.declared.words.CaseCommand.TheVariants.{Eval, Circuit, Prove, Verify}
+use Rattle.gkr_words.specs.declared.words.Command.{Command}
+use Rattle.gkr_words.specs.declared.words.Command.TheVariants.{OfCase, Demo, Serve}
+use Rattle.gkr_words.specs.declared.words.CaseCommand.TheVariants.{Eval, Circuit, Prove, Verify}
 use Rattle.script_text.specs.declared.script.ScriptJob.{ScriptJob}
 use Rattle.script_text.specs.Scripts.{script_reading}
-use Rattle.gkr_cmd.specs.Commands.{ReadsCase, command_of, input_limit, script_limit}
+use Rattle.gkr_words.specs.Commands.{ReadsCase, command_of, input_limit, script_limit}
 use Rattle.gkr_cmd.specs.Reached.{IsReadUpTo}
 use Rattle.gkr_cmd.specs.Replies.{IsOfCase}
 use Rattle.gkr_cmd.specs.Runs.{EndsWithReply, HasAcceptedProof, HasCircuit, IsEvaluable, IsInput}

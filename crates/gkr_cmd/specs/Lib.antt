@@ -1,4 +1,3 @@
-pub mod Commands
 pub mod Demo
 pub mod Headline
 pub mod Programs

@@ -23,16 +23,16 @@ use Rattle.gkr_layers.specs.declared.verdict.Verdict.{Verdict}
 use Rattle.gkr_layers.specs.declared.verdict.Verdict.TheVariants as verdicts
 use Rattle.gkr_cmd.specs.declared.status.Status.{Status}
 use Rattle.gkr_cmd.specs.declared.status.Status.TheVariants as statuses
-use Rattle.gkr_cmd.specs.declared.words.CaseCommand.{CaseCommand}
-use Rattle.gkr_cmd.specs.declared.words.CaseCommand.TheVariants as commands
-use Rattle.gkr_cmd.specs.declared.words.Command.{Command}
-use Rattle.gkr_cmd.specs.declared.words.Command.TheVariants.{OfCase, Demo, Serve}
+use Rattle.gkr_words.specs.declared.words.CaseCommand.{CaseCommand}
+use Rattle.gkr_words.specs.declared.words.CaseCommand.TheVariants as commands
+use Rattle.gkr_words.specs.declared.words.Command.{Command}
+use Rattle.gkr_words.specs.declared.words.Command.TheVariants.{OfCase, Demo, Serve}
 use Rattle.case_prove.specs.Answers.{IsProveAnswer}
 use Rattle.case_text.specs.Served.{Served}
 use Rattle.script_text.specs.declared.script.ScriptJob.{ScriptJob}
 use Rattle.script_text.specs.Scripts.{script_reading}
 use Rattle.script_prove.specs.Served.{AreServed}
-use Rattle.gkr_cmd.specs.Commands.{case_limit, command_of, script_limit}
+use Rattle.gkr_words.specs.Commands.{case_limit, command_of, script_limit}
 use Rattle.gkr_cmd.specs.Demo.{IsDemo}
 
 -- The input is no longer than a case may be.

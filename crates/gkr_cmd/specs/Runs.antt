@@ -17,8 +17,8 @@ use Rattle.script_prove.specs.Served.{AreServed}
 use Rattle.case_text.specs.Spelling.{lower_case_text}
 use Rattle.case_text.specs.declared.form.Form.TheVariants.{Full}
 use Rattle.case_text.specs.declared.reply.Reply.{Reply}
-use Rattle.gkr_cmd.specs.declared.words.Command.{Command}
-use Rattle.gkr_cmd.specs.declared.words.Command.TheVariants.{OfCase, Demo, Serve}
+use Rattle.gkr_words.specs.declared.words.Command.{Command}
+use Rattle.gkr_words.specs.declared.words.Command.TheVariants.{OfCase, Demo, Serve}
 use Rattle.gkr_cmd.specs.declared.status.Status.{Status}
 use Rattle.gkr_cmd.specs.declared.status.Status.TheVariants as statuses
 use Rattle.gkr_cmd.specs.Replies.{IsOfCase, IsReply, status_of}

@@ -4,16 +4,16 @@ ghost use Rattle.std.specs.Prelude.{◌≡◌, ◌≢◌, IfOk};
 ghost use Rattle.case_text.specs.Forms.{Allows};
 ghost use Rattle.case_text.specs.declared.form.Form.TheVariants.{Full};
 ghost use Rattle.phase_run.specs.Work.{IsWorkerCount};
-ghost use Rattle.gkr_cmd.specs.Commands.{HasWorkers};
+ghost use Rattle.gkr_words.specs.Commands.{HasWorkers};
 ghost use Rattle.gkr_cmd.specs.Replies.{form_of, IsAnswer, IsCaseReply, IsCircuitAnswer, IsEvalAnswer, IsVerifyAnswer, IsWithinLimit, refused_reply, verdict_reply};
 ghost use Rattle.case_prove.specs.Answers.{IsProveAnswer};
 
 use crate::reply_error::ReplyError;
-use crate::words::{CaseCommand, Command};
 use arr_compile::BadProgram;
 use case_prove::{Refused, circuit_case, eval_case, prove_case, verify_case};
 use case_text::{Case, CaseRefused, Form, Reply, Values, read_case};
 use gkr_verify::Verdict;
+use gkr_words::{CaseCommand, Command};
 use io_edge::Gate;
 use std::alloc::Global;
 use std::marker::Sync;

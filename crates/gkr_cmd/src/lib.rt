@@ -21,9 +21,7 @@ mod replying;
 mod run;
 mod serving;
 mod status;
-mod words;
 
 pub use program::{NoWords, run_program};
 pub use run::gkr_run;
 pub use status::Status;
-pub use words::{CaseCommand, Command};

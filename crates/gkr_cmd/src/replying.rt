@@ -2,7 +2,7 @@
 
 ghost use Rattle.std.specs.Prelude.{◌≡◌, ◌≢◌, ◌↔◌, ◌+◌, List, ℕ, map, IfOk, OnOk, IsErrOf, None, Some, Ok, Err, string_bytes};
 ghost use Rattle.io_edge.specs.Causes.{Rose};
-ghost use Rattle.gkr_cmd.specs.Commands.{HasWorkers, case_limit, input_limit, ReadsCase, command_of};
+ghost use Rattle.gkr_words.specs.Commands.{HasWorkers, case_limit, input_limit, ReadsCase, command_of};
 ghost use Rattle.gkr_cmd.specs.Reached.{IsReadUpTo};
 ghost use Rattle.gkr_cmd.specs.Replies.{IsCommandReply, IsReply, status_of};
 ghost use Rattle.gkr_cmd.specs.Runs.{IsInput};
@@ -13,8 +13,8 @@ use crate::input::read_input;
 use crate::reply_error::ReplyError;
 use crate::serving::serve;
 use crate::status::Status;
-use crate::words::{CaseCommand, Command, named_command};
 use case_text::Reply;
+use gkr_words::{CaseCommand, Command, named_command};
 use io_edge::{Gate, Source};
 use script_prove::Threading;
 use std::alloc::Global;

@@ -1,7 +1,7 @@
 //! The whole program.
 
 ghost use Rattle.std.specs.Prelude.{◌≡◌, map, string_bytes};
-ghost use Rattle.gkr_cmd.specs.Commands.{ReadsCase, command_of};
+ghost use Rattle.gkr_words.specs.Commands.{ReadsCase, command_of};
 ghost use Rattle.gkr_cmd.specs.Headline.{KeepsPromises};
 
 use crate::laws::{

@@ -3,7 +3,7 @@
 ghost use Rattle.std.specs.Prelude.{◌≡◌, ◌≢◌, ◌≤◌, ◌+◌, length, List, ℕ, IfOk, OnOk, IsErrOf, Some, Err};
 ghost use Rattle.io_edge.specs.Causes.{Rose};
 ghost use Rattle.phase_run.specs.Work.{IsWorkerCount};
-ghost use Rattle.gkr_cmd.specs.Commands.{script_limit};
+ghost use Rattle.gkr_words.specs.Commands.{script_limit};
 ghost use Rattle.gkr_cmd.specs.Reached.{IsReadUpTo};
 ghost use Rattle.gkr_cmd.specs.Replies.{IsScriptReply, status_of};
 

@@ -2,8 +2,8 @@ use Rattle.std.proofs.Common.{◌≡◌, ◌∙◌, ◌||◌, [], ◌∷◌, ap�
 use Rattle.std.proofs.lemmas.Result.{IfOk-weaker}
 use Rattle.clap.specs.Simple.{App, Shape, with_rule}
 use Rattle.clap.specs.Words.{app_of}
-use Rattle.gkr_cmd.specs.Commands.{provers_option, subcommand, workers_option}
-use Rattle.gkr_cmd.proofs.words.serve_line.Goals as goal
+use Rattle.gkr_words.specs.Commands.{provers_option, subcommand, workers_option}
+use Rattle.gkr_words.proofs.words.serve_line.Goals as goal
 
 -- a command line without subcommands
 abbrev alone : Shape → App

@@ -2,8 +2,8 @@ use Rattle.std.proofs.Common.{◌<◌, ◌^◌, sym, ◌∙◌, arith}
 use Rattle.std.proofs.lemmas.Bool.{both_ways}
 use Rattle.std.proofs.lemmas.Slice.Eq.{bytes_eq-Decides}
 use Rattle.std.specs.Str.{bytes_eq}
-use Rattle.gkr_cmd.proofs.Numbers.{misspelled, number_taken}
-use Rattle.gkr_cmd.proofs.words.number_of.Goals as goal
+use Rattle.gkr_words.proofs.Numbers.{misspelled, number_taken}
+use Rattle.gkr_words.proofs.words.number_of.Goals as goal
 
 pub returns-then-eq : goal.returns-then-eq
 returns-then-eq c =

@@ -6,7 +6,7 @@ use Rattle.std.proofs.lemmas.Slice.Eq.{bytes_eq-Decides}
 use Rattle.std.specs.Prelude.{nat_lt, ◌&&◌}
 use Rattle.std.specs.Str.{bytes_eq}
 use Rattle.std.specs.Str.Parse.{digits_value, ParsesUnsigned}
-use Rattle.gkr_cmd.specs.Commands.{number_if_spelled, number_of}
+use Rattle.gkr_words.specs.Commands.{number_if_spelled, number_of}
 
 abbrev test : List ℕ → ℕ → Bool
 test word m = nat_lt m (2 ^ 32) && bytes_eq word (decimal m)

@@ -3,9 +3,9 @@ use Rattle.std.specs.Prelude.{IfSome, option_and_then, string_bytes}
 use Rattle.clap.specs.Simple.{is_simple}
 use Rattle.clap.specs.Words.{IsAmong, fault_of, is_simple_and_free, kind_of, subcommand_of, subcommand_rows_of}
 use Rattle.clap.specs.declared.error.kind.ErrorKind.TheVariants.{OutOfMemory}
-use Rattle.gkr_cmd.specs.Commands.{HasWorkers, command_line, command_of_rows}
-use Rattle.gkr_cmd.proofs.WordsRead.{command_refused, command_taken, have_workers, line_is_free, line_is_simple, true_or_false}
-use Rattle.gkr_cmd.proofs.words.named_command.Goals as goal
+use Rattle.gkr_words.specs.Commands.{HasWorkers, command_line, command_of_rows}
+use Rattle.gkr_words.proofs.WordsRead.{command_refused, command_taken, have_workers, line_is_free, line_is_simple, true_or_false}
+use Rattle.gkr_words.proofs.words.named_command.Goals as goal
 
 pub returns-in-Ok-clause-command : goal.returns-in-Ok-clause-command
 returns-in-Ok-clause-command c =

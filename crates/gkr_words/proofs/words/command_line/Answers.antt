@@ -2,8 +2,8 @@ use Rattle.std.proofs.Common.{◌≡◌, ◌∙◌, ◌||◌, true, [], ◌∷�
 use Rattle.std.proofs.lemmas.Result.{IfOk-weaker}
 use Rattle.clap.specs.Simple.{App, Shape, app_of_fields, new_app, on_top, with_rule, with_subcommand}
 use Rattle.clap.specs.Words.{app_of}
-use Rattle.gkr_cmd.specs.Commands.{demo_number, subcommand, workers_option}
-use Rattle.gkr_cmd.proofs.words.command_line.Goals as goal
+use Rattle.gkr_words.specs.Commands.{demo_number, subcommand, workers_option}
+use Rattle.gkr_words.proofs.words.command_line.Goals as goal
 
 -- a command line without subcommands
 abbrev alone : Shape → App

@@ -16,11 +16,11 @@ use Rattle.clap.specs.Simple.{App, Shape, built, entered, label_of, names_of, ro
 use Rattle.clap.specs.Walk.{Held, Names, Row, Rule, Text, Waiting, Walk, after_flag, after_step, answers_to, bundle_met, bundle_step, finished, idle, long_or_other, nothing_held, option, plain, plain_word, positional, rows_after, settled, short_or_plain, subcommand_met, subcommand_or_other, trailing, walk, walk_from, walked, word_met}
 use Rattle.clap.specs.Words.{fault_of, subcommand_of}
 use Rattle.clap.proofs.OnLiterals.{clap_on_literals}
-use Rattle.gkr_cmd.specs.declared.words.Command.TheVariants.{OfCase, Demo, Serve}
-use Rattle.gkr_cmd.specs.declared.words.CaseCommand.TheVariants.{Eval, Circuit, Prove, Verify}
-use Rattle.gkr_cmd.specs.Commands.{command_line, command_of, command_of_rows, command_unless, demo_of, if_worker_count, number_of, workers_of}
-use Rattle.gkr_cmd.proofs.Numbers.{number_taken}
-use Rattle.gkr_cmd.proofs.WordsRead.{command_taken}
+use Rattle.gkr_words.specs.declared.words.Command.TheVariants.{OfCase, Demo, Serve}
+use Rattle.gkr_words.specs.declared.words.CaseCommand.TheVariants.{Eval, Circuit, Prove, Verify}
+use Rattle.gkr_words.specs.Commands.{command_line, command_of, command_of_rows, command_unless, demo_of, if_worker_count, number_of, workers_of}
+use Rattle.gkr_words.proofs.Numbers.{number_taken}
+use Rattle.gkr_words.proofs.WordsRead.{command_taken}
 
 -- ---- the top: the first word is a subcommand's name
 

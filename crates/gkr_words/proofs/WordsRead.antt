@@ -11,11 +11,11 @@ use Rattle.clap.specs.declared.parser.matches.ArgMatches.TheViews.{out-SubComman
 use Rattle.clap.specs.declared.parser.matches.SubCommand.{SubCommand}
 use Rattle.clap.proofs.OnLiterals.{clap_on_literals}
 use Rattle.phase_run.specs.Work.{IsWorkerCount}
-use Rattle.gkr_cmd.specs.Commands.{command_line, command_of, command_named, command_of_rows, command_unless, HasWorkers, demo_of, serve_of, if_worker_count, number_of, workers_of}
-use Rattle.gkr_cmd.specs.declared.words.CaseCommand.{CaseCommand}
-use Rattle.gkr_cmd.specs.declared.words.CaseCommand.TheVariants.{Prove}
-use Rattle.gkr_cmd.specs.declared.words.Command.{Command}
-use Rattle.gkr_cmd.specs.declared.words.Command.TheVariants.{OfCase, Serve}
+use Rattle.gkr_words.specs.Commands.{command_line, command_of, command_named, command_of_rows, command_unless, HasWorkers, demo_of, serve_of, if_worker_count, number_of, workers_of}
+use Rattle.gkr_words.specs.declared.words.CaseCommand.{CaseCommand}
+use Rattle.gkr_words.specs.declared.words.CaseCommand.TheVariants.{Prove}
+use Rattle.gkr_words.specs.declared.words.Command.{Command}
+use Rattle.gkr_words.specs.declared.words.Command.TheVariants.{OfCase, Serve}
 
 pub line_is_simple : is_simple command_line ≡ true
 unfolding clap_on_literals

@@ -1,0 +1,50 @@
+//! Which words are which command, by the definitions alone.
+
+ghost use Rattle.std.specs.Prelude.{◌≡◌, ◌≢◌, ◌<◌, ◌≤◌, ◌^◌, ◌↔◌, List, ℕ, [], ◌∷◌, None, Some, codes, decimal};
+ghost use Rattle.gkr_words.specs.Commands.{command_of, number_of};
+
+use crate::words::{CaseCommand, Command};
+
+/// The number of a word is the one below 2^32 whose decimal it is.
+pub fn number_by_decimal()
+    ensures { (word : List ℕ) (n : ℕ)
+        → (number_of word ≡ Some n) ↔ ((n < 2 ^ 32) × (word ≡ decimal n)) }
+{}
+
+/// A subcommand's name by itself names that command; `prove` then means one worker, and `serve` one
+/// of each.
+pub fn words_alone()
+    ensures eval { (program : List ℕ)
+        → command_of (program ∷ codes "eval" ∷ []) ≡ Some (Command.OfCase CaseCommand.Eval) }
+    ensures circuit { (program : List ℕ)
+        → command_of (program ∷ codes "circuit" ∷ []) ≡ Some (Command.OfCase CaseCommand.Circuit) }
+    ensures prove { (program : List ℕ)
+        → command_of (program ∷ codes "prove" ∷ []) ≡ Some (Command.OfCase (CaseCommand.Prove 1)) }
+    ensures verify { (program : List ℕ)
+        → command_of (program ∷ codes "verify" ∷ []) ≡ Some (Command.OfCase CaseCommand.Verify) }
+    ensures serve { (program : List ℕ)
+        → command_of (program ∷ codes "serve" ∷ []) ≡ Some (Command.Serve 1 1 1) }
+{}
+
+/// `prove --workers W` and `demo N --workers W` name these commands for each W from 1 to 64 and
+/// each N below 2^32, both in decimal; `demo N` means one worker.
+pub fn words_with_numbers()
+    ensures prove { (program : List ℕ) (workers : ℕ) → 1 ≤ workers → workers ≤ 64
+        → command_of (program ∷ codes "prove" ∷ codes "--workers" ∷ decimal workers ∷ [])
+        ≡ Some (Command.OfCase (CaseCommand.Prove workers)) }
+    ensures demo { (program : List ℕ) (number : ℕ) → number < 2 ^ 32
+        → command_of (program ∷ codes "demo" ∷ decimal number ∷ []) ≡ Some (Command.Demo number 1) }
+    ensures demo_by { (program : List ℕ) (number workers : ℕ) → number < 2 ^ 32 → 1 ≤ workers
+        → workers ≤ 64
+        → command_of (program ∷ codes "demo" ∷ decimal number ∷ codes "--workers" ∷ decimal workers ∷ []) ≡ Some (Command.Demo number workers) }
+{}
+
+/// Words name a command only where the first behind the program's own name is a subcommand's.
+pub fn other_words()
+    ensures none { command_of [] ≡ None }
+    ensures own_name { (program : List ℕ) → command_of (program ∷ []) ≡ None }
+    ensures other { (program word : List ℕ) (rest : List (List ℕ)) → word ≢ codes "eval"
+        → word ≢ codes "circuit" → word ≢ codes "prove" → word ≢ codes "verify"
+        → word ≢ codes "demo" → word ≢ codes "serve"
+        → command_of (program ∷ word ∷ rest) ≡ None }
+{}
