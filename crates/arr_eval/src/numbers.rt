@@ -60,7 +60,7 @@ fn add_each(left: &mut [Fp], right: &[Fp])
     ensures { left.new ≡ element_wise add_f left.old right.now }
 {
     'each: for i in 0..left.len() {
-        left[i] = left[i].add(right[i]);
+        left[i] = left[i] + right[i];
     }
 }
 
@@ -69,7 +69,7 @@ fn subtract_each(left: &mut [Fp], right: &[Fp])
     ensures { left.new ≡ element_wise sub_f left.old right.now }
 {
     'each: for i in 0..left.len() {
-        left[i] = left[i].sub(right[i]);
+        left[i] = left[i] - right[i];
     }
 }
 
@@ -78,7 +78,7 @@ fn multiply_each(left: &mut [Fp], right: &[Fp])
     ensures { left.new ≡ element_wise mul_f left.old right.now }
 {
     'each: for i in 0..left.len() {
-        left[i] = left[i].mul(right[i]);
+        left[i] = left[i] * right[i];
     }
 }
 
@@ -86,7 +86,7 @@ fn negate_each(items: &mut [Fp])
     ensures { items.new ≡ map neg_f items.old }
 {
     'each: for i in 0..items.len() {
-        items[i] = items[i].neg();
+        items[i] = -items[i];
     }
 }
 
@@ -94,7 +94,7 @@ fn scale_each(scale: Fp, items: &mut [Fp])
     ensures { items.new ≡ map (mul_f scale) items.old }
 {
     'each: for i in 0..items.len() {
-        items[i] = scale.mul(items[i]);
+        items[i] = scale * items[i];
     }
 }
 
@@ -102,7 +102,7 @@ fn scale_each(scale: Fp, items: &mut [Fp])
 pub fn sum(items: &[Fp]) -> Fp
     ensures { result ≡ sum_of items.now }
 {
-    items.iter().fold(Fp::zero(), |total, a| total.add(*a))
+    items.iter().fold(Fp::zero(), |total, a| total + *a)
 }
 
 /// The dot product of two lists: the sum of their products, place by place.
@@ -118,7 +118,7 @@ fn running_dot(left: &[Fp], right: &[Fp]) -> Fp
 {
     left.iter()
         .zip(right.iter())
-        .fold(Fp::zero(), |total, (a, b)| total.add(a.mul(*b)))
+        .fold(Fp::zero(), |total, (a, b)| total + *a * *b)
 }
 
 /// The element at a place, or zero past the end.

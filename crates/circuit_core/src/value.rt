@@ -16,8 +16,8 @@ pub fn gate_value(below: &[Fp], gate: &CircuitGate) -> Fp
     let left = below[gate.left as usize];
     let right = below[gate.right as usize];
     match gate.kind {
-        Kind::Add => left.add(right),
-        Kind::Mul => left.mul(right),
+        Kind::Add => left + right,
+        Kind::Mul => left * right,
     }
 }
 

@@ -91,7 +91,7 @@ fn lays_out_by_position(rt: HostRuntime) -> Result<(), Fail> {
     let alloc = rt.alloc();
     let product = program(alloc, 2, &[A, B, mul_node(0, 1)], &[2])?;
     shows(&rt, &product, "0+0 1+0 / 0+0 1*2 / 4: in0 in1")?;
-    let minus_one = Node::Constant(Fp::one().neg());
+    let minus_one = Node::Constant(-Fp::one());
     let difference = program(alloc, 2, &[A, B, minus_one, mul_node(1, 2), add_node(0, 3)], &[4])?;
     shows(
         &rt,

@@ -16,7 +16,7 @@ fn difference(alloc: Global) -> Result<NodeList, AllocError>
     let a = nodes.push(Node::Input(0))?;
     let b = nodes.push(Node::Input(1))?;
     let product = nodes.push(mul_node(a, b))?;
-    let minus_one = nodes.push(Node::Constant(Fp::one().neg()))?;
+    let minus_one = nodes.push(Node::Constant(-Fp::one()))?;
     let negated = nodes.push(mul_node(b, minus_one))?;
     let difference = nodes.push(add_node(product, negated))?;
     nodes.output(difference)?;

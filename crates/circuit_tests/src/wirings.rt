@@ -33,11 +33,11 @@ fn weighs_each_gate_by_its_kind(rt: HostRuntime) -> Result<(), Fail> {
     let Ok(copies) = made(rt.alloc(), add(1, 0)) else {
         return Err(Fail::new("no circuit"));
     };
-    weighs(&rt, &copies, (number(24).neg(), Ext::zero()));
+    weighs(&rt, &copies, (-number(24), Ext::zero()));
     // Gate 0 gives (1 - 2)(1 - 3)(1 - 4) to the sums, and gate 1 the product 2 * 3 * 4 to the products.
     let Ok(squares) = made(rt.alloc(), mul(1, 1)) else {
         return Err(Fail::new("no circuit"));
     };
-    weighs(&rt, &squares, (number(6).neg(), number(24)));
+    weighs(&rt, &squares, (-number(6), number(24)));
     Ok(())
 }

@@ -6,6 +6,7 @@ ghost use Rattle.field_ext.specs.Bytes.{bytes_of, real_half, imaginary_half};
 
 use crate::fp::{Fp, PRIME};
 use std::marker::Model;
+use std::ops::{Add, Mul, Neg, Sub};
 
 /// An element `re + im i` of K, where `i` times `i` is -1.
 #[derive(Clone, Copy, Debug, PartialEq, Eq)]
@@ -83,8 +84,8 @@ impl Ext {
         ensures { result ≡ add_k self other }
     {
         Ext {
-            re: self.re.add(other.re),
-            im: self.im.add(other.im),
+            re: self.re + other.re,
+            im: self.im + other.im,
         }
     }
 
@@ -94,8 +95,8 @@ impl Ext {
         ensures { result ≡ sub_k self other }
     {
         Ext {
-            re: self.re.sub(other.re),
-            im: self.im.sub(other.im),
+            re: self.re - other.re,
+            im: self.im - other.im,
         }
     }
 
@@ -105,8 +106,8 @@ impl Ext {
         ensures { result ≡ neg_k self }
     {
         Ext {
-            re: self.re.neg(),
-            im: self.im.neg(),
+            re: -self.re,
+            im: -self.im,
         }
     }
 
@@ -149,5 +150,49 @@ impl Ext {
         let re = Fp::of(u32::from_le_bytes([bytes[0], bytes[1], bytes[2], bytes[3]]))?;
         let im = Fp::of(u32::from_le_bytes([bytes[4], bytes[5], bytes[6], bytes[7]]))?;
         Some(Ext { re, im })
+    }
+}
+
+impl Add for Ext {
+    type Output = Ext;
+
+    ghost add_gives = { λ x y sum. sum ≡ add_k x y };
+
+    #[inline]
+    fn add(self, other: Ext) -> Ext {
+        Ext::add(self, other)
+    }
+}
+
+impl Sub for Ext {
+    type Output = Ext;
+
+    ghost sub_gives = { λ x y difference. difference ≡ sub_k x y };
+
+    #[inline]
+    fn sub(self, other: Ext) -> Ext {
+        Ext::sub(self, other)
+    }
+}
+
+impl Mul for Ext {
+    type Output = Ext;
+
+    ghost mul_gives = { λ x y product. product ≡ mul_k x y };
+
+    #[inline]
+    fn mul(self, other: Ext) -> Ext {
+        Ext::mul(self, other)
+    }
+}
+
+impl Neg for Ext {
+    type Output = Ext;
+
+    ghost neg_gives = { λ x opposite. opposite ≡ neg_k x };
+
+    #[inline]
+    fn neg(self) -> Ext {
+        Ext::neg(self)
     }
 }

@@ -4,6 +4,7 @@ ghost use Rattle.std.specs.Prelude.{◌≡◌, ◌<◌, ◌*◌, ◌^◌, IfSome
 ghost use Rattle.field_ext.specs.Field.{prime, F, of, add_f, mul_f, neg_f, sub_f};
 
 use std::marker::Model;
+use std::ops::{Add, Mul, Neg, Sub};
 
 /// The prime `p = 2^31 - 1`.
 pub const PRIME: u32 = 2147483647;
@@ -131,5 +132,49 @@ impl Fp {
         ensures { result ≡ of n }
     {
         Fp::made(n.min(n.wrapping_sub(PRIME)))
+    }
+}
+
+impl Add for Fp {
+    type Output = Fp;
+
+    ghost add_gives = { λ a b sum. sum ≡ add_f a b };
+
+    #[inline]
+    fn add(self, other: Fp) -> Fp {
+        Fp::add(self, other)
+    }
+}
+
+impl Sub for Fp {
+    type Output = Fp;
+
+    ghost sub_gives = { λ a b difference. difference ≡ sub_f a b };
+
+    #[inline]
+    fn sub(self, other: Fp) -> Fp {
+        Fp::sub(self, other)
+    }
+}
+
+impl Mul for Fp {
+    type Output = Fp;
+
+    ghost mul_gives = { λ a b product. product ≡ mul_f a b };
+
+    #[inline]
+    fn mul(self, other: Fp) -> Fp {
+        Fp::mul(self, other)
+    }
+}
+
+impl Neg for Fp {
+    type Output = Fp;
+
+    ghost neg_gives = { λ a opposite. opposite ≡ neg_f a };
+
+    #[inline]
+    fn neg(self) -> Fp {
+        Fp::neg(self)
     }
 }

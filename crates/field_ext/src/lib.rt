@@ -8,7 +8,7 @@
 //! use field_ext::{Ext, Fp};
 //!
 //! let i = Ext::of(Fp::zero(), Fp::one());
-//! assert!(rt; i.mul(i) == Ext::one().neg());
+//! assert!(rt; i * i == -Ext::one());
 //! ```
 #![tactic(auto)]
 

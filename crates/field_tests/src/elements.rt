@@ -21,11 +21,11 @@ fn multiplies_by_hand(rt: HostRuntime) {
     ];
     for ((a, b), (c, d), (re, im)) in rows {
         assert!(rt;
-            element(a, b).mul(element(c, d)) == element(re, im),
+            element(a, b) * element(c, d) == element(re, im),
             "({a} + {b}i)({c} + {d}i)"
         );
         assert!(rt;
-            element(c, d).mul(element(a, b)).equals(element(re, im)),
+            (element(c, d) * element(a, b)).equals(element(re, im)),
             "({c} + {d}i)({a} + {b}i)"
         );
     }
@@ -42,12 +42,12 @@ fn adds_and_subtracts_by_hand(rt: HostRuntime) {
     ];
     for ((a, b), (c, d), (re, im), (less_re, less_im)) in rows {
         let (x, y) = (element(a, b), element(c, d));
-        assert!(rt; x.add(y) == element(re, im), "({a} + {b}i) + ({c} + {d}i)");
+        assert!(rt; x + y == element(re, im), "({a} + {b}i) + ({c} + {d}i)");
         assert!(rt;
-            x.sub(y) == element(less_re, less_im),
+            x - y == element(less_re, less_im),
             "({a} + {b}i) - ({c} + {d}i)"
         );
-        assert!(rt; x.add(y.neg()) == x.sub(y), "({a} + {b}i) + -({c} + {d}i)");
+        assert!(rt; x + -y == x.sub(y), "({a} + {b}i) + -({c} + {d}i)");
     }
     assert!(rt; Ext::embed(Fp::reduce(7)) == element(7, 0));
     assert!(rt; Ext::zero() == element(0, 0) && Ext::one() == element(1, 0));
@@ -75,7 +75,7 @@ fn reduces_numbers_of_64_bits(rt: HostRuntime) {
 
 #[test]
 fn writes_and_reads_eight_bytes(rt: HostRuntime) {
-    let product = element(1, 2).mul(element(3, 4));
+    let product = element(1, 2) * element(3, 4);
     assert_eq!(rt; product.to_bytes(), [0xfa, 0xff, 0xff, 0x7f, 0x0a, 0, 0, 0]);
     let rows = [
         ([0xfa, 0xff, 0xff, 0x7f, 0x0a, 0, 0, 0], Some(product)),

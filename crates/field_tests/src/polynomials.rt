@@ -55,7 +55,7 @@ fn multiplies_constants_at_the_edges(rt: HostRuntime) -> Result<(), AllocError> 
     let alloc = rt.alloc();
     for ((a, b), (c, d), (re, im)) in rows {
         let (x, y) = (element(a, b), element(c, d));
-        assert!(rt; x.mul(y) == element(re, im) && y.mul(x) == element(re, im));
+        assert!(rt; x * y == element(re, im) && y * x == element(re, im));
         let left = Poly::of_coeffs(Vec::from_slice(alloc, &[x])?);
         let right = Poly::of_coeffs(Vec::from_slice(alloc, &[y])?);
         let product = left.mul(alloc, &right)?;

@@ -31,5 +31,5 @@ pub(crate) fn end_value(
     let (add, mul) = wiring_at(circuit, layer as u32, point, left, right);
     let low = value_at(line, Ext::zero());
     let high = value_at(line, Ext::one());
-    add.mul(low.add(high)).add(mul.mul(low.mul(high)))
+    add * (low + high) + mul * (low * high)
 }

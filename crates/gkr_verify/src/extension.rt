@@ -19,7 +19,7 @@ pub(crate) fn values_extension(values: &[Fp], point: &[Ext]) -> Ext
     let equality = SplitEquality::at(point);
     let mut sum = Ext::zero();
     for (i, value) in values.iter().enumerate() {
-        sum = sum.add(Ext::embed(*value).mul(equality.value(i + 1)));
+        sum = sum + Ext::embed(*value) * equality.value(i + 1);
     }
     sum
 }
@@ -35,7 +35,7 @@ pub(crate) fn leaves_extension(leaves: &[Leaf], inputs: &[Fp], point: &[Ext]) ->
     let mut sum = Ext::zero();
     for (i, leaf) in leaves.iter().enumerate() {
         let value = leaf_value(inputs, *leaf);
-        sum = sum.add(Ext::embed(value).mul(equality.value(i + 1)));
+        sum = sum + Ext::embed(value) * equality.value(i + 1);
     }
     sum
 }

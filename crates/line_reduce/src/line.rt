@@ -57,7 +57,7 @@ fn folded_rows(
     let mut count = rows.len();
     for j in 0..b.len() {
         count /= 2;
-        rows = fold_rows(alloc, &rows, j + 1, count, b[j], c[j].sub(b[j]))?;
+        rows = fold_rows(alloc, &rows, j + 1, count, b[j], c[j] - b[j])?;
     }
     Ok(rows)
 }

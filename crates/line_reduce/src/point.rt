@@ -13,6 +13,6 @@ pub fn point_at(b: &[Ext], c: &[Ext], t: Ext, point: &mut [Ext])
     ensures { point.new ≡ point_between k_ops b.now c.now t }
 {
     for j in 0..b.len() {
-        point[j] = b[j].add(t.mul(c[j].sub(b[j])));
+        point[j] = b[j] + t * (c[j] - b[j]);
     }
 }

@@ -18,9 +18,9 @@ fn fold_row(old: &[Ext], at: usize, n: usize, start: Ext, step: Ext, new: &mut [
     for done in 0..n {
         let i = n - 1 - done;
         let low = old[at + i];
-        let difference = old[at + n + i].sub(low);
-        new[to + i + 1] = new[to + i + 1].add(step.mul(difference));
-        new[to + i] = low.add(start.mul(difference));
+        let difference = old[at + n + i] - low;
+        new[to + i + 1] = new[to + i + 1] + step * difference;
+        new[to + i] = low + start * difference;
     }
 }
 

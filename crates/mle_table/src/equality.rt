@@ -26,8 +26,8 @@ fn extend_equality(table: &mut [Ext], size: usize, u: Ext)
 {
     for g in 0..size {
         let whole = table[g];
-        let high = whole.mul(u);
+        let high = whole * u;
         table[size + g] = high;
-        table[g] = whole.sub(high);
+        table[g] = whole - high;
     }
 }

@@ -16,7 +16,7 @@ pub(crate) fn fold_values(values: &mut Vec<Ext>, r: Ext)
     for j in 0..half {
         let low = values[2 * j];
         let high = values[2 * j + 1];
-        values[j] = low.add(r.mul(high.sub(low)));
+        values[j] = low + r * (high - low);
     }
     values.truncate(half);
 }
@@ -29,7 +29,7 @@ pub(crate) fn fold_slice(values: &[Ext], r: Ext, room: &mut [Ext])
     for j in 0..room.len() {
         let low = values[2 * j];
         let high = values[2 * j + 1];
-        room[j] = low.add(r.mul(high.sub(low)));
+        room[j] = low + r * (high - low);
     }
 }
 

@@ -15,7 +15,7 @@ pub(crate) fn sum(alloc: Global, left: &[Ext], right: &[Ext]) -> Result<Vec<Ext>
     let size = left.len().max(right.len());
     let mut sums = Vec::with_capacity(alloc, size)?;
     for i in 0..size {
-        sums.push_reserved(coefficient(left, i).add(coefficient(right, i)));
+        sums.push_reserved(coefficient(left, i) + coefficient(right, i));
     }
     Ok(sums)
 }
@@ -58,7 +58,7 @@ fn add_row(room: &mut [Ext], row: usize, c: Ext, coefficients: &[Ext])
     ensures from { (k : ℕ) → slice_index_or room.new (row + k) zero_k ≡ add_k (slice_index_or room.old (row + k) zero_k) (mul_k c (slice_index_or coefficients.now k zero_k)) }
 {
     for i in 0..coefficients.len() {
-        let sum = room[row + i].add(c.mul(coefficients[i]));
+        let sum = room[row + i] + c * coefficients[i];
         room[row + i] = sum;
     }
 }

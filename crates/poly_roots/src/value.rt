@@ -13,7 +13,7 @@ pub fn value_at(coefficients: &[Ext], e: Ext) -> Ext
     let mut value = Ext::zero();
     for done in 0..coefficients.len() {
         let coefficient = coefficients[coefficients.len() - 1 - done];
-        value = coefficient.add(e.mul(value));
+        value = coefficient + e * value;
     }
     value
 }
@@ -22,7 +22,7 @@ pub fn value_at(coefficients: &[Ext], e: Ext) -> Ext
 pub fn sum01(coefficients: &[Ext]) -> Ext
     ensures { result ≡ add_k (value_at k_ops coefficients.now zero_k) (value_at k_ops coefficients.now one_k) }
 {
-    coefficient(coefficients, 0).add(value_at_one(coefficients))
+    coefficient(coefficients, 0) + value_at_one(coefficients)
 }
 
 // The coefficient of the i-th power, 0 past the last.
@@ -43,7 +43,7 @@ fn value_at_one(coefficients: &[Ext]) -> Ext
 {
     let mut value = Ext::zero();
     for done in 0..coefficients.len() {
-        value = coefficients[coefficients.len() - 1 - done].add(value);
+        value = coefficients[coefficients.len() - 1 - done] + value;
     }
     value
 }

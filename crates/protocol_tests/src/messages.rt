@@ -14,7 +14,7 @@ use std::test::Fail;
 fn table(alloc: Global, ns: &[i32], unit: Ext) -> Result<Table, Fail> {
     let mut values = Vec::new(alloc);
     for n in ns {
-        values.push(number(*n).mul(unit))?;
+        values.push(number(*n) * unit)?;
     }
     match Table::of_values(values) {
         Ok(table) => Ok(table),
@@ -28,11 +28,7 @@ fn follows<R: Abort>(rt: &R, sum: &mut GateTables<'_>, rounds: &[([i32; 3], i32)
         assert!(rt; sum.rounds_left() > 0);
         assert_eq!(rt; sum.pieces(), 1);
         let [c0, c1, c2] = *message;
-        let want = [
-            number(c0).mul(unit),
-            number(c1).mul(unit),
-            number(c2).mul(unit),
-        ];
+        let want = [number(c0) * unit, number(c1) * unit, number(c2) * unit];
         assert_eq!(rt; sum.piece_sum(0), want);
         sum.bind(number(*challenge));
     }

@@ -6,7 +6,7 @@ use std::alloc::{AllocError, Global};
 /// The element of a number modulo the prime.
 pub(crate) fn number(n: i32) -> Ext {
     let size = Ext::embed(Fp::reduce(n.unsigned_abs() as u64));
-    if n < 0 { size.neg() } else { size }
+    if n < 0 { -size } else { size }
 }
 
 /// The elements of these numbers.

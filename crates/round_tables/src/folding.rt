@@ -79,7 +79,7 @@ fn fold_into<V: Operand, L: Ledger>(
     for i in 0..count {
         let low = values[2 * (from + i)];
         let high = values[2 * (from + i) + 1];
-        block[i] = low.add(V::times(r, V::difference(high, low)));
+        block[i] = low + V::times(r, V::difference(high, low));
         steps.tick();
     }
 }

@@ -38,10 +38,10 @@ fn send<V: Operand>(
 {
     let product = V::times(factor, other);
     match gate.kind {
-        Kind::Mul => scales[place] = scales[place].add(product),
+        Kind::Mul => scales[place] = scales[place] + product,
         Kind::Add => {
-            scales[place] = scales[place].add(factor);
-            shifts[place] = shifts[place].add(product);
+            scales[place] = scales[place] + factor;
+            shifts[place] = shifts[place] + product;
         }
     }
 }
@@ -83,8 +83,8 @@ fn send_factor(adds: &mut [Ext], muls: &mut [Ext], place: usize, kind: Kind, fac
     ensures muls { (x : ℕ) → slice_index_or muls.new x zero_k ≡ add_k (slice_index_or muls.old x zero_k) (if place == x then by_kind kind zero_k factor else zero_k) }
 {
     match kind {
-        Kind::Mul => muls[place] = muls[place].add(factor),
-        Kind::Add => adds[place] = adds[place].add(factor),
+        Kind::Mul => muls[place] = muls[place] + factor,
+        Kind::Add => adds[place] = adds[place] + factor,
     }
 }
 
@@ -108,7 +108,7 @@ fn gather_factors<L: Ledger>(
     clear(adds);
     clear(muls);
     for (g, gate) in gates.iter().enumerate() {
-        let factor = point_equality[g].mul(left_equality[gate.left as usize]);
+        let factor = point_equality[g] * left_equality[gate.left as usize];
         send_factor(adds, muls, gate.right as usize, gate.kind, factor);
         steps.tick();
     }
@@ -124,8 +124,8 @@ fn scale_by(value: Ext, scales: &mut [Ext], shifts: &mut [Ext])
     for i in 0..scales.len() {
         let add = shifts[i];
         let mul = scales[i];
-        scales[i] = add.add(value.mul(mul));
-        shifts[i] = value.mul(add);
+        scales[i] = add + value * mul;
+        shifts[i] = value * add;
     }
 }
 

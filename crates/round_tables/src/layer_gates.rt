@@ -133,6 +133,6 @@ fn fill_weights(table: &mut [Ext], first: &[Ext], second: &[Ext], weight: Ext)
     fill_equality(table, first);
     let equality = SplitEquality::at(second);
     for g in 0..table.len() {
-        table[g] = table[g].add(weight.mul(equality.value(g)));
+        table[g] = table[g] + weight * equality.value(g);
     }
 }

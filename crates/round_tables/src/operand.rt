@@ -46,12 +46,12 @@ impl Operand for Whole {
 
     #[inline]
     fn difference(x: Ext, y: Ext) -> Ext {
-        x.sub(y)
+        x - y
     }
 
     #[inline]
     fn times(r: Ext, x: Ext) -> Ext {
-        r.mul(x)
+        r * x
     }
 }
 
@@ -65,11 +65,11 @@ impl Operand for Base {
 
     #[inline]
     fn difference(x: Ext, y: Ext) -> Ext {
-        Ext::embed(x.re().sub(y.re()))
+        Ext::embed(x.re() - y.re())
     }
 
     #[inline]
     fn times(r: Ext, x: Ext) -> Ext {
-        Ext::of(r.re().mul(x.re()), r.im().mul(x.re()))
+        Ext::of(r.re() * x.re(), r.im() * x.re())
     }
 }

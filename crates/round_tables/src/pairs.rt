@@ -48,10 +48,7 @@ fn pair<V: Operand>(table: &[Ext], scales: &[Ext], shifts: &[Ext], j: usize) -> 
     Samples {
         at_zero: V::product(table_low, scale_low).plus(shifts[2 * j]),
         at_one: V::product(table_high, scale_high).plus(shifts[2 * j + 1]),
-        square: V::product(
-            V::difference(table_high, table_low),
-            scale_high.sub(scale_low),
-        ),
+        square: V::product(V::difference(table_high, table_low), scale_high - scale_low),
     }
 }
 
@@ -92,7 +89,7 @@ fn through(at_zero: Ext, at_one: Ext, square: Ext) -> Quadratic
 {
     Quadratic {
         constant: at_zero,
-        linear: at_one.sub(at_zero.add(square)),
+        linear: at_one - (at_zero + square),
         square,
     }
 }

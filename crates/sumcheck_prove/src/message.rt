@@ -48,9 +48,9 @@ pub fn round<R: Threads + Sync, G: Gate>(
     let mut square = Ext::zero();
     for piece in 0..tables.pieces() {
         let sum = piece_message(tables, &ahead, piece, gate);
-        constant = constant.add(sum[0]);
-        linear = linear.add(sum[1]);
-        square = square.add(sum[2]);
+        constant = constant + sum[0];
+        linear = linear + sum[1];
+        square = square + sum[2];
     }
     Ok([constant, linear, square])
 }

@@ -38,6 +38,6 @@ impl SplitEquality {
         requires high { length self.now.high ≡ 256 }
         ensures { (point : List K) → IsSplitAt point self.now → g < 2 ^ length point → result ≡ eq_poly k_ops point g }
     {
-        self.low[g % 256].mul(self.high[g / 256])
+        self.low[g % 256] * self.high[g / 256]
     }
 }

@@ -59,10 +59,8 @@ fn gate_sums(gates: &[CircuitGate], z: &[Ext], b: &[Ext], c: &[Ext]) -> GateSums
         mul: Ext::zero(),
     };
     for (g, gate) in gates.iter().enumerate() {
-        let operands = left
-            .value(gate.left as usize)
-            .mul(right.value(gate.right as usize));
-        sums = sums.with(gate.kind, position.value(g).mul(operands));
+        let operands = left.value(gate.left as usize) * right.value(gate.right as usize);
+        sums = sums.with(gate.kind, position.value(g) * operands);
     }
     sums
 }
@@ -75,12 +73,12 @@ impl GateSums {
     {
         match kind {
             Kind::Add => GateSums {
-                add: self.add.add(weight),
-                mul: self.mul.add(Ext::zero()),
+                add: self.add + weight,
+                mul: self.mul + Ext::zero(),
             },
             Kind::Mul => GateSums {
-                add: self.add.add(Ext::zero()),
-                mul: self.mul.add(weight),
+                add: self.add + Ext::zero(),
+                mul: self.mul + weight,
             },
         }
     }
