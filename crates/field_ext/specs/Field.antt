@@ -24,8 +24,16 @@ mul_f a b = of (a.value * b.value)
 abbrev pub neg_f : F → F
 neg_f a = of (prime - a.value)
 
+abbrev pub f_ops : Ops F
+f_ops = record { zero = of 0; one = of 1; add = add_f; mul = mul_f; neg = neg_f }
+
+infixl 65 ◌⊕◌
+infixl 70 ◌⊗◌
+infix 75 ⊖◌
+open f_ops use {add as ◌⊕◌, mul as ◌⊗◌, neg as ⊖◌}
+
 abbrev pub sub_f : F → F → F
-sub_f a b = add_f a (neg_f b)
+sub_f a b = a ⊕ ⊖ b
 
 -- a + b i, where i i = -1
 pub record K : Type 0 where
@@ -39,16 +47,16 @@ abbrev pub one_k : K
 one_k = record { re = of 1; im = of 0 }
 
 abbrev pub add_k : K → K → K
-add_k x y = record { re = add_f x.re y.re; im = add_f x.im y.im }
+add_k x y = record { re = x.re ⊕ y.re; im = x.im ⊕ y.im }
 
 abbrev pub neg_k : K → K
-neg_k x = record { re = neg_f x.re; im = neg_f x.im }
+neg_k x = record { re = ⊖ x.re; im = ⊖ x.im }
 
 abbrev pub sub_k : K → K → K
 sub_k x y = record { re = sub_f x.re y.re; im = sub_f x.im y.im }
 
 abbrev pub mul_k : K → K → K
-mul_k x y = record { re = sub_f (mul_f x.re y.re) (mul_f x.im y.im); im = add_f (mul_f x.re y.im) (mul_f x.im y.re) }
+mul_k x y = record { re = x.re ⊗ y.re ⊕ ⊖ (x.im ⊗ y.im); im = x.re ⊗ y.im ⊕ x.im ⊗ y.re }
 
 abbrev pub k_ops : Ops K
 k_ops = record { zero = zero_k; one = one_k; add = add_k; mul = mul_k; neg = neg_k }

@@ -5,20 +5,25 @@ use Rattle.field_ext.specs.Ring.{Ops}
 use Rattle.field_ext.specs.Sums.{sum_below}
 
 module _ {A : Type 0} (o : Ops A) where
+  infixl 65 ◌⊕◌
+  infixl 70 ◌⊗◌
+  infix 75 ⊖◌
+  open o use {add as ◌⊕◌, mul as ◌⊗◌, neg as ⊖◌}
+
   -- the product over the coordinates of u where the bit of g is 1, else 1 - u
   abbrev pub eq_poly : List A → ℕ → A
   eq_poly [] g = o.one
-  eq_poly (u ∷ us) g = o.mul (if g % 2 == 1 then u else o.add o.one (o.neg u)) (eq_poly us (g / 2))
+  eq_poly (u ∷ us) g = (if g % 2 == 1 then u else o.one ⊕ ⊖ u) ⊗ eq_poly us (g / 2)
 
   -- the sum over all places g of the table's value there, embedded, times the equality polynomial of g
   abbrev pub extension_at : {C : Type 0} → Ops C → (C → A) → List C → List A → A
-  extension_at base embed t us = sum_below o (2 ^ length us) (λ g. o.mul (embed (slice_index_or t g base.zero)) (eq_poly us g))
+  extension_at base embed t us = sum_below o (2 ^ length us) (λ g. embed (slice_index_or t g base.zero) ⊗ eq_poly us g)
 
   -- the table with its first coordinate bound to r: of each two neighbours, the value at r of the line through them
   abbrev pub folded : List A → A → List A
   folded [] r = []
-  folded (a ∷ []) r = o.add a (o.mul r (o.add o.zero (o.neg a))) ∷ []
-  folded (a ∷ b ∷ t) r = o.add a (o.mul r (o.add b (o.neg a))) ∷ folded t r
+  folded (a ∷ []) r = (a ⊕ r ⊗ (o.zero ⊕ ⊖ a)) ∷ []
+  folded (a ∷ b ∷ t) r = (a ⊕ r ⊗ (b ⊕ ⊖ a)) ∷ folded t r
 
   -- the table with coordinates bound one after another
   abbrev pub folded_all : List A → List A → List A

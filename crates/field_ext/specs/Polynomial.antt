@@ -3,10 +3,14 @@ use Rattle.std.specs.Prelude.{◌≡◌, ◌≢◌, ℕ, zero, suc, ◌≤◌, L
 use Rattle.field_ext.specs.Ring.{Ops}
 
 module _ {A : Type 0} (o : Ops A) where
+  infixl 65 ◌⊕◌
+  infixl 70 ◌⊗◌
+  open o use {add as ◌⊕◌, mul as ◌⊗◌}
+
   -- the sum of the coefficients times the powers of e
   abbrev pub value_at : List A → A → A
   value_at [] e = o.zero
-  value_at (c ∷ cs) e = o.add c (o.mul e (value_at cs e))
+  value_at (c ∷ cs) e = c ⊕ e ⊗ value_at cs e
 
   -- every coefficient is 0
   abbrev pub IsZero : List A → Type 0
@@ -19,12 +23,12 @@ module _ {A : Type 0} (o : Ops A) where
   abbrev pub sum_of : List A → List A → List A
   sum_of [] ds = ds
   sum_of (c ∷ cs) [] = c ∷ cs
-  sum_of (c ∷ cs) (d ∷ ds) = o.add c d ∷ sum_of cs ds
+  sum_of (c ∷ cs) (d ∷ ds) = (c ⊕ d) ∷ sum_of cs ds
 
   abbrev pub product_of : List A → List A → List A
   product_of [] ds = []
   product_of (c ∷ cs) [] = []
-  product_of (c ∷ cs) (d ∷ ds) = o.mul c d ∷ sum_of (map (o.mul c) ds) (product_of cs (d ∷ ds))
+  product_of (c ∷ cs) (d ∷ ds) = (c ⊗ d) ∷ sum_of (map (c ⊗◌) ds) (product_of cs (d ∷ ds))
 
   -- the polynomials' own operations; as lists, p + (-p) is zeros and not the empty list
   abbrev pub polynomial_ops : Ops (List A)

@@ -1,12 +1,15 @@
 -- The equations of a proof in their order, and the first that fails
 use Rattle.std.specs.Prelude.{ℕ, suc, ◌+◌, List, [], ◌∷◌, ◌++◌, take, drop, if◌then◌else◌, slice_index_or}
-use Rattle.field_ext.specs.Field.{K, k_ops, add_k, zero_k, one_k, same_k}
+use Rattle.field_ext.specs.Field.{K, k_ops, zero_k, one_k, same_k}
 use Rattle.field_ext.specs.Polynomial.{value_at}
 use Rattle.gkr_layers.specs.Places.{Place, value_over, weighted_summand_from}
 use Rattle.gkr_layers.specs.Forms.{Form, said_left, said_right}
 use Rattle.gkr_layers.specs.Layers.{GateLayer, next_place}
 use Rattle.gkr_layers.specs.declared.verdict.Verdict.{Verdict}
 use Rattle.gkr_layers.specs.declared.verdict.Verdict.TheVariants.{Accepted, Sum, End, Input}
+
+infixl 65 ◌⊕◌
+open k_ops use {add as ◌⊕◌}
 
 -- two sides, and the answer where they differ
 pub record Equation : Type 0 where
@@ -16,7 +19,7 @@ pub record Equation : Type 0 where
 
 abbrev pub sum_equation : ℕ → ℕ → List K → K → Equation
 sum_equation layer round q claim =
-    let had = add_k (value_at k_ops q zero_k) (value_at k_ops q one_k) in
+    let had = value_at k_ops q zero_k ⊕ value_at k_ops q one_k in
     record { had = had; want = claim; failed = Sum layer round had claim }
 
 abbrev pub end_equation : ℕ → K → K → Equation

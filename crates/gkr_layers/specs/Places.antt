@@ -21,10 +21,14 @@ map_place h (At z) = At (map h z)
 map_place h (AtBoth b c a) = AtBoth (map h b) (map h c) (h a)
 
 module _ {A : Type 0} (o : Ops A) where
+  infixl 65 ◌⊕◌
+  infixl 70 ◌⊗◌
+  open o use {add as ◌⊕◌, mul as ◌⊗◌}
+
   -- the value of f at the point, or the sum of its weighted values at the two
   abbrev pub weighted : Place A → (List A → A) → A
   weighted (At z) f = f z
-  weighted (AtBoth b c a) f = o.add (f b) (o.mul a (f c))
+  weighted (AtBoth b c a) f = f b ⊕ a ⊗ f c
 
   -- the extension of a table there
   abbrev pub value_over : List A → Place A → A
@@ -33,7 +37,7 @@ module _ {A : Type 0} (o : Ops A) where
   -- what sumcheck sums for a layer, where x and y are the extension of the layer below at b and at c
   abbrev pub weighted_summand_from : List CircuitGate → Place A → List A → List A → A → A → A
   weighted_summand_from gates place b c x y =
-      o.add (o.mul (weighted place (λ z. wiring_add o gates z b c)) (o.add x y)) (o.mul (weighted place (λ z. wiring_mul o gates z b c)) (o.mul x y))
+      weighted place (λ z. wiring_add o gates z b c) ⊗ (x ⊕ y) ⊕ weighted place (λ z. wiring_mul o gates z b c) ⊗ (x ⊗ y)
 
   module _ {C : Type 0} (base : Ops C) (embed : C → A) where
     -- the same over the values of the layer below

@@ -8,6 +8,11 @@ use Rattle.circuit_core.specs.declared.gate.CircuitGate.{CircuitGate}
 use Rattle.gkr_layers.specs.Places.{Place, map_place, weighted_summand_at}
 
 module _ {A : Type 0} (o : Ops A) where
+  infixl 65 ◌⊕◌
+  infixl 70 ◌⊗◌
+  infix 75 ⊖◌
+  open o use {add as ◌⊕◌, mul as ◌⊗◌, neg as ⊖◌}
+
   -- The true polynomial of a round of a layer over 2 ^ k positions: the sum, over all Boolean values of the last n coordinates, of
   -- the summand at the coordinates that are bound, the variable, and those n.
   abbrev pub round_polynomial : ℕ → List CircuitGate → List A → Place A → List A → ℕ → List A
@@ -18,13 +23,13 @@ module _ {A : Type 0} (o : Ops A) where
   abbrev pub line_between : List A → List A → List (List A)
   line_between [] cs = []
   line_between (b ∷ bs) [] = []
-  line_between (b ∷ bs) (c ∷ cs) = (b ∷ o.add c (o.neg b) ∷ []) ∷ line_between bs cs
+  line_between (b ∷ bs) (c ∷ cs) = (b ∷ (c ⊕ ⊖ b) ∷ []) ∷ line_between bs cs
 
   -- the point of that line at e
   abbrev pub point_between : List A → List A → A → List A
   point_between [] cs e = []
   point_between (b ∷ bs) [] e = []
-  point_between (b ∷ bs) (c ∷ cs) e = o.add b (o.mul e (o.add c (o.neg b))) ∷ point_between bs cs e
+  point_between (b ∷ bs) (c ∷ cs) e = (b ⊕ e ⊗ (c ⊕ ⊖ b)) ∷ point_between bs cs e
 
   -- the true restriction of a table's extension to that line
   abbrev pub line_polynomial : List A → List A → List A → List A
@@ -35,7 +40,7 @@ module _ {A : Type 0} (o : Ops A) where
   RoundsHold claim [] [] last = claim ≡ last
   RoundsHold claim [] (r ∷ rs) last = ⊥
   RoundsHold claim (q ∷ qs) [] last = ⊥
-  RoundsHold claim (q ∷ qs) (r ∷ rs) last = (o.add (value_at o q o.zero) (value_at o q o.one) ≡ claim) × RoundsHold (value_at o q r) qs rs last
+  RoundsHold claim (q ∷ qs) (r ∷ rs) last = (value_at o q o.zero ⊕ value_at o q o.one ≡ claim) × RoundsHold (value_at o q r) qs rs last
 
   -- the message q differs from the true polynomial r, and has its value at v
   abbrev pub IsExceptionalFor : List A → List A → A → Type 0
@@ -45,7 +50,7 @@ module _ {A : Type 0} (o : Ops A) where
   abbrev pub difference : List A → List A → List A
   difference [] vs = []
   difference (y ∷ ys) [] = []
-  difference (y ∷ ys) (v ∷ vs) = o.add y (o.neg v) ∷ difference ys vs
+  difference (y ∷ ys) (v ∷ vs) = (y ⊕ ⊖ v) ∷ difference ys vs
 
   -- the table d, folded by the challenges before, is not all zero, and its fold by v is
   abbrev pub IsExceptionalFold : List A → List A → A → Type 0

@@ -12,14 +12,18 @@ by_kind Add x y = x
 by_kind Mul x y = y
 
 module _ {A : Type 0} (o : Ops A) where
+  infixl 65 ◌⊕◌
+  infixl 70 ◌⊗◌
+  open o use {add as ◌⊕◌, mul as ◌⊗◌}
+
   -- the sum of f over the gates, each with its position, which is g for the first
   abbrev pub sum_gates : ℕ → List CircuitGate → (ℕ → CircuitGate → A) → A
   sum_gates g [] f = o.zero
-  sum_gates g (gate ∷ gates) f = o.add (f g gate) (sum_gates (g + 1) gates f)
+  sum_gates g (gate ∷ gates) f = f g gate ⊕ sum_gates (g + 1) gates f
 
   -- 1 at the Boolean points that are the positions of this gate and of its operands, 0 at the others
   abbrev pub gate_weight : List A → List A → List A → ℕ → CircuitGate → A
-  gate_weight z b c g gate = o.mul (eq_poly o z g) (o.mul (eq_poly o b gate.left) (eq_poly o c gate.right))
+  gate_weight z b c g gate = eq_poly o z g ⊗ (eq_poly o b gate.left ⊗ eq_poly o c gate.right)
 
   -- the multilinear extension of "the gate at z adds the values at b and c"
   abbrev pub wiring_add : List CircuitGate → List A → List A → List A → A
@@ -31,7 +35,7 @@ module _ {A : Type 0} (o : Ops A) where
 
   -- what sumcheck sums for a layer, where x and y are the extension of the layer below at b and at c
   abbrev pub summand_from : List CircuitGate → List A → List A → List A → A → A → A
-  summand_from gates z b c x y = o.add (o.mul (wiring_add gates z b c) (o.add x y)) (o.mul (wiring_mul gates z b c) (o.mul x y))
+  summand_from gates z b c x y = wiring_add gates z b c ⊗ (x ⊕ y) ⊕ wiring_mul gates z b c ⊗ (x ⊗ y)
 
   module _ {C : Type 0} (base : Ops C) (embed : C → A) where
     -- what sumcheck sums for a layer, over the values of the layer below
@@ -44,7 +48,7 @@ module _ {A : Type 0} (o : Ops A) where
 
   -- what a gate makes of two values
   abbrev pub gate_output : CircuitGate → A → A → A
-  gate_output gate x y = by_kind gate.kind (o.add x y) (o.mul x y)
+  gate_output gate x y = by_kind gate.kind (x ⊕ y) (x ⊗ y)
 
   -- the values of a layer, from those of the layer below
   abbrev pub values_above : List CircuitGate → List A → List A
