@@ -2,6 +2,7 @@ pub mod Prime
 pub mod Inverse
 pub mod Elements
 pub mod Words
+pub mod FLaws
 pub mod KLaws
 pub mod Embedding
 pub mod ElementBytes

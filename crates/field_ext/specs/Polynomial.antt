@@ -7,7 +7,12 @@ module _ {A : Type 0} (o : Ops A) where
   infixl 70 ◌⊗◌
   open o use {add as ◌⊕◌, mul as ◌⊗◌}
 
-  -- the sum of the coefficients times the powers of e
+  -- e times itself, n times
+  abbrev pub power : A → ℕ → A
+  power e zero = o.one
+  power e (suc n) = e ⊗ power e n
+
+  -- the value at e, by Horner's rule: a law says that it is the sum of the coefficients times the powers of e
   abbrev pub value_at : List A → A → A
   value_at [] e = o.zero
   value_at (c ∷ cs) e = c ⊕ e ⊗ value_at cs e

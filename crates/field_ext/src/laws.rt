@@ -1,14 +1,15 @@
 //! Laws of the field. Each function does nothing: its contract is a law that is proved.
 
 ghost use Rattle.std.specs.Prelude.{◌≡◌, ◌⊎◌, ◌<◌, length, List, ℕ};
-ghost use Rattle.field_ext.specs.Field.{prime, F, K, add_f, mul_f, neg_f, zero_k, one_k, add_k, mul_k, neg_k, embed_k, k_ops, of};
+ghost use Rattle.field_ext.specs.Field.{prime, F, K, add_f, mul_f, neg_f, f_ops, zero_k, one_k, add_k, mul_k, neg_k, embed_k, k_ops, of};
 ghost use Rattle.field_ext.specs.Ring.{Laws};
 ghost use Rattle.field_ext.specs.Bytes.{bytes_of};
 
-/// The elements of K are a commutative ring.
-#[tactic(auto, using(crate::proofs::KLaws::k_laws))]
+/// The elements of F_p are a commutative ring, and those of K are.
+#[tactic(auto, using(crate::proofs::FLaws::f_laws, crate::proofs::KLaws::k_laws))]
 pub fn ring()
-    ensures { Laws K k_ops }
+    ensures prime { Laws F f_ops }
+    ensures extension { Laws K k_ops }
 {}
 
 /// A product of elements other than zero is not zero.
