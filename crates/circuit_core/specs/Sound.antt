@@ -1,14 +1,13 @@
 -- A circuit with no fault, and its shape
 use Rattle.std.specs.Prelude.{ℕ, zero, suc, ◌+◌, ◌≤◌, List, Option, None, IsTrue, ◌&&◌, length, map, unwrap_or, is_none, slice_get, nat_le}
 use Rattle.std.specs.List.{list_all, range_with_len}
-use Rattle.circuit_core.specs.declared.TheConstants.{GREATEST_HEIGHT, GREATEST_EXPONENT}
 use Rattle.circuit_core.specs.declared.gate.Leaf.{Leaf}
 use Rattle.circuit_core.specs.Parts.{Limits, Parts, height, width_of}
 use Rattle.circuit_core.specs.Faults.{fault_of, exponent_of}
 
--- the limits that every circuit keeps
+-- The limits that every circuit keeps: at most 256 layers above the input, and at most 2 ^ 16 = 65,536 positions in a layer.
 abbrev pub greatest : Limits
-greatest = record { height = GREATEST_HEIGHT; exponent = GREATEST_EXPONENT }
+greatest = record { height = 256; exponent = 16 }
 
 pub record SoundCircuit : Type 0 where
   pub parts : Parts
@@ -19,8 +18,8 @@ pub record SoundCircuit : Type 0 where
 pub record Exponents : Type 0 where
   pub ks : List ℕ
   pub long : 2 ≤ length ks
-  pub short : length ks ≤ GREATEST_HEIGHT + 1
-  pub bounded : IsTrue (list_all (λ k. nat_le 1 k && nat_le k GREATEST_EXPONENT) ks)
+  pub short : length ks ≤ greatest.height + 1
+  pub bounded : IsTrue (list_all (λ k. nat_le 1 k && nat_le k greatest.exponent) ks)
 
 abbrev pub exponent_at : Parts → ℕ → ℕ
 exponent_at p i = unwrap_or (exponent_of greatest (width_of p i)) 0

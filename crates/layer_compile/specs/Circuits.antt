@@ -2,13 +2,13 @@
 use Rattle.std.specs.Prelude.{◌≡◌, ℕ, zero, suc, ◌+◌, ◌-◌, ◌^◌, ◌≤◌, ◌==◌, List, [], ◌∷◌, ◌++◌, Option, Some, length, map, replicate, unwrap_or, slice_index_or, nat_lt, nat_le, if◌then◌else◌}
 use Rattle.std.specs.Option.{option_or}
 use Rattle.field_ext.specs.Field.{F}
-use Rattle.circuit_core.specs.declared.TheConstants.{GREATEST_HEIGHT, GREATEST_EXPONENT}
 use Rattle.circuit_core.specs.declared.gate.Kind.TheVariants.{Add}
 use Rattle.circuit_core.specs.declared.gate.CircuitGate.{CircuitGate}
 use Rattle.circuit_core.specs.declared.gate.Leaf as core
 use Rattle.circuit_core.specs.declared.gate.Leaf.TheVariants as leaf
 use Rattle.circuit_core.specs.Parts.{Limits, Parts, zero_gate, zero_f}
 use Rattle.circuit_core.specs.Faults.{first_below, unless}
+use Rattle.circuit_core.specs.Sound.{greatest}
 use Rattle.node_core.specs.declared.node.Node.{Node}
 use Rattle.node_core.specs.declared.node.Node.TheVariants.{Input, Constant, Operation}
 use Rattle.node_core.specs.Nodes.{Nodes, node_at, values}
@@ -19,7 +19,7 @@ use Rattle.layer_compile.specs.Rows.{row, place}
 
 -- the first power of two from 2 on that is n or more
 abbrev pub size_for : ℕ → ℕ
-size_for n = 2 ^ unwrap_or (first_below GREATEST_EXPONENT (λ j. unless (nat_lt (2 ^ (j + 1)) n) (j + 1))) GREATEST_EXPONENT
+size_for n = 2 ^ unwrap_or (first_below greatest.exponent (λ j. unless (nat_lt (2 ^ (j + 1)) n) (j + 1))) greatest.exponent
 
 -- position 0, the gates, and padding
 abbrev pub padded : List CircuitGate → List CircuitGate
@@ -56,8 +56,8 @@ circuit_of n = record {
 
 -- limits that keep to those of every circuit
 pub record AreKept (limits : Limits) : Type 0 where
-  pub height : limits.height ≤ GREATEST_HEIGHT
-  pub exponent : limits.exponent ≤ GREATEST_EXPONENT
+  pub height : limits.height ≤ greatest.height
+  pub exponent : limits.exponent ≤ greatest.exponent
 
 abbrev pub too_wide : Limits → Nodes → ℕ → Option LayerRefused
 too_wide limits n h = let width = 1 + length (row n h) in unless (nat_le width (2 ^ limits.exponent)) (Wide h width)

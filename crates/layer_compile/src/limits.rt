@@ -1,7 +1,6 @@
 //! How large a circuit may be.
 
 ghost use Rattle.std.specs.Prelude.{◌≡◌, ◌≤◌};
-ghost use Rattle.circuit_core.specs.declared.TheConstants.{GREATEST_HEIGHT, GREATEST_EXPONENT};
 ghost use Rattle.circuit_core.specs.Sound.{greatest};
 
 use circuit_core::{GREATEST_EXPONENT, GREATEST_HEIGHT};
@@ -32,8 +31,8 @@ impl Limits {
 
     /// Limits of this height and exponent, which are at most those of every circuit.
     pub fn of(height: usize, exponent: u32) -> Limits
-        requires height { height ≤ GREATEST_HEIGHT }
-        requires exponent { exponent ≤ GREATEST_EXPONENT }
+        requires height { height ≤ greatest.height }
+        requires exponent { exponent ≤ greatest.exponent }
         ensures { result ≡ record { height = height; exponent = exponent } }
     {
         Limits { height, exponent }
