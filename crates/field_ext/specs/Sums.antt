@@ -11,11 +11,6 @@ module _ {A : Type 0} (o : Ops A) where
   sum_below zero f = o.zero
   sum_below (suc n) f = sum_below n f ⊕ f n
 
-  -- the sum of f over the elements of a list
-  abbrev pub sum_over : {X : Type 0} → List X → (X → A) → A
-  sum_over [] f = o.zero
-  sum_over (x ∷ xs) f = f x ⊕ sum_over xs f
-
   -- the sum of f over all Boolean points, the lists of n coordinates that are 0 or 1
   abbrev pub sum_cube : ℕ → (List A → A) → A
   sum_cube zero f = f []

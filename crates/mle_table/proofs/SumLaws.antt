@@ -2,7 +2,7 @@
 use Rattle.std.proofs.Common.{◌≡◌, ℕ, zero, suc, ◌+◌, ◌*◌, ◌<◌, List, [], ◌∷◌, refl, sym, ◌∙◌, ap, ap₂, arith}
 use Rattle.field_ext.specs.Ring.{Ops, Laws}
 use Rattle.field_ext.proofs.Solve.{var, ◌⊕◌, solve}
-use Rattle.field_ext.specs.Sums.{sum_below, sum_over, sum_cube}
+use Rattle.field_ext.specs.Sums.{sum_below, sum_cube}
 
 module _ {A : Type 0} (o : Ops A) (l : Laws A o) where
   pub sum_below-same : (n : ℕ) (f h : ℕ → A) → ((k : ℕ) → k < n → f k ≡ h k) → sum_below o n f ≡ sum_below o n h
@@ -39,8 +39,3 @@ module _ {A : Type 0} (o : Ops A) (l : Laws A o) where
   pub sum_cube-zero : (n : ℕ) → sum_cube o n (λ w. o.zero) ≡ o.zero
   sum_cube-zero zero = refl
   sum_cube-zero (suc n) = ap₂ o.add (sum_cube-zero n) (sum_cube-zero n) ∙ l.add_zero o.zero
-
-  -- sums over a list and over the cube change places
-  pub sum_cube-over : {X : Type 0} → (n : ℕ) (xs : List X) (f : X → List A → A) → sum_cube o n (λ w. sum_over o xs (λ x. f x w)) ≡ sum_over o xs (λ x. sum_cube o n (f x))
-  sum_cube-over n [] f = sum_cube-zero n
-  sum_cube-over n (x ∷ xs) f = sum_cube-add n (f x) (λ w. sum_over o xs (λ y. f y w)) ∙ ap (o.add (sum_cube o n (f x))) (sum_cube-over n xs f)

@@ -1,5 +1,5 @@
 -- Each value is split into its two halves
-use Rattle.std.proofs.Common.{◌≡◌, ◌≢◌, ℕ, List, ◌<◌, ◌+◌, arith, ◌∙◌, ap, length, get_or, set, below_more, get_or-set_same, get_or-set_other}
+use Rattle.std.proofs.Common.{◌≡◌, ◌≢◌, ℕ, List, ◌<◌, ◌+◌, ◌*◌, arith, ◌∙◌, ap, length, get_or, set, below_more, get_or-set_same, get_or-set_other}
 use Rattle.std.proofs.lemmas.List.{get_or_read, length-set}
 use Rattle.field_ext.specs.Field.{K, k_ops, add_k, mul_k, neg_k, zero_k}
 use Rattle.field_ext.proofs.KLaws.{k_laws}
@@ -29,9 +29,10 @@ loop-g-preserved c =
       high = below_more _ _ (λ i u. untouched t (n + g) g (n + i) x y (omega arith) (omega arith) ∙ c.loop-g.invariant.high i u)
           (let ne : n + g ≢ g = omega arith in get_or-set_other (set t (n + g) x) g (n + g) y zero_k ne ∙ get_or-set_same t (n + g) x zero_k inside ∙ high);
       rest = λ i u v. untouched t (n + g) g i x y (omega arith) (omega arith) ∙ c.loop-g.invariant.rest i (omega arith) v;
+      behind = λ i u. untouched t (n + g) g i x y (omega arith) (omega arith) ∙ c.loop-g.invariant.behind i u;
     }
 
-pub returns : goal.returns
-returns c us size is =
+pub returns-clause-filled : goal.returns-clause-filled
+returns-clause-filled c us size is =
     equality_doubled k_ops k_laws us c.args.u c.args.size c.args.table.now c.loop-g.table size is
     (λ g u. c.loop-g.invariant.low g (omega arith)) (λ g u. c.loop-g.invariant.high g (omega arith))
