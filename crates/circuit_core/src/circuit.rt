@@ -3,7 +3,7 @@
 ghost use Rattle.std.specs.Prelude.{◌≡◌, ◌<◌, ◌≤◌, ◌+◌, IsTrue, is_none, length, slice_index_or, [], All, IfOk, IfErr};
 ghost use Rattle.circuit_core.specs.Parts.{height, width_of, gate_of, IsOver};
 ghost use Rattle.circuit_core.specs.Faults.{fault_of, IsLeafWithin};
-ghost use Rattle.circuit_core.specs.Sound.{exponents, greatest, leaf_at};
+ghost use Rattle.circuit_core.specs.Sound.{exponent_at, exponents, greatest, leaf_at};
 
 use crate::fault::CircuitRefused;
 use crate::gate::{CircuitGate, Layer, Leaf};
@@ -82,6 +82,15 @@ impl Circuit {
         ensures { result ≡ width_of self.now.parts layer }
     {
         self.lists.width(layer)
+    }
+
+    /// How many coordinates the positions of a layer have, at most 16: the layer has two to this power of them.
+    pub fn coordinates(&self, layer: usize) -> usize
+        requires { layer ≤ height self.now.parts }
+        ensures value { result ≡ exponent_at self.now.parts layer }
+        ensures most { result ≤ 16 }
+    {
+        self.shape().k(layer) as usize
     }
 
     /// The gate at a position of a layer.

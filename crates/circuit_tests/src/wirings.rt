@@ -24,7 +24,7 @@ fn made(alloc: Global, second: CircuitGate) -> Result<Circuit, CircuitRefused> {
 fn weighs<R: Abort>(rt: &R, circuit: &Circuit, want: (Ext, Ext)) {
     let (z, b, c) = ([number(2)], [number(3)], [number(4)]);
     assert!(rt; circuit.height() == 1);
-    assert!(rt; coordinates(circuit, 0) == 1 && coordinates(circuit, 1) == 1);
+    assert!(rt; circuit.coordinates(0) == 1 && circuit.coordinates(1) == 1);
     assert_eq!(rt; wiring_at(circuit, 0, &z, &b, &c), want);
 }
 

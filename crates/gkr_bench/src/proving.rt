@@ -16,7 +16,7 @@ use std::marker::Sync;
 use std::thread::Threads;
 use std::time::{Duration, Instant};
 use sumcheck_prove::round;
-use wiring_poly::{coordinates, wiring_at};
+use wiring_poly::wiring_at;
 
 /// Numbers that follow no plain rule.
 #[derive(Drop)]
@@ -121,10 +121,10 @@ fn started<'a>(
     values: &'a Table,
     point: &'a [Ext],
 ) -> Result<Option<GateTables<'a>>, AllocError> {
-    if circuit.height() == 0 || coordinates(circuit, 0) != point.len() {
+    if circuit.height() == 0 || circuit.coordinates(0) != point.len() {
         return Ok(None);
     }
-    if coordinates(circuit, 1) != values.k() as usize {
+    if circuit.coordinates(1) != values.k() as usize {
         return Ok(None);
     }
     let tables = GateTables::start_in(room, circuit.gates(0), values, point)?;
@@ -246,10 +246,10 @@ fn time_plain(rt: &HostRuntime, case: &LayerCase) -> io::Result<(u64, u32)> {
 
 /// The wiring polynomials of the layer at its three points, of which a digest is left.
 fn wire(circuit: &Circuit, point: &[Ext], left: &[Ext], right: &[Ext]) -> u32 {
-    if circuit.height() == 0 || coordinates(circuit, 0) != point.len() {
+    if circuit.height() == 0 || circuit.coordinates(0) != point.len() {
         return 0;
     }
-    if coordinates(circuit, 1) != left.len() || left.len() != right.len() {
+    if circuit.coordinates(1) != left.len() || left.len() != right.len() {
         return 0;
     }
     let (add, mul) = wiring_at(circuit, 0, point, left, right);

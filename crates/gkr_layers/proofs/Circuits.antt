@@ -9,7 +9,7 @@ use Rattle.circuit_core.specs.declared.gate.Kind.{Kind}
 use Rattle.circuit_core.specs.declared.gate.Kind.TheVariants.{Add, Mul}
 use Rattle.circuit_core.specs.Parts.{Parts, height, width_of, IsOver, combined, gate_value, values_of, zero_f, padded_values}
 use Rattle.circuit_core.specs.Sound.{SoundCircuit, exponent_at}
-use Rattle.wiring_poly.proofs.Sizes.{gates_size, gates_over}
+use Rattle.circuit_core.proofs.Sizes.{gates_size, gates_over}
 use Rattle.wiring_poly.specs.Wiring.{by_kind, gate_output, values_above}
 use Rattle.gkr_layers.specs.Layers.{GateLayer, layers_from, layers_of, FitTogether, values_over, layer_at, layers_below, message_count, total_exponent}
 use Rattle.std.specs.Prelude.{nat_lt}

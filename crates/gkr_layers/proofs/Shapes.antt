@@ -8,7 +8,7 @@ use Rattle.circuit_core.specs.Parts.{Parts, height, width_of, leaf_value, padded
 use Rattle.circuit_core.specs.Sound.{SoundCircuit, exponent_at, exponents}
 use Rattle.circuit_core.proofs.Faultless.{none_from_test, width_bounds, leaves_room}
 use Rattle.gkr_layers.specs.Layers.{GateLayer, layers_from, layers_of, message_count}
-use Rattle.wiring_poly.proofs.Sizes.{size_of}
+use Rattle.circuit_core.proofs.Sizes.{size_of}
 use Rattle.gkr_layers.proofs.Circuits.{layers_fit, input_size, length-layers, over-embed, input_width, length-table}
 use Rattle.wiring_poly.proofs.Identity.{take-front}
 use Rattle.transcript_fs.specs.Source.{Source, coordinates, state_after_coordinates, draws, all_draws, state_after}

@@ -6,14 +6,13 @@ ghost use Rattle.circuit_core.specs.Sound.{exponent_at};
 ghost use Rattle.gkr_layers.specs.Layers.{layers_of, message_count, total_exponent};
 
 use circuit_core::Circuit;
-use wiring_poly::coordinates;
 
 /// How many challenges the proof of a circuit takes: one for each coordinate of the output point, and one after each
 /// message.
 pub fn challenge_count(circuit: &Circuit) -> usize
     ensures { result ≡ exponent_at circuit.now.parts 0 + message_count (layers_of circuit.now.parts) }
 {
-    coordinates(circuit, 0) + 2 * width_below(circuit) + circuit.height()
+    circuit.coordinates(0) + 2 * width_below(circuit) + circuit.height()
 }
 
 /// The sum of the bounds on how many challenges are exceptional, by lines: 1 for each coordinate of the output point, and
@@ -21,7 +20,7 @@ pub fn challenge_count(circuit: &Circuit) -> usize
 pub fn bound_sum(circuit: &Circuit) -> usize
     ensures { result ≡ exponent_at circuit.now.parts 0 + 5 * total_exponent (layers_of circuit.now.parts) }
 {
-    coordinates(circuit, 0) + 5 * width_below(circuit)
+    circuit.coordinates(0) + 5 * width_below(circuit)
 }
 
 /// The coordinates of the layers below the outputs, together.
@@ -31,7 +30,7 @@ pub fn width_below(circuit: &Circuit) -> usize
 {
     let mut width = 0;
     for layer in 0..circuit.height() {
-        width += coordinates(circuit, layer + 1);
+        width += circuit.coordinates(layer + 1);
     }
     width
 }

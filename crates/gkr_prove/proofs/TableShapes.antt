@@ -13,7 +13,7 @@ use Rattle.circuit_core.proofs.LayerValues.{length-layer, length-input}
 use Rattle.circuit_eval.specs.Tables.{AreTables}
 use Rattle.mle_table.specs.Shape.{Values}
 use Rattle.gkr_layers.specs.Layers.{layers_from, layers_of, layers_below}
-use Rattle.wiring_poly.proofs.Sizes.{size_of, gates_size, gates_over}
+use Rattle.circuit_core.proofs.Sizes.{size_of, gates_size, gates_over}
 use Rattle.gkr_layers.proofs.Circuits.{input_width, below_more}
 use Rattle.round_tables.specs.Phase.{IsLayer}
 use Rattle.proof_wire.specs.declared.messages.LayerMessages.{LayerMessages}

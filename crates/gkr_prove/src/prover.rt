@@ -21,7 +21,6 @@ use std::alloc::{AllocError, Global};
 use std::marker::Sync;
 use std::thread::Threads;
 use transcript_fs::{Challenges, draw_point};
-use wiring_poly::coordinates;
 
 /// The honest messages of a circuit with these values of its layers, which are its values for some inputs, and challenges
 /// from a source that has enough of them. They are of the circuit's shape. Err only where no memory is found; the
@@ -43,7 +42,7 @@ pub fn prove<R: Threads + Sync, C: Challenges, G: Gate>(
         IsHonestProof circuit.now.parts inputs C.source (C.state challenges.old) (all_messages messages.layers.items)) }
     ensures shape { IfOk result (λ messages. AreOf (exponents circuit.now.parts) messages) }
 {
-    let mut point = vec![in alloc; Ext::zero(); coordinates(circuit, 0)]?;
+    let mut point = vec![in alloc; Ext::zero(); circuit.coordinates(0)]?;
     draw_point(&mut point, challenges);
     let room = room_for(alloc, circuit)?;
     let layers = prove_layers(

@@ -19,7 +19,6 @@ use field_ext::{Ext, Fp};
 use gkr_layers::Verdict;
 use proof_wire::LayerMessages;
 use transcript_fs::Challenges;
-use wiring_poly::coordinates;
 
 /// Checks the messages of the layers from `layer` on against the claim at `point`, and the last claim against the
 /// inputs. It keeps challenges and points in `room`.
@@ -44,7 +43,7 @@ pub(crate) fn check_layers<C: Challenges>(
     let Some((first, later)) = messages.split_first() else {
         return check_inputs(circuit, inputs, claim, point);
     };
-    let k = coordinates(circuit, layer + 1);
+    let k = circuit.coordinates(layer + 1);
     let (drawn, room) = room.split_at_mut(2 * k);
     let (next, room) = room.split_at_mut(k);
     match check_layer(circuit, layer, first, claim, point, drawn, next, challenges) {

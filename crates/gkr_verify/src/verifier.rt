@@ -17,7 +17,6 @@ use gkr_layers::{Verdict, width_below};
 use proof_wire::Messages;
 use std::alloc::{AllocError, Global};
 use transcript_fs::{Challenges, draw_point};
-use wiring_poly::coordinates;
 
 /// Checks the messages of a proof that the circuit on these inputs has these outputs: as many of both as the circuit has,
 /// messages of its shape, and challenges from a source that has enough of them. The answer is the first equation that
@@ -41,7 +40,7 @@ pub fn check<C: Challenges>(
         verdict ≡ Verdict.Accepted → IsFalse circuit.now.parts inputs.now outputs.now → (n : ℕ) × LetsPass stated qs (all_draws C.source (C.state challenges.old) stated.k qs) n) }
     ensures memory { IfErr result (λ _. C.state challenges.new ≡ C.state challenges.old) }
 {
-    let width = coordinates(circuit, 0) + 3 * width_below(circuit);
+    let width = circuit.coordinates(0) + 3 * width_below(circuit);
     let mut room = vec![in alloc; Ext::zero(); width]?;
     Ok(check_in(circuit, inputs, outputs, messages, &mut room, challenges))
 }
@@ -63,7 +62,7 @@ fn check_in<C: Challenges>(
     ensures { let stated = claim_of circuit.now.parts inputs.now outputs.now in let qs = all_messages messages.now.layers.items in
         result ≡ verdict_of stated qs (all_draws C.source (C.state challenges.old) stated.k qs) }
 {
-    let (point, room) = room.split_at_mut(coordinates(circuit, 0));
+    let (point, room) = room.split_at_mut(circuit.coordinates(0));
     draw_point(point, challenges);
     let claim = values_extension(outputs, point);
     check_layers(

@@ -2,5 +2,4 @@ pub mod Hom
 pub mod Identity
 pub mod Phases
 pub mod GateSteps
-pub mod Sizes
 pub mod AtField

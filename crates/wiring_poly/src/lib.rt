@@ -14,4 +14,4 @@ mod split_equality;
 mod wiring;
 
 pub use split_equality::SplitEquality;
-pub use wiring::{coordinates, wiring_at};
+pub use wiring::wiring_at;

@@ -25,15 +25,6 @@ pub fn wiring_at(circuit: &Circuit, layer: u32, z: &[Ext], b: &[Ext], c: &[Ext])
     (sums.add, sums.mul)
 }
 
-/// How many coordinates the positions of a layer have, at most 16: the layer has two to this power of them.
-pub fn coordinates(circuit: &Circuit, layer: usize) -> usize
-    requires { layer ≤ height circuit.now.parts }
-    ensures value { result ≡ exponent_at circuit.now.parts layer }
-    ensures most { result ≤ 16 }
-{
-    circuit.shape().k(layer) as usize
-}
-
 // The values of the two wiring polynomials.
 #[derive(Clone, Copy)]
 struct GateSums {

@@ -6,7 +6,7 @@ use Rattle.circuit_core.specs.declared.gate.CircuitGate.{CircuitGate}
 use Rattle.circuit_core.specs.Sound.{exponent_at}
 use Rattle.wiring_poly.specs.Wiring.{summand_from}
 use Rattle.gkr_layers.specs.Sumcheck.{point_between}
-use Rattle.wiring_poly.proofs.Sizes.{size_of}
+use Rattle.circuit_core.proofs.Sizes.{size_of}
 use Rattle.transcript_fs.specs.Source.{Source, draws, state_after}
 use Rattle.proof_wire.specs.Spelling.{coefficients_of}
 use Rattle.gkr_layers.specs.Equations.{sum_equations, claim_after, first_failure}

@@ -2,7 +2,7 @@ use Rattle.std.proofs.Common.{ℕ, ◌^◌, ◌≤◌, map, arith, ◌∙◌, ap
 use Rattle.field_ext.specs.Field.{k_ops, embed_k}
 use Rattle.field_ext.specs.Multilinear.{extension_at}
 use Rattle.circuit_core.specs.Parts.{height, leaf_value, padded_values}
-use Rattle.wiring_poly.proofs.Sizes.{size_of}
+use Rattle.circuit_core.proofs.Sizes.{size_of}
 use Rattle.gkr_layers.proofs.Circuits.{input_width}
 use Rattle.gkr_verify.proofs.InputSteps.{input_holds, input_fails}
 use Rattle.gkr_verify.proofs.layers.check_inputs.Goals as goal

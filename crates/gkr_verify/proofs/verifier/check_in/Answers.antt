@@ -4,7 +4,7 @@ use Rattle.field_ext.specs.Multilinear.{extension_at}
 use Rattle.circuit_core.specs.Parts.{padded_values}
 use Rattle.circuit_core.specs.Sound.{exponent_at}
 use Rattle.gkr_layers.specs.Layers.{layers_of, message_count}
-use Rattle.wiring_poly.proofs.Sizes.{size_of}
+use Rattle.circuit_core.proofs.Sizes.{size_of}
 use Rattle.transcript_fs.specs.Source.{Source, coordinates, state_after_coordinates, draws}
 use Rattle.proof_wire.specs.declared.messages.LayerMessages.{LayerMessages}
 use Rattle.gkr_layers.specs.Equations.{equations, first_failure}
