@@ -8,7 +8,7 @@ ghost use Rattle.circuit_core.specs.Faults.{IsLeafWithin};
 
 use circuit_core::{Leaf, leaf_value};
 use field_ext::{Ext, Fp};
-use wiring_poly::SplitEquality;
+use mle_table::SplitEquality;
 
 /// The value at `point` of the multilinear extension of the table 0, `values`, zeros. No memory is taken.
 pub(crate) fn values_extension(values: &[Fp], point: &[Ext]) -> Ext

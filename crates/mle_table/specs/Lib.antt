@@ -1,2 +1,3 @@
 pub mod Shape
 pub mod Equality
+pub mod SplitEquality

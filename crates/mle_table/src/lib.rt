@@ -15,8 +15,10 @@
 
 mod equality;
 pub mod laws;
+mod split_equality;
 mod table;
 mod values;
 
 pub use equality::fill_equality;
+pub use split_equality::SplitEquality;
 pub use table::{NotPower, Table};

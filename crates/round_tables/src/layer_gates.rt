@@ -9,9 +9,8 @@ ghost use Rattle.round_tables.specs.Working.{IsLayerGates, place_of};
 
 use circuit_core::CircuitGate;
 use field_ext::Ext;
-use mle_table::{Table, fill_equality};
+use mle_table::{SplitEquality, Table, fill_equality};
 use std::alloc::AllocError;
-use wiring_poly::SplitEquality;
 
 /// The gates of a layer over the `2^k` values of the layer below, and where the claim on it stands: at `first`, or at
 /// `first` with weight 1 and `second` with the weight given.

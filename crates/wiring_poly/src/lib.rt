@@ -10,8 +10,6 @@
 #![tactic(auto)]
 
 pub mod laws;
-mod split_equality;
 mod wiring;
 
-pub use split_equality::SplitEquality;
 pub use wiring::wiring_at;

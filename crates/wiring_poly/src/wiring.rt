@@ -6,9 +6,9 @@ ghost use Rattle.circuit_core.specs.Parts.{height, IsOver};
 ghost use Rattle.circuit_core.specs.Sound.{exponent_at};
 ghost use Rattle.wiring_poly.specs.Wiring.{by_kind, wiring_add, wiring_mul};
 
-use crate::split_equality::SplitEquality;
 use circuit_core::{Circuit, CircuitGate, Kind};
 use field_ext::Ext;
+use mle_table::SplitEquality;
 
 /// The wiring polynomials of a layer, that of the add gates and that of the multiply gates, at the point `z` of the
 /// layer's positions and the points `b` and `c` of the operands' positions in the layer below. The time is linear in the

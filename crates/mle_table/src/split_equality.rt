@@ -3,10 +3,11 @@
 ghost use Rattle.std.specs.Prelude.{◌≡◌, ◌≤◌, ◌<◌, ◌^◌, List, length};
 ghost use Rattle.field_ext.specs.Field.{K, k_ops};
 ghost use Rattle.field_ext.specs.Multilinear.{eq_poly};
-ghost use Rattle.wiring_poly.specs.SplitEquality.{IsSplitAt};
+ghost use Rattle.mle_table.specs.SplitEquality.{IsSplitAt};
 
+use crate::equality::fill_equality;
 use field_ext::Ext;
-use mle_table::fill_equality;
+use std::marker::Model;
 
 /// The equality polynomial's values at a point of at most 16 coordinates, each a product of one value of each of two
 /// tables, so that all `2^16` of them need only 512 values of room.
@@ -14,6 +15,16 @@ use mle_table::fill_equality;
 pub struct SplitEquality {
     low: [Ext; 256],
     high: [Ext; 256],
+    ghost low_size: { length low ≡ 256 },
+    ghost high_size: { length high ≡ 256 },
+}
+
+impl Model for SplitEquality {
+    ghost use Rattle.mle_table.specs.SplitEquality.{TwoTables};
+
+    ghost Value = { TwoTables };
+
+    ghost view = { λ s. record { low = s.low; high = s.high; low_size = s.low_size; high_size = s.high_size } };
 }
 
 impl SplitEquality {
@@ -33,9 +44,7 @@ impl SplitEquality {
     /// The equality polynomial's value at the point and the bits of `g`.
     #[inline]
     pub fn value(&self, g: usize) -> Ext
-        requires below { g < 65536 }
-        requires low { length self.now.low ≡ 256 }
-        requires high { length self.now.high ≡ 256 }
+        requires { g < 65536 }
         ensures { (point : List K) → IsSplitAt point self.now → g < 2 ^ length point → result ≡ eq_poly k_ops point g }
     {
         self.low[g % 256] * self.high[g / 256]
