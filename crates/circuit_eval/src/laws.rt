@@ -2,7 +2,7 @@
 
 ghost use Rattle.std.specs.Prelude.{◌≡◌, ◌≤◌, ◌^◌, ℕ, List, length};
 ghost use Rattle.field_ext.specs.Field.{F};
-ghost use Rattle.mle_table.specs.Shape as shape;
+ghost use Rattle.mle_table.specs.Shape.{TableValues};
 ghost use Rattle.circuit_core.specs.Parts.{height};
 ghost use Rattle.circuit_core.specs.Sound.{SoundCircuit, exponent_at};
 ghost use Rattle.circuit_eval.specs.Tables.{table_of};
@@ -15,6 +15,6 @@ pub fn one_value_a_position()
 
 /// The table of a layer of `2^k` positions has k coordinates.
 pub fn coordinates_by_layer()
-    ensures { (c : SoundCircuit) (inputs : List F) (i : ℕ) (table : shape.Values) → i ≤ height c.parts
+    ensures { (c : SoundCircuit) (inputs : List F) (i : ℕ) (table : TableValues) → i ≤ height c.parts
         → table.items ≡ table_of c.parts inputs i → table.k ≡ exponent_at c.parts i }
 {}

@@ -11,7 +11,7 @@ use Rattle.circuit_core.specs.Sound.{SoundCircuit, exponent_at, exponents}
 use Rattle.circuit_core.proofs.Faultless.{none_from_test, leaves_room}
 use Rattle.circuit_core.proofs.LayerValues.{length-layer, length-input}
 use Rattle.circuit_eval.specs.Tables.{AreTables}
-use Rattle.mle_table.specs.Shape.{Values}
+use Rattle.mle_table.specs.Shape.{TableValues}
 use Rattle.gkr_layers.specs.Layers.{layers_from, layers_of, layers_below}
 use Rattle.circuit_core.proofs.Sizes.{size_of, gates_size, gates_over}
 use Rattle.gkr_layers.proofs.Circuits.{input_width, below_more}
@@ -46,13 +46,13 @@ module _ (c : SoundCircuit) where
           ap (λ (j : ℕ). length (layer_values c.parts inputs j)) last ∙ length-input c.parts inputs room ∙ sym (input_width c.parts) ∙ ap (width_of c.parts) (sym last)
 
   -- the table of a layer has the layer's coordinates
-  pub table_exponent : (inputs : List F) (tables : List (List K)) (i : ℕ) (table : Values) → AreTables c.parts inputs tables → i ≤ height c.parts → table.items ≡ get_or tables i [] → table.k ≡ exponent_at c.parts i
+  pub table_exponent : (inputs : List F) (tables : List (List K)) (i : ℕ) (table : TableValues) → AreTables c.parts inputs tables → i ≤ height c.parts → table.items ≡ get_or tables i [] → table.k ≡ exponent_at c.parts i
   table_exponent inputs tables i table h u e =
       pow-same table.k (exponent_at c.parts i)
       (sym table.whole ∙ ap length (e ∙ h.each i u) ∙ length-map (layer_values c.parts inputs i) embed_k ∙ length-values inputs i u ∙ (size_of c i u).0)
 
   -- the gates of a layer and the table of the layer below can be summed over
-  pub is_layer : (i : ℕ) (table : Values) (gates : List CircuitGate) (point : List K) → i < height c.parts → table.k ≡ exponent_at c.parts (i + 1) → gates ≡ get_or c.parts.layers i [] → length point ≡ exponent_at c.parts i →
+  pub is_layer : (i : ℕ) (table : TableValues) (gates : List CircuitGate) (point : List K) → i < height c.parts → table.k ≡ exponent_at c.parts (i + 1) → gates ≡ get_or c.parts.layers i [] → length point ≡ exponent_at c.parts i →
       IsLayer K table.k gates table.items (At point)
   is_layer i table gates point u e g z =
       let size = size_of c (i + 1) (omega arith) in

@@ -22,9 +22,9 @@ pub struct Table {
 impl Model for Table {
     ghost use Rattle.std.specs.Prelude.{ℕ, ◌≡◌, ◌^◌, vec_len};
     ghost use Rattle.std.proofs.Common.{◌∙◌, sym};
-    ghost use Rattle.mle_table.specs.Shape.{Values};
+    ghost use Rattle.mle_table.specs.Shape.{TableValues};
 
-    ghost Value = { Values };
+    ghost Value = { TableValues };
 
     ghost view = { λ a. record { k = a.k; items = a.values.items; whole = sym a.values.ok.0 ∙ a.whole } };
 }

@@ -3,7 +3,7 @@ use Rattle.std.proofs.Common.{◌≡◌, ℕ, ◌+◌, ◌<◌, ◌≤◌, ◌++
 use Rattle.field_ext.specs.Field.{K, k_ops}
 use Rattle.circuit_core.specs.Parts.{Parts, height}
 use Rattle.circuit_core.specs.Sound.{exponent_at}
-use Rattle.mle_table.specs.Shape.{Values}
+use Rattle.mle_table.specs.Shape.{TableValues}
 use Rattle.gkr_layers.specs.Layers.{GateLayer, layers_of, message_count, layers_below, layer_at, next_place}
 use Rattle.transcript_fs.specs.Source.{Source, draws, state_after}
 use Rattle.proof_wire.specs.declared.messages.LayerMessages.{LayerMessages}
@@ -53,7 +53,7 @@ loop-layer-preserved g c =
     let i = c.loop-layer.layer in
     let before = c.loop-layer.invariant in
     let proved = c.in_ok-proved.ensures in
-    let table : Values = c.table.result.now in
+    let table : TableValues = c.table.result.now in
     let m : LayerMessages = c.in_ok-proved.proved.messages in
     let ms : List LayerMessages = c.loop-layer.messages.items in
     let M : List (List K) = messages_of m in
