@@ -6,9 +6,9 @@ ghost use Rattle.field_ext.specs.Multilinear.{folded};
 ghost use Rattle.round_tables.specs.Tables.{IsFolded};
 
 use crate::operand::Operand;
-use crate::steps::Steps;
 use field_ext::Ext;
 use std::sync::ledger::Ledger;
+use step_count::Steps;
 
 /// How many folded values are computed before they are written over the table.
 const BLOCK: usize = 128;

@@ -9,7 +9,6 @@ ghost use Rattle.round_tables.specs.LayerSum.{pieces_of, piece_pairs, piece_poly
 
 use crate::layer_gates::LayerGates;
 use crate::room::Room;
-use crate::steps::Steps;
 use crate::working::{Working, pair_count};
 use circuit_core::CircuitGate;
 use field_ext::Ext;
@@ -17,6 +16,7 @@ use mle_table::Table;
 use std::alloc::{AllocError, Global};
 use std::marker::{Brand, Model};
 use std::sync::ledger::{Blank, Ledger};
+use step_count::Steps;
 
 /// How many pairs a piece of a round has, the last one aside.
 pub const PIECE: usize = 1024;

@@ -7,10 +7,10 @@ ghost use Rattle.wiring_poly.specs.Wiring.{by_kind};
 ghost use Rattle.round_tables.specs.Tables.{scale_of, shift_of, GathersLeft, GathersFactors, GathersRight};
 
 use crate::operand::Operand;
-use crate::steps::Steps;
 use circuit_core::{CircuitGate, Kind};
 use field_ext::Ext;
 use std::sync::ledger::Ledger;
+use step_count::Steps;
 
 /// Sets every value to 0.
 fn clear(table: &mut [Ext])

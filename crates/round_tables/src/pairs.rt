@@ -9,9 +9,9 @@ ghost use Rattle.round_tables.specs.Tables.{pair_at, quadratic_at};
 
 use crate::lazy_sum::LazySum;
 use crate::operand::Operand;
-use crate::steps::Steps;
 use field_ext::Ext;
 use std::sync::ledger::Ledger;
+use step_count::Steps;
 
 /// The coefficients of 1, X and X².
 #[derive(Clone, Copy)]

@@ -14,11 +14,11 @@ use crate::gathering::{gather_left, gather_right};
 use crate::layer_gates::{LayerGates, power};
 use crate::operand::{Base, Whole};
 use crate::pairs::{Quadratic, pair_sum};
-use crate::steps::Steps;
 use field_ext::Ext;
 use mle_table::fill_equality;
 use std::alloc::{AllocError, Global};
 use std::sync::ledger::Ledger;
+use step_count::Steps;
 
 /// The rooms of both phases, and the challenges bound so far.
 #[derive(Drop)]
