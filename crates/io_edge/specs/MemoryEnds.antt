@@ -1,6 +1,7 @@
 -- What ends in memory hold, and at which of their calls they fail.
 use Rattle.std.specs.Prelude.{◌≡◌, ℕ, ◌+◌, ◌-◌, ◌^◌, min, List, drop, length, Contains, if◌then◌else◌, Some, None}
 use Rattle.std.specs.declared.option.Option.{Option}
+use Rattle.io_edge.specs.Calls.{Calls}
 use Rattle.io_edge.specs.declared.memory_source.MemorySource.{MemorySource}
 use Rattle.io_edge.specs.declared.memory_sink.MemorySink.{MemorySink}
 use Rattle.io_edge.specs.declared.steady_source.SteadySource.{SteadySource}
@@ -13,6 +14,13 @@ unread s = drop s.taken s.bytes.items
 
 abbrev pub steady_unread : SteadySource → List ℕ
 steady_unread s = drop s.taken s.bytes.items
+
+-- the calls that read from it
+abbrev pub calls_of : MemorySource → Calls
+calls_of s = record { count = s.schedule.calls; most_room = s.most_room }
+
+abbrev pub steady_calls : SteadySource → Calls
+steady_calls s = record { count = s.calls; most_room = s.most_room }
 
 -- the bytes that a sink holds, and how many it has room for in all
 abbrev pub held : MemorySink → List ℕ

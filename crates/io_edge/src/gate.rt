@@ -1,5 +1,4 @@
 /// What a worker passes between its claim of a piece and its work on it. It changes no answer.
-/// So far no worker passes it.
 pub trait Gate: Sync {
     /// Passes `worker`, counted from 0, which claimed `piece`. Several threads may be in it at once.
     fn enter(&self, worker: u32, piece: u32);

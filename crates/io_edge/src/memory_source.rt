@@ -11,6 +11,7 @@ pub struct MemorySource {
     bytes: Vec<u8>,
     taken: usize,
     piece: usize,
+    most_room: usize,
     schedule: Schedule,
     ghost within: { taken ≤ vec_len bytes },
     ghost some: { 0 < piece },
@@ -31,32 +32,39 @@ impl MemorySource {
             bytes: Vec::from_slice(alloc, bytes)?,
             taken: 0,
             piece,
+            most_room: 0,
             schedule: Schedule::new(alloc, fails)?,
         })
     }
 }
 
 impl Source for MemorySource {
-    ghost use Rattle.std.specs.Prelude.{◌↔◌, ◌-◌, length, min, drop, Some, IfOk, IsErr};
+    ghost use Rattle.std.specs.Prelude.{◌↔◌, ◌-◌, length, min, max, drop, Some, IfOk, IsErr};
     ghost use Rattle.std.specs.Io.{ReadsAtMost};
     ghost use Rattle.std.specs.Io.KnownBytes.{ReadConsumes};
+    ghost use Rattle.io_edge.specs.Calls.{CallsAtMost};
     ghost use Rattle.io_edge.specs.Causes.{HasCause};
-    ghost use Rattle.io_edge.specs.MemoryEnds.{unread, FailsNow, IsNextCall};
+    ghost use Rattle.io_edge.specs.MemoryEnds.{unread, calls_of, FailsNow, IsNextCall};
 
     ghost left = { λ s. Some (drop s.taken s.bytes.items) };
 
     ghost faults = { λ s. s.schedule.faults };
 
+    ghost calls = { λ s. Some (record { count = s.schedule.calls; most_room = s.most_room }) };
+
     fn read(&mut self, room: &mut [u8]) -> Result<usize, Failed>
         ensures bound { ReadsAtMost result room.new }
         ensures bytes { ReadConsumes (Some (unread self.old)) (Some (unread self.new)) result room.new }
         ensures cause { HasCause self.old.schedule.faults self.new.schedule.faults result }
+        ensures called { CallsAtMost 1 (length room.old) (Some (calls_of self.old)) (Some (calls_of self.new)) }
+        ensures most_room { self.new.most_room ≡ max self.old.most_room (length room.old) }
         // It fails at the calls that it was told, and at no other.
         ensures fails { IsErr result ↔ FailsNow self.new.schedule }
         ensures next { IsNextCall self.old.schedule self.new.schedule }
         ensures count { IfOk result (λ n. n ≡ min (min (length (unread self.old)) (length room.old)) self.old.piece) }
         ensures piece { self.new.piece ≡ self.old.piece }
     {
+        self.most_room = self.most_room.max(room.len());
         if self.schedule.next_fails() {
             return Err(self.schedule.fault());
         }

@@ -21,9 +21,13 @@ impl<R: Read> StdSource<R> {
 }
 
 impl<R: Read> Source for StdSource<R> {
+    ghost use Rattle.std.specs.Prelude.{None};
+
     ghost left = { λ s. R.remaining s.reader };
 
     ghost faults = { λ s. s.faults };
+
+    ghost calls = { λ _. None };
 
     fn read(&mut self, room: &mut [u8]) -> Result<usize, Failed> {
         match self.reader.read(room) {

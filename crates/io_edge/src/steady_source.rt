@@ -10,6 +10,8 @@ pub struct SteadySource {
     bytes: Vec<u8>,
     taken: usize,
     piece: usize,
+    calls: u64,
+    most_room: usize,
     ghost within: { taken ≤ vec_len bytes },
     ghost some: { 0 < piece },
 }
@@ -28,28 +30,37 @@ impl SteadySource {
             bytes: Vec::from_slice(alloc, bytes)?,
             taken: 0,
             piece,
+            calls: 0,
+            most_room: 0,
         })
     }
 }
 
 impl Source for SteadySource {
-    ghost use Rattle.std.specs.Prelude.{length, min, drop, Some, Ok};
+    ghost use Rattle.std.specs.Prelude.{◌+◌, ◌-◌, ◌^◌, length, min, max, drop, Some, Ok};
     ghost use Rattle.std.specs.Io.{ReadsAtMost};
     ghost use Rattle.std.specs.Io.KnownBytes.{ReadConsumes};
+    ghost use Rattle.io_edge.specs.Calls.{CallsAtMost};
     ghost use Rattle.io_edge.specs.Causes.{HasCause};
-    ghost use Rattle.io_edge.specs.MemoryEnds.{steady_unread};
+    ghost use Rattle.io_edge.specs.MemoryEnds.{steady_unread, steady_calls};
 
     ghost left = { λ s. Some (drop s.taken s.bytes.items) };
 
     ghost faults = { λ _. 0 };
 
+    ghost calls = { λ s. Some (record { count = s.calls; most_room = s.most_room }) };
+
     fn read(&mut self, room: &mut [u8]) -> Result<usize, Failed>
         ensures bound { ReadsAtMost result room.new }
         ensures bytes { ReadConsumes (Some (steady_unread self.old)) (Some (steady_unread self.new)) result room.new }
         ensures cause { HasCause 0 0 result }
+        ensures called { CallsAtMost 1 (length room.old) (Some (steady_calls self.old)) (Some (steady_calls self.new)) }
+        ensures counted { steady_calls self.new ≡ record { count = min (self.old.calls + 1) (2 ^ 64 - 1); most_room = max self.old.most_room (length room.old) } }
         ensures count { result ≡ Ok (min (min (length (steady_unread self.old)) (length room.old)) self.old.piece) }
         ensures piece { self.new.piece ≡ self.old.piece }
     {
+        self.calls = self.calls.saturating_add(1);
+        self.most_room = self.most_room.max(room.len());
         let count = copy_front(&self.bytes[self.taken..], room, self.piece);
         self.taken += count;
         Ok(count)
