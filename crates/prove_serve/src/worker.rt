@@ -143,7 +143,8 @@ fn submit_all<R: Wait, C: Drop, A: Fits<C> + Drop>(
     }
 }
 
-/// Submits the jobs in order, tells the provers, and then helps to drain.
+/// Submits the jobs in order, tells the provers, and then answers one job. It leaves the others to the provers, so that
+/// these are as many threads as were asked for.
 pub(crate) fn client<R: Wait, W: CaseWork>(
     rt: &R,
     alloc: Global,
@@ -170,7 +171,7 @@ where
     submit_all(rt, table, &mut pass, jobs, script);
     submitting.fetch_sub(1, Ordering::SeqCst);
     submitting.wake_all();
-    drain(rt, alloc, table, &mut pass, script, work);
+    let _ = answer_one(rt, alloc, table, &mut pass, script, work);
     pass
 }
 
