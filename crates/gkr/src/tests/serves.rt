@@ -240,6 +240,51 @@ fn reads_no_longer_script(rt: HostRuntime) -> Result<(), Fail> {
     )
 }
 
+/// The text of a script of one job up to the last value of its case, which has as many values of as many digits as a Plain
+/// case can have, and as long a program.
+fn longest_values(alloc: Global) -> Result<Vec<u8>, AllocError> {
+    let mut out = Vec::new(alloc);
+    out.extend_from_slice(b"client 1\ngkr case 1\nprogram 65536\noutput 1;")?;
+    for _ in 9..65_536 {
+        out.push(b' ')?;
+    }
+    out.extend_from_slice(b"\ninput 262144")?;
+    for _ in 0..262_144 {
+        out.extend_from_slice(b" 2147483646")?;
+    }
+    Ok(out)
+}
+
+/// The longest Plain case, of 2,949,163 bytes, as a job.
+#[test]
+fn serves_the_longest_case(rt: HostRuntime) -> Result<(), Fail> {
+    let mut text = longest_values(rt.alloc())?;
+    text.extend_from_slice(b"\nend\ndone\n")?;
+    assert_eq!(rt; text.len(), 9 + 2_949_163 + 5);
+    let want = b"client 1\nrefused count input 262144 0\njobs 1 proved 0 refused 1\n";
+    answers(&rt, &["gkr", "serve"], &text, &OpenGate, Status::Done, want)
+}
+
+/// A case of 4,194,304 bytes as a job: it is refused after its last value.
+#[test]
+fn reads_no_longer_case_in_a_script(rt: HostRuntime) -> Result<(), Fail> {
+    let mut text = longest_values(rt.alloc())?;
+    for _ in 2_949_158..4_194_304 {
+        text.push(b' ')?;
+    }
+    text.extend_from_slice(b"done\n")?;
+    assert_eq!(rt; text.len(), 9 + 4_194_304 + 5);
+    let want = b"refused case number 2949167\n";
+    answers(
+        &rt,
+        &["gkr", "serve"],
+        &text,
+        &OpenGate,
+        Status::BadCase,
+        want,
+    )
+}
+
 /// Two clients are at work at one time.
 #[test]
 fn serves_two_beside_each_other(rt: HostRuntime) -> Result<(), Fail> {
