@@ -58,7 +58,15 @@ case_at form bytes = do
   outputs ← line_at form 111 outputs_at inputs.1
   proof ← line_at form 112 proof_at outputs.1
   last ← word_at Section last_line proof.1
-  Ok (record { program = program.0; inputs = inputs.0; outputs = outputs.0; proof = proof.0 }, last.1)
+  Ok (
+    record {
+      program = program.0;
+      inputs = inputs.0;
+      outputs = outputs.0;
+      proof = proof.0;
+    },
+    last.1,
+  )
 
 -- nothing follows
 abbrev pub at_end : {A : Type 0} → Taking A → Result A Stop

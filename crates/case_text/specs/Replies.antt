@@ -46,7 +46,9 @@ program_kind_name programs.NoOutput = codes "nooutput"
 -- the lines of layers that are numbered from one on
 abbrev pub layer_lines : ℕ → List LayerSize → List ℕ
 layer_lines i [] = []
-layer_lines i (layer ∷ layers) = concat (codes "layer " ∷ number i 32 ∷ number layer.positions 32 ∷ number layer.products 10 ∷ []) ++ layer_lines (i + 1) layers
+layer_lines i (layer ∷ layers) =
+    concat (codes "layer " ∷ number i 32 ∷ number layer.positions 32 ∷ number layer.products 10
+    ∷ []) ++ layer_lines (i + 1) layers
 
 -- a word and a number on a line
 unfoldable pub line_text : List ℕ → ℕ → List ℕ
@@ -58,15 +60,18 @@ pair_text word first second = concat (word ∷ number first 32 ∷ number second
 
 -- what a proof takes
 abbrev pub totals_text : Sizes → List ℕ
-totals_text s = concat (line_text (codes "proof ") s.proof ∷ line_text (codes "challenges ") s.challenges ∷ line_text (codes "bound ") s.bound ∷ [])
+totals_text s = concat (line_text (codes "proof ") s.proof ∷ line_text (codes "challenges ")
+    s.challenges ∷ line_text (codes "bound ") s.bound ∷ [])
 
 -- the layers above the input are one fewer than all
 abbrev pub sizes_text : Sizes → List ℕ
-sizes_text s = concat (line_text (codes "circuit ") (length s.layers - 1) ∷ layer_lines 0 s.layers ∷ totals_text s ∷ [])
+sizes_text s = concat (line_text (codes "circuit ") (length s.layers - 1) ∷ layer_lines 0 s.layers
+    ∷ totals_text s ∷ [])
 
 -- two elements, each by its real and its imaginary part
 unfoldable pub sides_text : K → K → List ℕ
-sides_text had want = concat (number had.re.value 44 ∷ number had.im.value 32 ∷ number want.re.value 44 ∷ number want.im.value 10 ∷ [])
+sides_text had want = concat (number had.re.value 44 ∷ number had.im.value 32 ∷ number want.re.value
+    44 ∷ number want.im.value 10 ∷ [])
 
 unfoldable pub failed_text : List ℕ → K → K → List ℕ
 failed_text word had want = word ++ sides_text had want
@@ -75,7 +80,8 @@ unfoldable pub failed_layer_text : List ℕ → ℕ → K → K → List ℕ
 failed_layer_text word layer had want = concat (word ∷ number layer 32 ∷ sides_text had want ∷ [])
 
 unfoldable pub failed_round_text : List ℕ → ℕ → ℕ → K → K → List ℕ
-failed_round_text word layer round had want = concat (word ∷ number layer 32 ∷ number round 32 ∷ sides_text had want ∷ [])
+failed_round_text word layer round had want =
+    concat (word ∷ number layer 32 ∷ number round 32 ∷ sides_text had want ∷ [])
 
 abbrev pub bad_proof_text : BadProof → List ℕ
 bad_proof_text (proofs.Magic at) = line_text (codes "refused proof magic ") at
@@ -89,10 +95,12 @@ digest_text digest = concat (codes "digest " ∷ encode_lower digest ∷ (10 ∷
 
 -- the lines of a demo on the case that was generated, and on its proof
 abbrev pub generated_text : DemoSummary → List ℕ
-generated_text s = concat (line_text (codes "demo ") s.number ∷ line_text (codes "size ") s.size ∷ line_text (codes "output ") s.output.value ∷ [])
+generated_text s = concat (line_text (codes "demo ") s.number ∷ line_text (codes "size ") s.size
+    ∷ line_text (codes "output ") s.output.value ∷ [])
 
 abbrev pub proved_text : DemoSummary → List ℕ
-proved_text s = concat (line_text (codes "layers ") s.layers ∷ line_text (codes "proof ") s.proof ∷ digest_text s.digest ∷ [])
+proved_text s = concat (line_text (codes "layers ") s.layers ∷ line_text (codes "proof ") s.proof
+    ∷ digest_text s.digest ∷ [])
 
 abbrev pub demo_text : DemoSummary → List ℕ
 demo_text s = concat (generated_text s ∷ proved_text s ∷ codes "accepted" ∷ (10 ∷ []) ∷ [])
@@ -100,11 +108,14 @@ demo_text s = concat (generated_text s ∷ proved_text s ∷ codes "accepted" �
 -- the lines of a script's jobs: for each its client, and the reply to its case
 abbrev pub served_lines : List Served → List ℕ
 served_lines [] = []
-served_lines (job ∷ jobs) = line_text (codes "client ") job.client ++ (job.text ++ served_lines jobs)
+served_lines (job ∷ jobs) =
+    line_text (codes "client ") job.client ++ (job.text ++ served_lines jobs)
 
 -- how many jobs there are, how many of them were proved, and how many weren't
 abbrev pub summary_text : ℕ → ℕ → List ℕ
-summary_text jobs proved = concat (codes "jobs " ∷ number jobs 32 ∷ codes "proved " ∷ number proved 32 ∷ line_text (codes "refused ") (jobs - proved) ∷ [])
+summary_text jobs proved =
+    concat (codes "jobs " ∷ number jobs 32 ∷ codes "proved " ∷ number proved 32 ∷ line_text
+    (codes "refused ") (jobs - proved) ∷ [])
 
 abbrev pub served_text : List Served → List ℕ
 served_text jobs = served_lines jobs ++ summary_text (length jobs) (proved_count jobs)
@@ -113,8 +124,10 @@ abbrev pub reply_text : Reply → List ℕ
 reply_text (replies.Outputs values) = codes "output " ++ counted_text values
 reply_text replies.Usage = codes "refused usage" ++ 10 ∷ []
 reply_text (replies.TooLong limit) = codes "refused long " ++ number limit 10
-reply_text (replies.Case bad) = concat (codes "refused case " ∷ kind_name bad.kind ∷ (32 ∷ []) ∷ number bad.at 10 ∷ [])
-reply_text (replies.Program kind at) = concat (codes "refused program " ∷ program_kind_name kind ∷ (32 ∷ []) ∷ number at 10 ∷ [])
+reply_text (replies.Case bad) =
+    concat (codes "refused case " ∷ kind_name bad.kind ∷ (32 ∷ []) ∷ number bad.at 10 ∷ [])
+reply_text (replies.Program kind at) =
+    concat (codes "refused program " ∷ program_kind_name kind ∷ (32 ∷ []) ∷ number at 10 ∷ [])
 reply_text (replies.Deep levels) = line_text (codes "refused program deep ") levels
 reply_text (replies.Wide height width) = pair_text (codes "refused program wide ") height width
 reply_text (replies.InputCount have need) = pair_text (codes "refused count input ") have need
@@ -125,6 +138,8 @@ reply_text (replies.Proved c) = lower_case_text c
 reply_text (replies.Demo summary) = demo_text summary
 reply_text (replies.Served jobs) = served_text jobs
 reply_text replies.Accepted = codes "accepted" ++ 10 ∷ []
-reply_text (replies.RejectedSum layer round had claim) = failed_round_text (codes "rejected sum ") layer round had claim
-reply_text (replies.RejectedEnd layer had want) = failed_layer_text (codes "rejected end ") layer had want
+reply_text (replies.RejectedSum layer round had claim) =
+    failed_round_text (codes "rejected sum ") layer round had claim
+reply_text (replies.RejectedEnd layer had want) =
+    failed_layer_text (codes "rejected end ") layer had want
 reply_text (replies.RejectedInput had want) = failed_text (codes "rejected input ") had want

@@ -17,7 +17,8 @@ number n close = decimal n ++ close ∷ []
 
 -- the program behind its length, each on lines of its own
 abbrev pub program_text : List ℕ → List ℕ
-program_text program = concat (codes "program " ∷ number (length program) 10 ∷ program ∷ (10 ∷ []) ∷ [])
+program_text program = concat (codes "program " ∷ number (length program) 10 ∷ program ∷ (10 ∷ [])
+    ∷ [])
 
 -- values, a space behind each but the last
 abbrev pub values_text : List F → List ℕ
@@ -38,14 +39,17 @@ outputs_text (Some vs) = codes "output " ++ counted_text vs
 -- a proof by its hex digits, behind the count of its bytes
 abbrev pub proof_text : Option (List ℕ) → List ℕ → List ℕ
 proof_text None digits = []
-proof_text (Some proof) digits = concat (codes "proof " ∷ number (length proof) 10 ∷ digits ∷ (10 ∷ []) ∷ [])
+proof_text (Some proof) digits =
+    concat (codes "proof " ∷ number (length proof) 10 ∷ digits ∷ (10 ∷ []) ∷ [])
 
 -- with its digits in lower case
 abbrev pub lower_proof_text : Option (List ℕ) → List ℕ
 lower_proof_text proof = proof_text proof (lower_digits proof)
 
 abbrev pub case_text : Content → List ℕ → List ℕ
-case_text c digits = concat (header ∷ program_text c.program ∷ codes "input " ∷ counted_text c.inputs ∷ outputs_text c.outputs ∷ proof_text c.proof digits ∷ last_line ∷ [])
+case_text c digits = concat
+    (header ∷ program_text c.program ∷ codes "input " ∷ counted_text c.inputs ∷ outputs_text
+    c.outputs ∷ proof_text c.proof digits ∷ last_line ∷ [])
 
 -- the text whose hex digits are in lower case
 abbrev pub lower_case_text : Content → List ℕ

@@ -16,9 +16,19 @@ impl Model for Case {
 
     ghost Value = { Content };
 
-    ghost view = { λ c. record { program = c.program.items; inputs = c.inputs.items; outputs = option_map (λ v. v.items) c.outputs; proof = option_map (λ v. v.items) c.proof } };
+    ghost view = { λ c. record {
+      program = c.program.items;
+      inputs = c.inputs.items;
+      outputs = option_map (λ v. v.items) c.outputs;
+      proof = option_map (λ v. v.items) c.proof;
+    } };
 
-    ghost invariant = { λ c. Fits (record { program = c.program.items; inputs = c.inputs.items; outputs = option_map (λ v. v.items) c.outputs; proof = option_map (λ v. v.items) c.proof }) };
+    ghost invariant = { λ c. Fits (record {
+      program = c.program.items;
+      inputs = c.inputs.items;
+      outputs = option_map (λ v. v.items) c.outputs;
+      proof = option_map (λ v. v.items) c.proof;
+    }) };
 }
 
 impl Case {
@@ -34,8 +44,18 @@ impl Case {
         outputs: Option<Vec<Fp>>,
         proof: Option<Vec<u8>>,
     ) -> Case
-        requires { Fits (record { program = program.items; inputs = inputs.items; outputs = option_map (λ v. v.items) outputs; proof = option_map (λ v. v.items) proof }) }
-        ensures { result ≡ record { program = program.items; inputs = inputs.items; outputs = option_map (λ v. v.items) outputs; proof = option_map (λ v. v.items) proof } }
+        requires { Fits (record {
+          program = program.items;
+          inputs = inputs.items;
+          outputs = option_map (λ v. v.items) outputs;
+          proof = option_map (λ v. v.items) proof;
+        }) }
+        ensures { result ≡ record {
+          program = program.items;
+          inputs = inputs.items;
+          outputs = option_map (λ v. v.items) outputs;
+          proof = option_map (λ v. v.items) proof;
+        } }
     {
         Case {
             program,

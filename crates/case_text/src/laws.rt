@@ -10,20 +10,24 @@ ghost use Rattle.case_text.specs.declared.refusal.BadCase.{BadCase};
 
 /// Bytes spell at most one case.
 pub fn one_case()
-    ensures { (form : Form) (bytes : List ℕ) (c d : Content) → Spells form bytes c → Spells form bytes d → c ≡ d }
+    ensures { (form : Form) (bytes : List ℕ) (c d : Content) → Spells form bytes c
+        → Spells form bytes d → c ≡ d }
 {}
 
 /// A case is read from exactly the bytes that spell it.
 pub fn read_exactly()
-    ensures { (form : Form) (bytes : List ℕ) (c : Content) → (reading form bytes ≡ Ok c) ↔ Spells form bytes c }
+    ensures { (form : Form) (bytes : List ℕ) (c : Content) → (reading form bytes ≡ Ok c)
+        ↔ Spells form bytes c }
 {}
 
 /// A refusal stands at the end of the longest front of the bytes with which some text begins.
 pub fn refusal_place()
-    ensures { (form : Form) (bytes : List ℕ) (bad : BadCase) → reading form bytes ≡ Err bad → IsPlace (λ c text. Spells form text c) bytes bad.at }
+    ensures { (form : Form) (bytes : List ℕ) (bad : BadCase) → reading form bytes ≡ Err bad
+        → IsPlace (λ c text. Spells form text c) bytes bad.at }
 {}
 
 /// No text of a case begins another of its form.
 pub fn no_case_begins_another()
-    ensures { (form : Form) (text more : List ℕ) (c d : Content) → Spells form text c → Spells form (text ++ more) d → more ≡ [] }
+    ensures { (form : Form) (text more : List ℕ) (c d : Content) → Spells form text c
+        → Spells form (text ++ more) d → more ≡ [] }
 {}

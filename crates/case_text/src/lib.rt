@@ -37,4 +37,3 @@ pub use sizes::{CircuitSizes, LayerSize};
 pub use stop::{ReadError, Stop, stop_at};
 pub use values::Values;
 pub use writing::write_case;
-

@@ -113,7 +113,8 @@ fn outputs_of(
     form: Form,
     bytes: &[u8],
 ) -> Result<(Option<Vec<Fp>>, &[u8]), ReadError>
-    ensures { Gives (λ x. (option_map (λ v. v.items) x.0, x.1.now)) result (line_at form 111 outputs_at bytes.now) }
+    ensures { Gives (λ x. (option_map (λ v. v.items) x.0, x.1.now)) result
+        (line_at form 111 outputs_at bytes.now) }
 {
     match (form, bytes) {
         (Form::Plain, _) => return Ok((None, bytes)),
@@ -132,7 +133,8 @@ fn outputs_of(
 /// Takes the lines of the proof, where they are due.
 #[tactic(auto, unfolding(crate::specs::Due::line_at, crate::specs::Due::choice_at))]
 fn proof_of(alloc: Global, form: Form, bytes: &[u8]) -> Result<(Option<Vec<u8>>, &[u8]), ReadError>
-    ensures { Gives (λ x. (option_map (λ v. v.items) x.0, x.1.now)) result (line_at form 112 proof_at bytes.now) }
+    ensures { Gives (λ x. (option_map (λ v. v.items) x.0, x.1.now)) result
+        (line_at form 112 proof_at bytes.now) }
 {
     match form {
         Form::Plain => Ok((None, bytes)),

@@ -209,7 +209,8 @@ fn put_failed_layer(
     had: Ext,
     want: Ext,
 ) -> Result<(), AllocError>
-    ensures { OnOk result (out.new.items ≡ out.old.items ++ failed_layer_text word.now layer had want) }
+    ensures { OnOk result (out.new.items ≡ out.old.items ++ failed_layer_text word.now layer had
+        want) }
 {
     out.extend_from_slice(word)?;
     put_number(out, layer, b' ')?;
@@ -226,7 +227,8 @@ fn put_failed_round(
     had: Ext,
     want: Ext,
 ) -> Result<(), AllocError>
-    ensures { OnOk result (out.new.items ≡ out.old.items ++ failed_round_text word.now layer round had want) }
+    ensures { OnOk result (out.new.items ≡ out.old.items ++ failed_round_text word.now layer round
+        had want) }
 {
     out.extend_from_slice(word)?;
     put_number(out, layer, b' ')?;

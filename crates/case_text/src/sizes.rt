@@ -23,7 +23,12 @@ impl Model for CircuitSizes {
 
     ghost Value = { Sizes };
 
-    ghost view = { λ s. record { layers = s.layers.items; proof = s.proof; challenges = s.challenges; bound = s.bound } };
+    ghost view = { λ s. record {
+      layers = s.layers.items;
+      proof = s.proof;
+      challenges = s.challenges;
+      bound = s.bound;
+    } };
 }
 
 impl CircuitSizes {
@@ -31,7 +36,12 @@ impl CircuitSizes {
 
     /// Layers, the bytes of a proof, how many challenges it takes, and the sum of the bounds on the exceptional ones.
     pub fn new(layers: Vec<LayerSize>, proof: u64, challenges: u64, bound: u64) -> CircuitSizes
-        ensures { result ≡ record { layers = layers.items; proof = proof; challenges = challenges; bound = bound } }
+        ensures { result ≡ record {
+          layers = layers.items;
+          proof = proof;
+          challenges = challenges;
+          bound = bound;
+        } }
     {
         CircuitSizes {
             layers,

@@ -68,7 +68,8 @@ pub fn put_counted(out: &mut Vec<u8>, values: &[Fp]) -> Result<(), AllocError>
 }
 
 fn put_outputs(out: &mut Vec<u8>, outputs: Option<&[Fp]>) -> Result<(), AllocError>
-    ensures { OnOk result (out.new.items ≡ out.old.items ++ outputs_text (option_map (λ values. values.now) outputs.entry)) }
+    ensures { OnOk result (out.new.items ≡ out.old.items ++ outputs_text
+        (option_map (λ values. values.now) outputs.entry)) }
 {
     if let Some(values) = outputs {
         out.extend_from_slice(b"output ")?;
@@ -86,8 +87,11 @@ pub fn hex_text(alloc: Global, bytes: &[u8]) -> Result<String, AllocError>
 }
 
 fn put_proof(alloc: Global, out: &mut Vec<u8>, proof: Option<&[u8]>) -> Result<(), AllocError>
-    ensures text { OnOk result (out.new.items ≡ out.old.items ++ lower_proof_text (option_map (λ bytes. bytes.now) proof.entry)) }
-    ensures hex { OnOk result (IfSome (option_map (λ bytes. bytes.now) proof.entry) (λ bytes. IsHexOf bytes (encode_lower bytes))) }
+    ensures text { OnOk result
+        (out.new.items ≡ out.old.items ++ lower_proof_text
+        (option_map (λ bytes. bytes.now) proof.entry)) }
+    ensures hex { OnOk result (IfSome (option_map (λ bytes. bytes.now) proof.entry)
+        (λ bytes. IsHexOf bytes (encode_lower bytes))) }
 {
     if let Some(bytes) = proof {
         out.extend_from_slice(b"proof ")?;
@@ -101,7 +105,8 @@ fn put_proof(alloc: Global, out: &mut Vec<u8>, proof: Option<&[u8]>) -> Result<(
 
 fn lower_text(alloc: Global, case: &Case) -> Result<Vec<u8>, AllocError>
     ensures text { IfOk result (λ text. text.items ≡ lower_case_text case.now) }
-    ensures hex { IfOk result (λ text. IfSome case.now.proof (λ proof. IsHexOf proof (encode_lower proof))) }
+    ensures hex { IfOk result
+        (λ text. IfSome case.now.proof (λ proof. IsHexOf proof (encode_lower proof))) }
     ensures fits { IfOk result (λ text. Fits case.now) }
 {
     let mut out = Vec::with_capacity(alloc, room_for(case))?;
@@ -118,7 +123,8 @@ fn lower_text(alloc: Global, case: &Case) -> Result<Vec<u8>, AllocError>
 /// The text of a case, its hex digits in lower case. The error comes where memory runs out.
 pub fn write_case(alloc: Global, case: &Case) -> Result<Vec<u8>, AllocError>
     ensures text { IfOk result (λ text. text.items ≡ lower_case_text case.now) }
-    ensures spells { IfOk result (λ text. (form : Form) → Allows form case.now.outputs → Allows form case.now.proof → Spells form text.items case.now) }
+    ensures spells { IfOk result (λ text. (form : Form) → Allows form case.now.outputs
+        → Allows form case.now.proof → Spells form text.items case.now) }
 {
     lower_text(alloc, case)
 }

@@ -25,7 +25,11 @@ abbrev pub drew : ℕ → ClaimerView → ClaimerView
 drew k c = record c { drawn = c.drawn ++ k ∷ [] }
 
 abbrev pub united : ClaimerView → ClaimerView → ClaimerView
-united c other = record c { shares = c.shares + other.shares; drawn = c.drawn ++ other.drawn; stopped = c.stopped || other.stopped }
+united c other = record c {
+  shares = c.shares + other.shares;
+  drawn = c.drawn ++ other.drawn;
+  stopped = c.stopped || other.stopped;
+}
 
 abbrev pub as_worker : ClaimerView → Worker
 as_worker c = worker c.shares c.drawn c.stopped

@@ -36,7 +36,8 @@ pub data ClaimStep : Type 0 where
 
 -- of n pieces it draws the next, where one is left, and is else stopped
 abbrev pub claiming : ℕ → ℕ → Worker → Worker
-claiming n next v = cond (ltb next n) (worker v.shares (v.drawn ++ next ∷ []) v.stopped) (worker v.shares v.drawn true)
+claiming n next v = cond (ltb next n) (worker v.shares (v.drawn ++ next ∷ []) v.stopped)
+    (worker v.shares v.drawn true)
 
 abbrev pub keeping : ℕ → Worker → Worker
 keeping s v = worker (v.shares - s) v.drawn v.stopped
@@ -64,10 +65,17 @@ outputs_of {X} rs = map (λ (r : ℕ × X). r.1) rs
 module _ {X : Type 0} (n : ℕ) (out : ℕ → X) where
   -- the step may be taken at p, and gives q
   abbrev pub IsStep : ClaimStep → Phase X → Phase X → Type 0
-  IsStep (Claim w) p q = (v : Worker) × IsAt p.workers w v × (v.stopped ≡ false) × (q ≡ phase (p.next + 1) (slice_set p.workers w (claiming n p.next v)) p.results)
-  IsStep (Work w k) p q = (v : Worker) × IsAt p.workers w v × (1 ≤ times k v.drawn) × (times k (pieces_of p.results) ≡ 0) × (q ≡ phase p.next p.workers (p.results ++ (k, out k) ∷ []))
-  IsStep (Split w s) p q = (v : Worker) × IsAt p.workers w v × (0 < s) × (s < v.shares) × (q ≡ phase p.next (slice_set p.workers w (keeping s v) ++ given s v ∷ []) p.results)
-  IsStep (Join w u) p q = (v : Worker) × (o : Worker) × IsAt p.workers w v × IsAt p.workers u o × (u ≢ w) × (q ≡ phase p.next (slice_set (slice_set p.workers w (joining v o)) u gone) p.results)
+  IsStep (Claim w) p q = (v : Worker) × IsAt p.workers w v × (v.stopped ≡ false)
+      × (q ≡ phase (p.next + 1) (slice_set p.workers w (claiming n p.next v)) p.results)
+  IsStep (Work w k) p q = (v : Worker) × IsAt p.workers w v × (1 ≤ times k v.drawn)
+      × (times k (pieces_of p.results) ≡ 0)
+      × (q ≡ phase p.next p.workers (p.results ++ (k, out k) ∷ []))
+  IsStep (Split w s) p q =
+      (v : Worker) × IsAt p.workers w v × (0 < s) × (s < v.shares)
+      × (q ≡ phase p.next (slice_set p.workers w (keeping s v) ++ given s v ∷ []) p.results)
+  IsStep (Join w u) p q = (v : Worker) × (o : Worker) × IsAt p.workers w v × IsAt p.workers u o
+      × (u ≢ w) × (q ≡ phase p.next (slice_set (slice_set p.workers w (joining v o)) u gone)
+      p.results)
 
   -- the steps, one after another, lead from p to r
   abbrev pub IsRun : List ClaimStep → Phase X → Phase X → Type 0
@@ -101,7 +109,8 @@ pub record IsRule (n shares next : ℕ) (ws : List Worker) : Type 0 where
   pub bound : next ≤ n + total stopped_shares ws
 
 -- each result is its piece's output, and its piece was drawn, and stands in no other result
-pub record AreResults {X : Type 0} (out : ℕ → X) (ws : List Worker) (rs : List (ℕ × X)) : Type 0 where
+pub record AreResults {X : Type 0} (out : ℕ → X) (ws : List Worker) (rs : List (ℕ × X))
+    : Type 0 where
   pub outputs : All (λ (r : ℕ × X). r.1 ≡ out r.0) rs
   pub once : (x : ℕ) → times x (pieces_of rs) ≤ drawn_by x ws
 

@@ -29,11 +29,13 @@ abbrev pub board_of : ℕ → List Hand → Claims
 board_of next hands = phase next (map worker_of hands) []
 
 abbrev pub Kept : Plan → State (Unit {0}) Hand → Type 0
-Kept p s = (length s.words ≡ 1) × (p.pieces + p.shares < 2 ^ 64 - 1) × (p.shares < 2 ^ 32) × IsReached p.pieces p.shares (board_of (slice_index s.words 0) s.views)
+Kept p s = (length s.words ≡ 1) × (p.pieces + p.shares < 2 ^ 64 - 1) × (p.shares < 2 ^ 32)
+    × IsReached p.pieces p.shares (board_of (slice_index s.words 0) s.views)
 
 -- a claim of the hand v, which finds `next`
 abbrev pub claimed : Hand → ℕ → Hand
-claimed v next = cond (ltb next v.pieces) (hand v.pieces v.shares (v.drawn ++ next ∷ []) v.stopped) (hand v.pieces v.shares v.drawn true)
+claimed v next = cond (ltb next v.pieces) (hand v.pieces v.shares (v.drawn ++ next ∷ []) v.stopped)
+    (hand v.pieces v.shares v.drawn true)
 
 -- A claim is a step of the machine, at a state that its steps lead to: worker `seat` was v, found `next`, and is w. All pieces were drawn before it exactly
 -- where none was left
@@ -50,7 +52,8 @@ pub record IsClaimStep (n : ℕ) (v : Worker) (next : ℕ) (w : Worker) : Type 0
   pub all : n ≤ next ↔ AllDrawn n before.workers
 
 abbrev pub Claimed : Step (Unit {0}) → Me (Unit {0}) Hand → ℕ → Me (Unit {0}) Hand → Type 0
-Claimed st m found m' = (m'.0 ≡ claimed m.0 found) × (m'.1 ≡ m.1) × (length m'.0.drawn ≤ m.0.pieces) × IsClaimStep m.0.pieces (worker_of m.0) found (worker_of m'.0)
+Claimed st m found m' = (m'.0 ≡ claimed m.0 found) × (m'.1 ≡ m.1) × (length m'.0.drawn ≤ m.0.pieces)
+    × IsClaimStep m.0.pieces (worker_of m.0) found (worker_of m'.0)
 
 -- a look at the board tells that the shares of a hand are among all
 abbrev pub Counted : Step (Unit {0}) → Me (Unit {0}) Hand → ℕ → Me (Unit {0}) Hand → Type 0

@@ -8,23 +8,30 @@ ghost use Rattle.chunk_board.specs.ClaimMachine.{ClaimStep, Phase, start, IsRun,
 /// Every list of steps keeps the rule: what is drawn are the numbers below `next` and n, each once; the shares add to
 /// the total; where a worker has stopped, all is drawn. Each result is the output of a piece that was drawn, once.
 pub fn every_run_keeps_the_rule<X>()
-    ensures rule { (n shares : ℕ) (out : ℕ → X) (ss : List ClaimStep) (p : Phase X) → IsRun n out ss (start shares) p → IsRule n shares p.next p.workers }
-    ensures results { (n shares : ℕ) (out : ℕ → X) (ss : List ClaimStep) (p : Phase X) → IsRun n out ss (start shares) p → AreResults out p.workers p.results }
+    ensures rule { (n shares : ℕ) (out : ℕ → X) (ss : List ClaimStep) (p : Phase X)
+        → IsRun n out ss (start shares) p → IsRule n shares p.next p.workers }
+    ensures results { (n shares : ℕ) (out : ℕ → X) (ss : List ClaimStep) (p : Phase X)
+        → IsRun n out ss (start shares) p → AreResults out p.workers p.results }
 {}
 
 /// Whatever the order of claims, where each worker has stopped and each drawn piece was worked, the results have each piece
 /// from 0 to n - 1 once, and placed by number they are the outputs in order.
 pub fn each_piece_once<X>()
-    ensures pieces { (n shares : ℕ) (out : ℕ → X) (ss : List ClaimStep) (p : Phase X) → 0 < shares → IsRun n out ss (start shares) p → AllStopped p → AllWorked p →
+    ensures pieces { (n shares : ℕ) (out : ℕ → X) (ss : List ClaimStep) (p : Phase X) → 0 < shares
+        → IsRun n out ss (start shares) p → AllStopped p → AllWorked p →
         IsPermutation (range_with_len 0 n) (pieces_of p.results) }
-    ensures placed { (n shares : ℕ) (out : ℕ → X) (ss : List ClaimStep) (p : Phase X) → 0 < shares → IsRun n out ss (start shares) p → AllStopped p → AllWorked p →
-        map (λ k. result_at k p.results) (range_with_len 0 n) ≡ map (λ k. Some (out k)) (range_with_len 0 n) }
+    ensures placed { (n shares : ℕ) (out : ℕ → X) (ss : List ClaimStep) (p : Phase X) → 0 < shares
+        → IsRun n out ss (start shares) p → AllStopped p → AllWorked p →
+        map (λ k. result_at k p.results) (range_with_len 0 n) ≡ map
+        (λ k. Some (out k)) (range_with_len 0 n) }
 {}
 
 /// The results then add up, in their order of arrival, to the sum of the outputs in order, under any sum that is
 /// commutative and associative, as a field's is.
 pub fn one_sum<A>()
-    ensures { (n shares : ℕ) (out : ℕ → A) (add : A → A → A) (zero : A) → ((x y : A) → add x y ≡ add y x) → ((x y z : A) → add (add x y) z ≡ add x (add y z)) →
-        (ss : List ClaimStep) (p : Phase A) → 0 < shares → IsRun n out ss (start shares) p → AllStopped p → AllWorked p →
+    ensures { (n shares : ℕ) (out : ℕ → A) (add : A → A → A) (zero : A)
+        → ((x y : A) → add x y ≡ add y x) → ((x y z : A) → add (add x y) z ≡ add x (add y z)) →
+        (ss : List ClaimStep) (p : Phase A) → 0 < shares → IsRun n out ss (start shares) p
+        → AllStopped p → AllWorked p →
         sum_with add zero (outputs_of p.results) ≡ sum_with add zero (map out (range_with_len 0 n)) }
 {}

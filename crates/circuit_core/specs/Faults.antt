@@ -22,7 +22,8 @@ abbrev pub unless : {X : Type 0} → Bool → X → Option X
 unless b x = if b then None else Some x
 
 abbrev pub depth_fault : Limits → Parts → Option BadCircuit
-depth_fault limits p = unless (nat_le 1 (height p) && nat_le (height p) limits.height) (bad.Depth (height p))
+depth_fault limits p = unless (nat_le 1 (height p) && nat_le (height p) limits.height)
+    (bad.Depth (height p))
 
 -- the k from 1 on with n = 2 ^ k, where a layer may have n positions
 abbrev pub exponent_of : Limits → ℕ → Option ℕ
@@ -33,7 +34,9 @@ abbrev pub held_by : Parts → ℕ → ℕ
 held_by p i = 1 + (if i == 0 then p.outputs else if i == height p then length p.leaves else 0)
 
 abbrev pub width_fault : Limits → Parts → ℕ → Option BadCircuit
-width_fault limits p i = unless (is_some (exponent_of limits (width_of p i)) && nat_le (held_by p i) (width_of p i)) (bad.Width i (width_of p i))
+width_fault limits p i =
+    unless (is_some (exponent_of limits (width_of p i)) && nat_le (held_by p i) (width_of p i))
+    (bad.Width i (width_of p i))
 
 abbrev pub is_add : Kind → Bool
 is_add Add = true
@@ -51,10 +54,12 @@ zero_fault p i g = unless (not (is_padding p i g) || is_zero_gate (gate_of p i g
 
 -- an operand has to be a position of the layer below
 abbrev pub fault_at_operand : Parts → ℕ → ℕ → ℕ → Option BadCircuit
-fault_at_operand p i g operand = unless (nat_lt operand (width_of p (i + 1))) (bad.Operand i g operand (width_of p (i + 1)))
+fault_at_operand p i g operand =
+    unless (nat_lt operand (width_of p (i + 1))) (bad.Operand i g operand (width_of p (i + 1)))
 
 abbrev pub operand_fault : Parts → ℕ → ℕ → Option BadCircuit
-operand_fault p i g = option_or (fault_at_operand p i g (gate_of p i g).left) (fault_at_operand p i g (gate_of p i g).right)
+operand_fault p i g = option_or (fault_at_operand p i g (gate_of p i g).left)
+    (fault_at_operand p i g (gate_of p i g).right)
 
 -- an input leaf has to name an input
 abbrev pub is_there : ℕ → Leaf → Bool

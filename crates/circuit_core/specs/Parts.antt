@@ -50,7 +50,8 @@ combined Mul x y = mul_f x y
 
 -- what a gate makes of the values of the layer below
 abbrev pub gate_value : List F → CircuitGate → F
-gate_value below gate = combined gate.kind (slice_index_or below gate.left zero_f) (slice_index_or below gate.right zero_f)
+gate_value below gate = combined gate.kind (slice_index_or below gate.left zero_f)
+    (slice_index_or below gate.right zero_f)
 
 abbrev pub leaf_value : List F → Leaf → F
 leaf_value inputs (Input j) = slice_index_or inputs j zero_f
@@ -67,4 +68,5 @@ values_of (gates ∷ layers) input = map (gate_value (values_of layers input)) g
 
 -- the values of a layer, for given inputs
 abbrev pub layer_values : Parts → List F → ℕ → List F
-layer_values p inputs i = values_of (drop i p.layers) (padded_values p.input_width (map (leaf_value inputs) p.leaves))
+layer_values p inputs i =
+    values_of (drop i p.layers) (padded_values p.input_width (map (leaf_value inputs) p.leaves))

@@ -27,7 +27,11 @@ impl Model for Circuit {
 
     ghost Value = { SoundCircuit };
 
-    ghost view = { λ c. record { parts = c.lists; faultless = c.faultless; has_output = c.has_output } };
+    ghost view = { λ c. record {
+      parts = c.lists;
+      faultless = c.faultless;
+      has_output = c.has_output;
+    } };
 }
 
 impl Circuit {
@@ -44,8 +48,20 @@ impl Circuit {
         outputs: u32,
     ) -> Result<Circuit, CircuitRefused>
         requires { 1 ≤ outputs }
-        ensures made { IfOk result (λ c. c.parts ≡ record { layers = layers.items; input_width = input_width; leaves = leaves.items; inputs = inputs; outputs = outputs }) }
-        ensures refused { IfErr result (IsCauseOf greatest (record { layers = layers.items; input_width = input_width; leaves = leaves.items; inputs = inputs; outputs = outputs })) }
+        ensures made { IfOk result (λ c. c.parts ≡ record {
+          layers = layers.items;
+          input_width = input_width;
+          leaves = leaves.items;
+          inputs = inputs;
+          outputs = outputs;
+        }) }
+        ensures refused { IfErr result (IsCauseOf greatest (record {
+          layers = layers.items;
+          input_width = input_width;
+          leaves = leaves.items;
+          inputs = inputs;
+          outputs = outputs;
+        })) }
     {
         let lists = Lists {
             layers,

@@ -27,4 +27,3 @@ pub const GREATEST_HEIGHT: usize = 256;
 
 /// A layer has two to the power of at most this many positions.
 pub const GREATEST_EXPONENT: u32 = 16;
-

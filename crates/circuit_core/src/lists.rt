@@ -26,7 +26,13 @@ impl Model for Lists {
 
     ghost Value = { Parts };
 
-    ghost view = { λ l. record { layers = l.layers.items; input_width = l.input_width; leaves = l.leaves.items; inputs = l.inputs; outputs = l.outputs } };
+    ghost view = { λ l. record {
+      layers = l.layers.items;
+      input_width = l.input_width;
+      leaves = l.leaves.items;
+      inputs = l.inputs;
+      outputs = l.outputs;
+    } };
 }
 
 impl Lists {

@@ -22,7 +22,12 @@ impl Model for Shape {
 
     ghost Value = { Exponents };
 
-    ghost view = { λ s. record { ks = s.ks.items; long = subst (λ n. 2 ≤ n) s.ks.ok.0 s.long; short = subst (λ n. n ≤ greatest.height + 1) s.ks.ok.0 s.short; bounded = s.bounded } };
+    ghost view = { λ s. record {
+      ks = s.ks.items;
+      long = subst (λ n. 2 ≤ n) s.ks.ok.0 s.long;
+      short = subst (λ n. n ≤ greatest.height + 1) s.ks.ok.0 s.short;
+      bounded = s.bounded;
+    } };
 }
 
 impl Shape {
@@ -30,7 +35,8 @@ impl Shape {
     pub fn of(ks: Vec<u32>) -> Shape
         requires long { 2 ≤ vec_len ks }
         requires short { vec_len ks ≤ greatest.height + 1 }
-        requires bounded { IsTrue (list_all (λ k. nat_le 1 k && nat_le k greatest.exponent) ks.items) }
+        requires bounded { IsTrue
+            (list_all (λ k. nat_le 1 k && nat_le k greatest.exponent) ks.items) }
         ensures { result.ks ≡ ks.items }
     {
         Shape { ks }

@@ -15,6 +15,7 @@ pub fn one_value_a_position()
 
 /// The table of a layer of `2^k` positions has k coordinates.
 pub fn coordinates_by_layer()
-    ensures { (c : SoundCircuit) (inputs : List F) (i : ℕ) (table : TableValues) → i ≤ height c.parts
+    ensures { (c : SoundCircuit) (inputs : List F) (i : ℕ) (table : TableValues)
+        → i ≤ height c.parts
         → table.items ≡ table_of c.parts inputs i → table.k ≡ exponent_at c.parts i }
 {}

@@ -18,7 +18,8 @@ const MANY: usize = 1 << 16;
 /// The values of the input layer: 0, the leaves, and padding.
 pub fn input_values(alloc: Global, circuit: &Circuit, inputs: &[Fp]) -> Result<Vec<Fp>, AllocError>
     requires { length inputs.now ≡ circuit.now.parts.inputs }
-    ensures { IfOk result (λ v. v.items ≡ padded_values circuit.now.parts.input_width (map (leaf_value inputs.now) circuit.now.parts.leaves)) }
+    ensures { IfOk result (λ v. v.items ≡ padded_values circuit.now.parts.input_width
+        (map (leaf_value inputs.now) circuit.now.parts.leaves)) }
 {
     let width = circuit.width(circuit.height());
     let mut values = Vec::with_capacity(alloc, width)?;
@@ -79,7 +80,8 @@ fn evaluate_side_by_side<R: Threads + Sync>(
         |g: usize, value: &mut Fp|
             requires inside { g < length gates.now }
             requires operands { IsOver (length below.now) (slice_index_or gates.now g zero_gate) }
-            ensures { value.new ≡ gate_value below.entry.now (slice_index_or gates.entry.now g zero_gate) }
+            ensures { value.new ≡ gate_value below.entry.now
+                (slice_index_or gates.entry.now g zero_gate) }
         {
             *value = gate_value(below, &gates[g]);
         },

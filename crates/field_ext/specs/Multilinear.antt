@@ -17,7 +17,8 @@ module _ {A : Type 0} (o : Ops A) where
 
   -- the sum over all places g of the table's value there, embedded, times the equality polynomial of g
   abbrev pub extension_at : {C : Type 0} → Ops C → (C → A) → List C → List A → A
-  extension_at base embed t us = sum_below o (2 ^ length us) (λ g. embed (slice_index_or t g base.zero) ⊗ eq_poly us g)
+  extension_at base embed t us =
+      sum_below o (2 ^ length us) (λ g. embed (slice_index_or t g base.zero) ⊗ eq_poly us g)
 
   -- the table with its first coordinate bound to r: of each two neighbours, the value at r of the line through them
   abbrev pub folded : List A → A → List A

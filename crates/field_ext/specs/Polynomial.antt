@@ -37,7 +37,13 @@ module _ {A : Type 0} (o : Ops A) where
 
   -- the polynomials' own operations; as lists, p + (-p) is zeros and not the empty list
   abbrev pub polynomial_ops : Ops (List A)
-  polynomial_ops = record { zero = []; one = o.one ∷ []; add = sum_of; mul = product_of; neg = map o.neg }
+  polynomial_ops = record {
+    zero = [];
+    one = o.one ∷ [];
+    add = sum_of;
+    mul = product_of;
+    neg = map o.neg;
+  }
 
   -- the polynomial without variable
   abbrev pub constant : A → List A

@@ -144,7 +144,8 @@ impl Ext {
 
     /// The element of these bytes; None exactly where a half is a number at or above the prime.
     pub fn from_bytes(bytes: &[u8; 8]) -> Option<Ext>
-        ensures some { IsSome result ↔ ((real_half bytes.now < prime) × (imaginary_half bytes.now < prime)) }
+        ensures some { IsSome result
+            ↔ ((real_half bytes.now < prime) × (imaginary_half bytes.now < prime)) }
         ensures value { IfSome result (λ x. bytes_of x ≡ bytes.now) }
     {
         let re = Fp::of(u32::from_le_bytes([bytes[0], bytes[1], bytes[2], bytes[3]]))?;

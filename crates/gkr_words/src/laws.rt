@@ -36,7 +36,8 @@ pub fn words_with_numbers()
         → command_of (program ∷ codes "demo" ∷ decimal number ∷ []) ≡ Some (Command.Demo number 1) }
     ensures demo_by { (program : List ℕ) (number workers : ℕ) → number < 2 ^ 32 → 1 ≤ workers
         → workers ≤ 64
-        → command_of (program ∷ codes "demo" ∷ decimal number ∷ codes "--workers" ∷ decimal workers ∷ []) ≡ Some (Command.Demo number workers) }
+        → command_of (program ∷ codes "demo" ∷ decimal number ∷ codes "--workers" ∷ decimal workers
+        ∷ []) ≡ Some (Command.Demo number workers) }
 {}
 
 /// Words name a command only where the first behind the program's own name is a subcommand's.

@@ -60,7 +60,8 @@ impl Sink for MemorySink {
         // It fails at the calls that it was told, where no room is left, and at no other.
         ensures fails { IsErr result ↔ (FailsNow self.new.schedule ⊎ (room_left self.old ≡ 0)) }
         ensures next { IsNextCall self.old.schedule self.new.schedule }
-        ensures taken { IfOk result (λ n. n ≡ min (min (length piece.now) (room_left self.old)) self.old.piece) }
+        ensures taken { IfOk result
+            (λ n. n ≡ min (min (length piece.now) (room_left self.old)) self.old.piece) }
         ensures room { room_of self.new ≡ room_of self.old }
         ensures piece { self.new.piece ≡ self.old.piece }
     {

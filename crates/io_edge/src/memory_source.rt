@@ -54,14 +54,17 @@ impl Source for MemorySource {
 
     fn read(&mut self, room: &mut [u8]) -> Result<usize, Failed>
         ensures bound { ReadsAtMost result room.new }
-        ensures bytes { ReadConsumes (Some (unread self.old)) (Some (unread self.new)) result room.new }
+        ensures bytes { ReadConsumes (Some (unread self.old)) (Some (unread self.new)) result
+            room.new }
         ensures cause { HasCause self.old.schedule.faults self.new.schedule.faults result }
-        ensures called { CallsAtMost 1 (length room.old) (Some (calls_of self.old)) (Some (calls_of self.new)) }
+        ensures called { CallsAtMost 1 (length room.old) (Some (calls_of self.old))
+            (Some (calls_of self.new)) }
         ensures most_room { self.new.most_room ≡ max self.old.most_room (length room.old) }
         // It fails at the calls that it was told, and at no other.
         ensures fails { IsErr result ↔ FailsNow self.new.schedule }
         ensures next { IsNextCall self.old.schedule self.new.schedule }
-        ensures count { IfOk result (λ n. n ≡ min (min (length (unread self.old)) (length room.old)) self.old.piece) }
+        ensures count { IfOk result
+            (λ n. n ≡ min (min (length (unread self.old)) (length room.old)) self.old.piece) }
         ensures piece { self.new.piece ≡ self.old.piece }
     {
         self.most_room = self.most_room.max(room.len());

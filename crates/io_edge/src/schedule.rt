@@ -14,7 +14,8 @@ pub struct Schedule {
 
 impl Schedule {
     pub fn new(alloc: Global, fails: &[u64]) -> Result<Self, AllocError>
-        ensures { IfOk result (λ made. (made.fails.items ≡ fails.now) × (made.calls ≡ 0) × (made.faults ≡ 0)) }
+        ensures { IfOk result (λ made. (made.fails.items ≡ fails.now) × (made.calls ≡ 0)
+            × (made.faults ≡ 0)) }
     {
         Ok(Schedule {
             fails: Vec::from_slice(alloc, fails)?,

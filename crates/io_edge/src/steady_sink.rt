@@ -19,7 +19,8 @@ impl SteadySink {
 
     /// A sink that tells up to `room` bytes. An error where no memory is left.
     pub fn new(alloc: Global, room: usize) -> Result<Self, AllocError>
-        ensures { IfOk result (λ made. (steady_held made ≡ []) × (steady_room made ≡ room) × (made.tells ≡ true)) }
+        ensures { IfOk result (λ made. (steady_held made ≡ []) × (steady_room made ≡ room)
+            × (made.tells ≡ true)) }
     {
         Ok(SteadySink {
             bytes: Vec::with_capacity(alloc, room)?,
@@ -59,7 +60,9 @@ impl Sink for SteadySink {
         ensures cause { HasCause 0 0 result }
         ensures whole { result ≡ Ok (length piece.now) }
         // It tells on while the piece goes into the room that is left.
-        ensures tells { IsTrue self.new.tells ↔ (IsTrue self.old.tells × (length (steady_held self.old) + length piece.now ≤ steady_room self.old)) }
+        ensures tells { IsTrue self.new.tells
+            ↔ (IsTrue self.old.tells
+            × (length (steady_held self.old) + length piece.now ≤ steady_room self.old)) }
         ensures room { steady_room self.new ≡ steady_room self.old }
     {
         if piece.len() > self.room - self.bytes.len() {

@@ -52,11 +52,17 @@ impl Source for SteadySource {
 
     fn read(&mut self, room: &mut [u8]) -> Result<usize, Failed>
         ensures bound { ReadsAtMost result room.new }
-        ensures bytes { ReadConsumes (Some (steady_unread self.old)) (Some (steady_unread self.new)) result room.new }
+        ensures bytes { ReadConsumes (Some (steady_unread self.old)) (Some (steady_unread self.new))
+            result room.new }
         ensures cause { HasCause 0 0 result }
-        ensures called { CallsAtMost 1 (length room.old) (Some (steady_calls self.old)) (Some (steady_calls self.new)) }
-        ensures counted { steady_calls self.new ≡ record { count = min (self.old.calls + 1) (2 ^ 64 - 1); most_room = max self.old.most_room (length room.old) } }
-        ensures count { result ≡ Ok (min (min (length (steady_unread self.old)) (length room.old)) self.old.piece) }
+        ensures called { CallsAtMost 1 (length room.old) (Some (steady_calls self.old))
+            (Some (steady_calls self.new)) }
+        ensures counted { steady_calls self.new ≡ record {
+          count = min (self.old.calls + 1) (2 ^ 64 - 1);
+          most_room = max self.old.most_room (length room.old);
+        } }
+        ensures count { result ≡ Ok
+            (min (min (length (steady_unread self.old)) (length room.old)) self.old.piece) }
         ensures piece { self.new.piece ≡ self.old.piece }
     {
         self.calls = self.calls.saturating_add(1);

@@ -45,7 +45,8 @@ after js (Finish j) = slice_set js j Done
 after js (Withdraw j) = slice_set js j Withdrawn
 
 -- the step was made where the entry is one, and else nothing changed
-abbrev pub Steps : {Done Refused : Type 0} → ℕ × List JobState → Entry → ℕ × List JobState → Result Done Refused → Type 0
+abbrev pub Steps : {Done Refused : Type 0} → ℕ × List JobState → Entry → ℕ × List JobState
+    → Result Done Refused → Type 0
 Steps old e new r = MatchResult r
     (λ _. (is_step old.0 old.1 e ≡ true) × (new ≡ (old.0, after old.1 e)))
     (λ _. (is_step old.0 old.1 e ≡ false) × (new ≡ old))

@@ -29,7 +29,8 @@ impl Model for Jobs {
 
     ghost view = { λ j. (j.capacity, j.jobs.items) };
 
-    ghost invariant = { λ j. (vec_len j.jobs ≤ j.capacity) × (j.capacity ≤ vec_capacity j.jobs) × (j.first ≡ before_queued j.jobs.items) };
+    ghost invariant = { λ j. (vec_len j.jobs ≤ j.capacity) × (j.capacity ≤ vec_capacity j.jobs)
+        × (j.first ≡ before_queued j.jobs.items) };
 }
 
 // The first queued job from this one on, or how many jobs there are. None before it is queued.
@@ -79,7 +80,8 @@ impl Jobs {
 
     /// The queued job of least number. It is kept at each step, so that nothing is searched here.
     pub fn first_queued(&self) -> Option<u32>
-        ensures { MatchOption result (before_queued self.now.1 ≡ length self.now.1) (λ k. (k ≡ before_queued self.now.1) × (k < length self.now.1)) }
+        ensures { MatchOption result (before_queued self.now.1 ≡ length self.now.1)
+            (λ k. (k ≡ before_queued self.now.1) × (k < length self.now.1)) }
     {
         if (self.first as usize) < self.jobs.len() {
             Some(self.first)

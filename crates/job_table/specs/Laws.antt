@@ -25,12 +25,24 @@ module _ {C A : Type 0} where
   pub pairs_none : (h : List (Event C A)) → Pairs h []
   pairs_none h p q j o a b = refl
 
-  pub pairs_both : (h : List (Event C A)) (a b : List ℕ) → Pairs h a → Pairs h b → Apart a b → Pairs h (unite a b)
-  pairs_both h a b f g apart p q j o x y = omega (arith, times-unite p a b, times-unite q a b, f p q j o x y, g p q j o x y)
+  pub pairs_both : (h : List (Event C A)) (a b : List ℕ) → Pairs h a → Pairs h b → Apart a b
+      → Pairs h (unite a b)
+  pairs_both h a b f g apart p q j o x y =
+      omega (arith, times-unite p a b, times-unite q a b, f p q j o x y, g p q j o x y)
 
-  pub pairs_others : (h : List (Event C A)) (e : Event C A) (mine other : List ℕ) → Pairs (h ++ e ∷ []) (mine ++ length h ∷ []) → Pairs h other → Apart (mine ++ length h ∷ []) other → Pairs (h ++ e ∷ []) other
-  pairs_others h e mine other f g apart p q j o a b = let both = f p q j o a b in let n : ℕ = length h in
-      dite (ℕ_discrete p n) (λ (is : p ≡ n). let x = at_end p n mine is in none_beside p (mine ++ n ∷ []) other apart x ∙ sym (none_beside q (mine ++ n ∷ []) other apart (omega arith)))
-      (λ (no : p ≢ n). dite (ℕ_discrete q n) (λ (is : q ≡ n). let x = at_end q n mine is in none_beside p (mine ++ n ∷ []) other apart (omega arith) ∙ sym (none_beside q (mine ++ n ∷ []) other apart x))
-      (λ (no' : q ≢ n). let wide = length-append h (e ∷ []) in let lp = get_within (h ++ e ∷ []) (Take j) p a in let lq = get_within (h ++ e ∷ []) (Finish j o) q b in
-      g p q j o (sym (get_front h (e ∷ []) p (omega arith)) ∙ a) (sym (get_front h (e ∷ []) q (omega arith)) ∙ b)))
+  pub pairs_others : (h : List (Event C A)) (e : Event C A) (mine other : List ℕ)
+      → Pairs (h ++ e ∷ []) (mine ++ length h ∷ []) → Pairs h other
+      → Apart (mine ++ length h ∷ []) other → Pairs (h ++ e ∷ []) other
+  pairs_others h e mine other f g apart p q j o a b = let both = f p q j o a b in let n : ℕ =
+      length h in
+      dite (ℕ_discrete p n) (λ (is : p ≡ n). let x =
+      at_end p n mine is in none_beside p (mine ++ n ∷ []) other apart x ∙ sym
+      (none_beside q (mine ++ n ∷ []) other apart (omega arith)))
+      (λ (no : p ≢ n). dite (ℕ_discrete q n) (λ (is : q ≡ n). let x =
+      at_end q n mine is in none_beside p (mine ++ n ∷ []) other apart (omega arith) ∙ sym
+      (none_beside q (mine ++ n ∷ []) other apart x))
+      (λ (no' : q ≢ n). let wide = length-append h (e ∷ []) in let lp =
+      get_within (h ++ e ∷ []) (Take j) p a in let lq =
+      get_within (h ++ e ∷ []) (Finish j o) q b in
+      g p q j o (sym (get_front h (e ∷ []) p (omega arith)) ∙ a)
+      (sym (get_front h (e ∷ []) q (omega arith)) ∙ b)))

@@ -33,7 +33,8 @@ Within seen mine = (x : ℕ) → length seen ≤ x → times x mine ≡ 0
 module _ {C A : Type 0} where
   -- a job's Take and Finish stand in one list of places
   abbrev pub Pairs : List (Event C A) → List ℕ → Type 0
-  Pairs h mine = (p q j : ℕ) (o : Snapshot (Outcome A)) → slice_get h p ≡ Some (Take j) → slice_get h q ≡ Some (Finish j o) → times p mine ≡ times q mine
+  Pairs h mine = (p q j : ℕ) (o : Snapshot (Outcome A)) → slice_get h p ≡ Some (Take j)
+      → slice_get h q ≡ Some (Finish j o) → times p mine ≡ times q mine
 
   -- the history is one of steps, and the places are a rising list of its own
   pub record IsLegal (capacity : ℕ) (seen : List (Event C A)) (mine : List ℕ) : Type 0 where
@@ -83,7 +84,8 @@ module _ {C A : Type 0} where
     pub holds : (job : ℕ) → Holds old.seen old.mine job → Holds new.seen new.mine job
 
   -- the call added an event to the history so far
-  pub record Adds (old : PassView (Event C A)) (says : List (Event C A) → Event C A → Type 0) (new : PassView (Event C A)) : Type 0 where
+  pub record Adds (old : PassView (Event C A)) (says : List (Event C A) → Event C A
+      → Type 0) (new : PassView (Event C A)) : Type 0 where
     pub before : List (Event C A)
     pub event : Event C A
     pub says_so : says before event
@@ -91,4 +93,5 @@ module _ {C A : Type 0} where
     pub seen : new.seen ≡ before ++ event ∷ []
     pub mine : new.mine ≡ old.mine ++ length before ∷ []
     pub same : (new.table ≡ old.table) × (new.shares ≡ old.shares) × (new.capacity ≡ old.capacity)
-    pub holds : (job : ℕ) → ((o : Snapshot (Outcome A)) → ¬ (event ≡ Finish job o)) → Holds old.seen old.mine job → Holds new.seen new.mine job
+    pub holds : (job : ℕ) → ((o : Snapshot (Outcome A)) → ¬ (event ≡ Finish job o))
+        → Holds old.seen old.mine job → Holds new.seen new.mine job

@@ -79,7 +79,11 @@ impl<S: Storied<E>, E> Model for TableOver<S, E> {
 
     ghost Value = { TableView };
 
-    ghost view = { λ t. record { table = t.lock.table; shares = t.lock.seats; capacity = t.capacity } };
+    ghost view = { λ t. record {
+      table = t.lock.table;
+      shares = t.lock.seats;
+      capacity = t.capacity;
+    } };
 }
 
 /// Threads share it by reference, each with a pass of its own.
@@ -97,8 +101,10 @@ impl<C, A: Fits<C>> TableOver<State<C, A>, Event<C, A>> {
         requires capacity { (0 < capacity) × (capacity ≤ 256) }
         requires passes { (0 < passes) × (passes ≤ 256) }
         ensures of { IfOk result (λ made. IsPassOf made.0 made.1) }
-        ensures table { IfOk result (λ made. (made.0.capacity ≡ capacity) × (made.0.shares ≡ passes)) }
-        ensures pass { IfOk result (λ made. (made.1.shares ≡ passes) × (made.1.seen ≡ []) × (made.1.mine ≡ []) × (made.1.held ≡ 0)) }
+        ensures table { IfOk result (λ made. (made.0.capacity ≡ capacity)
+            × (made.0.shares ≡ passes)) }
+        ensures pass { IfOk result (λ made. (made.1.shares ≡ passes) × (made.1.seen ≡ [])
+            × (made.1.mine ≡ []) × (made.1.held ≡ 0)) }
     {
         let state = State::new(alloc, capacity)?;
         match TurnLock::new(alloc, state, passes) {
@@ -134,8 +140,12 @@ impl<C, A: Fits<C>> TableOver<State<C, A>, Event<C, A>> {
         ensures front { result.1 ≡ length pass.new.seen }
         ensures begins { IsPrefix pass.old.seen pass.new.seen }
         ensures answer { MatchResult result.0
-            (λ receipt. Adds pass.old (λ before e. (receipt.job ≡ length (jobs_of before)) × Submits receipt.job case e) pass.new × Has pass.new.seen (Submits receipt.job case))
-            (λ full. Looks pass.old pass.new × (full.case ≡ case) × (full.capacity ≡ self.now.capacity) × (length (jobs_of pass.new.seen) ≡ self.now.capacity)) }
+            (λ receipt. Adds pass.old (λ before e. (receipt.job ≡ length (jobs_of before))
+            × Submits receipt.job case e) pass.new
+            × Has pass.new.seen (Submits receipt.job case))
+            (λ full. Looks pass.old pass.new × (full.case ≡ case)
+            × (full.capacity ≡ self.now.capacity)
+            × (length (jobs_of pass.new.seen) ≡ self.now.capacity)) }
     {
         let mut state = self.enter(rt, &mut pass.turn);
         match state.submit(case) {
@@ -161,8 +171,11 @@ impl<C, A: Fits<C>> TableOver<State<C, A>, Event<C, A>> {
         ensures front { result.1 ≡ length pass.new.seen }
         ensures answer { MatchOption result.0
             (Looks pass.old pass.new × NoneQueued pass.new.seen)
-            (λ ticket. Adds pass.old (λ before e. (ticket.job ≡ before_queued (jobs_of before)) × (e ≡ Take ticket.job)) pass.new
-            × Has pass.new.seen (Submits ticket.job ticket.case) × Holds pass.new.seen pass.new.mine ticket.job × (pass.new.held ≡ pass.old.held + 1)) }
+            (λ ticket. Adds pass.old (λ before e. (ticket.job ≡ before_queued (jobs_of before))
+            × (e ≡ Take ticket.job)) pass.new
+            × Has pass.new.seen (Submits ticket.job ticket.case)
+            × Holds pass.new.seen pass.new.mine ticket.job
+            × (pass.new.held ≡ pass.old.held + 1)) }
     {
         let mut state = self.enter(rt, &mut pass.turn);
         match state.take() {
@@ -225,7 +238,8 @@ impl<C, A: Fits<C>> TableOver<State<C, A>, Event<C, A>> {
         ensures begins { IsPrefix pass.old.seen pass.new.seen }
         ensures looks { Looks pass.old pass.new }
         ensures front { result.1 ≡ length pass.new.seen }
-        ensures answer { MatchResult result.0 (IsSeen A.fits pass.new.seen receipt.now.job) (λ _. (a : A) × Has pass.new.seen (Finishes receipt.now.job (Answer a))) }
+        ensures answer { MatchResult result.0 (IsSeen A.fits pass.new.seen receipt.now.job)
+            (λ _. (a : A) × Has pass.new.seen (Finishes receipt.now.job (Answer a))) }
     {
         let state = self.enter(rt, &mut pass.turn);
         let seen = state.fetch(alloc, receipt.job);
@@ -247,8 +261,12 @@ impl<C, A: Fits<C>> TableOver<State<C, A>, Event<C, A>> {
         ensures begins { IsPrefix pass.old.seen pass.new.seen }
         ensures front { result.1 ≡ length pass.new.seen }
         ensures answer { MatchResult result.0
-            (λ _. Adds pass.old (λ before e. (slice_get (jobs_of before) receipt.now.job ≡ Some Queued) × (e ≡ Withdraw receipt.now.job)) pass.new)
-            (λ late. Looks pass.old pass.new × (slice_get (jobs_of pass.new.seen) receipt.now.job ≡ Some late.0) × ¬ (slice_get (jobs_of pass.new.seen) receipt.now.job ≡ Some Queued)) }
+            (λ _. Adds pass.old (λ before e.
+            (slice_get (jobs_of before) receipt.now.job ≡ Some Queued)
+            × (e ≡ Withdraw receipt.now.job)) pass.new)
+            (λ late. Looks pass.old pass.new
+            × (slice_get (jobs_of pass.new.seen) receipt.now.job ≡ Some late.0)
+            × ¬ (slice_get (jobs_of pass.new.seen) receipt.now.job ≡ Some Queued)) }
     {
         let mut state = self.enter(rt, &mut pass.turn);
         match state.withdraw(receipt.job) {
@@ -282,8 +300,13 @@ impl<C, A: Fits<C>> TableOver<State<C, A>, Event<C, A>> {
         requires of { IsPassOf self.now pass.old × IsPassOf self.now other }
         requires idle { (pass.old.held ≡ 0) × (other.held ≡ 0) }
         ensures of { IsPassOf self.now pass.new }
-        ensures pass { pass.new ≡ record pass.old { shares = pass.old.shares + other.shares; seen = longer pass.old.seen other.seen; mine = unite pass.old.mine other.mine } }
-        ensures begins { IsPrefix (shorter pass.old.seen other.seen) (longer pass.old.seen other.seen) }
+        ensures pass { pass.new ≡ record pass.old {
+          shares = pass.old.shares + other.shares;
+          seen = longer pass.old.seen other.seen;
+          mine = unite pass.old.mine other.mine;
+        } }
+        ensures begins { IsPrefix (shorter pass.old.seen other.seen)
+            (longer pass.old.seen other.seen) }
         ensures apart { Apart pass.old.mine other.mine }
     {
         let PassOver { turn, held: _ } = other;

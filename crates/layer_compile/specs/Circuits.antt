@@ -19,21 +19,28 @@ use Rattle.layer_compile.specs.Rows.{row, place}
 
 -- the first power of two from 2 on that is n or more
 abbrev pub size_for : ℕ → ℕ
-size_for n = 2 ^ unwrap_or (first_below greatest.exponent (λ j. unless (nat_lt (2 ^ (j + 1)) n) (j + 1))) greatest.exponent
+size_for n = 2 ^ unwrap_or
+    (first_below greatest.exponent (λ j. unless (nat_lt (2 ^ (j + 1)) n) (j + 1))) greatest.exponent
 
 -- position 0, the gates, and padding
 abbrev pub padded : List CircuitGate → List CircuitGate
-padded gates = zero_gate ∷ (gates ++ replicate (size_for (1 + length gates) - (1 + length gates)) zero_gate)
+padded gates = zero_gate
+    ∷ (gates ++ replicate (size_for (1 + length gates) - (1 + length gates)) zero_gate)
 
 -- an operation on the positions of its operands at height h
 abbrev pub placed : Nodes → ℕ → Node → CircuitGate
 placed n h (Input j) = zero_gate
 placed n h (Constant x) = zero_gate
-placed n h (Operation gate) = record { kind = gate.kind; left = place n h gate.left; right = place n h gate.right }
+placed n h (Operation gate) =
+    record { kind = gate.kind; left = place n h gate.left; right = place n h gate.right }
 
 -- the gate of a node at height h + 1: its own if that is its level, or else its value is carried from height h
 abbrev pub gate_above : Nodes → ℕ → ℕ → CircuitGate
-gate_above n h k = if level n k == suc h then placed n h (node_at n k) else record { kind = Add; left = place n h k; right = 0 }
+gate_above n h k = if level n k == suc h then placed n h (node_at n k) else record {
+  kind = Add;
+  left = place n h k;
+  right = 0;
+}
 
 -- the layers of the heights from h down to 1
 abbrev pub layers_from : Nodes → ℕ → List (List CircuitGate)
@@ -60,11 +67,13 @@ pub record AreKept (limits : Limits) : Type 0 where
   pub exponent : limits.exponent ≤ greatest.exponent
 
 abbrev pub too_wide : Limits → Nodes → ℕ → Option LayerRefused
-too_wide limits n h = let width = 1 + length (row n h) in unless (nat_le width (2 ^ limits.exponent)) (Wide h width)
+too_wide limits n h = let width =
+    1 + length (row n h) in unless (nat_le width (2 ^ limits.exponent)) (Wide h width)
 
 -- why there is no circuit: too many heights, or else the first height with too many positions
 abbrev pub refusal_of : Limits → Nodes → Option LayerRefused
-refusal_of limits n = option_or (unless (nat_le (height_of n) limits.height) (Deep (height_of n))) (first_below (height_of n + 1) (too_wide limits n))
+refusal_of limits n = option_or (unless (nat_le (height_of n) limits.height) (Deep (height_of n)))
+    (first_below (height_of n + 1) (too_wide limits n))
 
 abbrev pub IsCauseOf : Limits → Nodes → LayerRefused → Type 0
 IsCauseOf limits n Memory = Unit {0}

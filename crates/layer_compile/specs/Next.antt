@@ -13,5 +13,8 @@ has_level levels h k = slice_index levels k == h
 
 -- the first node of each level, and behind each node the next of its level
 pub record AreChains (levels first next : List ℕ) : Type 0 where
-  pub firsts : (h : ℕ) → h ≤ length levels → IsNext (has_level levels h) (length levels) 0 (slice_index first h)
-  pub nexts : (k : ℕ) → k < length levels → IsNext (has_level levels (slice_index levels k)) (length levels) (k + 1) (slice_index next k)
+  pub firsts : (h : ℕ) → h ≤ length levels
+      → IsNext (has_level levels h) (length levels) 0 (slice_index first h)
+  pub nexts : (k : ℕ) → k < length levels
+      → IsNext (has_level levels (slice_index levels k)) (length levels) (k + 1)
+      (slice_index next k)

@@ -11,7 +11,8 @@ stands n (suc h) k = nat_le (level n k) (suc h) && is_used_above n (suc h) k
 
 -- the nodes at positions 1, 2, .. of a height: those that stand there, by number, and the outputs at the last
 abbrev pub row : Nodes → ℕ → List ℕ
-row n h = if nat_lt h (height_of n) then filter (stands n h) (range_with_len 0 (length n.nodes)) else n.outputs
+row n h = if nat_lt h (height_of n) then filter (stands n h) (range_with_len 0 (length n.nodes))
+    else n.outputs
 
 -- the position of a node that stands at a height
 abbrev pub place : Nodes → ℕ → ℕ → ℕ

@@ -34,7 +34,9 @@ impl<'a> Plan<'a> {
         requires room { length places.now ≡ length self.now.list.now.nodes }
         requires under { height < height_of self.now.list.now }
         requires nodes { nodes.now ≡ row self.now.list.now (suc height) }
-        ensures { IfOk result (λ l. l ≡ padded (map (gate_above self.now.list.now height) (row self.now.list.now (suc height)))) }
+        ensures { IfOk result (λ l.
+            l ≡ padded (map (gate_above self.now.list.now height)
+            (row self.now.list.now (suc height)))) }
     {
         let mut gates = self.gates_above(alloc, places, height, nodes)?;
         pad(&mut gates)?;
@@ -53,7 +55,8 @@ impl<'a> Plan<'a> {
         requires room { length places.now ≡ length self.now.list.now.nodes }
         requires under { height < height_of self.now.list.now }
         requires nodes { All (IsAbove self.now.list.now height) nodes.now }
-        ensures { IfOk result (λ v. v.items ≡ zero_gate ∷ map (gate_above self.now.list.now height) nodes.now) }
+        ensures { IfOk result (λ v. v.items ≡ zero_gate ∷ map (gate_above self.now.list.now height)
+            nodes.now) }
     {
         let mut gates = Vec::with_capacity(alloc, size_for(1 + nodes.len()))?;
         gates.push(ZERO_GATE)?;
@@ -102,7 +105,8 @@ impl<'a> Plan<'a> {
     /// The leaves that nodes are.
     pub fn leaves_of(&self, alloc: Global, nodes: &[u32]) -> Result<Vec<Leaf>, AllocError>
         requires { All (λ k. k < length self.now.list.now.nodes) nodes.now }
-        ensures { IfOk result (λ v. v.items ≡ map (λ k. leaf_of (node_at self.now.list.now k)) nodes.now) }
+        ensures { IfOk result (λ v. v.items ≡ map (λ k. leaf_of (node_at self.now.list.now k))
+            nodes.now) }
     {
         let mut leaves = Vec::new(alloc);
         for k in nodes {
@@ -124,7 +128,8 @@ fn leaf_of(node: &Node) -> Leaf
 
 // Fills a layer up to its size.
 fn pad(gates: &mut Vec<CircuitGate>) -> Result<(), AllocError>
-    ensures { OnOk result (gates.new.items ≡ gates.old.items ++ replicate (size_for (length gates.old.items) - length gates.old.items) zero_gate) }
+    ensures { OnOk result (gates.new.items ≡ gates.old.items ++ replicate
+        (size_for (length gates.old.items) - length gates.old.items) zero_gate) }
 {
     let size = size_for(gates.len());
     for _ in gates.len()..size {

@@ -20,18 +20,21 @@ pub fn rows_by_uses()
 /// Layer 0 holds 0, then the values of the outputs in order, then zeros.
 pub fn outputs_stand()
     ensures { (n : Nodes) (inputs : List F) → IsNodeList n
-        → layer_values (circuit_of n) inputs 0 ≡ padded_values (size_for (1 + length n.outputs)) (output_values n inputs) }
+        → layer_values (circuit_of n) inputs 0 ≡ padded_values (size_for (1 + length n.outputs))
+        (output_values n inputs) }
 {}
 
 /// Output j stands at position j + 1 of layer 0.
 pub fn outputs_behind_position_0()
     ensures { (n : Nodes) (inputs : List F) (j : ℕ) → IsNodeList n → j < length n.outputs
-        → slice_index_or (layer_values (circuit_of n) inputs 0) (1 + j) zero_f ≡ slice_index_or (values n inputs) (slice_index_or n.outputs j 0) zero_f }
+        → slice_index_or (layer_values (circuit_of n) inputs 0) (1 + j) zero_f ≡ slice_index_or
+        (values n inputs) (slice_index_or n.outputs j 0) zero_f }
 {}
 
 /// Layer 0 holds 0 at position 0.
 pub fn zero_before_the_outputs()
-    ensures { (n : Nodes) (inputs : List F) → IsNodeList n → slice_index_or (layer_values (circuit_of n) inputs 0) 0 zero_f ≡ zero_f }
+    ensures { (n : Nodes) (inputs : List F) → IsNodeList n
+        → slice_index_or (layer_values (circuit_of n) inputs 0) 0 zero_f ≡ zero_f }
 {}
 
 /// Layer 0 holds 0 at each position behind the outputs.
@@ -42,5 +45,6 @@ pub fn zeros_behind_the_outputs()
 
 /// A list of nodes whose layout isn't refused is laid out without fault.
 pub fn no_fault()
-    ensures { (n : Nodes) → IsNodeList n → refusal_of greatest n ≡ None → fault_of greatest (circuit_of n) ≡ None }
+    ensures { (n : Nodes) → IsNodeList n → refusal_of greatest n ≡ None
+        → fault_of greatest (circuit_of n) ≡ None }
 {}

@@ -26,7 +26,8 @@ impl<'a> Plan<'a> {
         requires leaves { leaves.items ≡ row self.now.list.now 0 }
         requires narrow { too_wide limits.now self.now.list.now 0 ≡ None }
         requires room { length places.old ≡ length self.now.list.now.nodes }
-        ensures made { IfOk result (λ v. v.items ≡ layers_from self.now.list.now (height_of self.now.list.now)) }
+        ensures made { IfOk result
+            (λ v. v.items ≡ layers_from self.now.list.now (height_of self.now.list.now)) }
         ensures accepted { OnOk result (refusal_of limits.now self.now.list.now ≡ None) }
         ensures refused { IfErr result (IsCauseOf limits.now self.now.list.now) }
     {
@@ -48,7 +49,8 @@ impl<'a> Plan<'a> {
     pub fn fits(&self, limits: &Limits, height: usize, nodes: &[u32]) -> Result<(), LayerRefused>
         requires { nodes.now ≡ row self.now.list.now height }
         ensures fits { OnOk result (too_wide limits.now self.now.list.now height ≡ None) }
-        ensures wide { IfErr result (λ refusal. too_wide limits.now self.now.list.now height ≡ Some refusal) }
+        ensures wide { IfErr result
+            (λ refusal. too_wide limits.now self.now.list.now height ≡ Some refusal) }
     {
         let width = 1 + nodes.len();
         if width > 1 << limits.exponent() {

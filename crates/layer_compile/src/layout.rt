@@ -84,7 +84,8 @@ impl<'a> Plan<'a> {
         leaves: Vec<Leaf>,
     ) -> Result<Circuit, LayerRefused>
         requires layers { layers.items ≡ layers_from self.now.list.now (height_of self.now.list.now) }
-        requires leaves { leaves.items ≡ map (λ k. leaf_of (node_at self.now.list.now k)) (row self.now.list.now 0) }
+        requires leaves { leaves.items ≡ map (λ k. leaf_of (node_at self.now.list.now k))
+            (row self.now.list.now 0) }
         requires faultless { fault_of greatest (circuit_of self.now.list.now) ≡ None }
         ensures made { IfOk result (λ c. c.parts ≡ circuit_of self.now.list.now) }
         ensures refused { IfErr result (λ refusal. refusal ≡ refused.Memory) }

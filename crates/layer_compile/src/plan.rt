@@ -46,7 +46,8 @@ impl<'a> Plan<'a> {
     /// The first node of a level, or how many nodes there are.
     pub fn first_of_level(&self, level: usize) -> u32
         requires { level ≤ length self.now.list.now.nodes }
-        ensures { IsNext (has_level (levels self.now.list.now) level) (length self.now.list.now.nodes) 0 result }
+        ensures { IsNext (has_level (levels self.now.list.now) level)
+            (length self.now.list.now.nodes) 0 result }
     {
         self.by_level.first[level]
     }
@@ -54,7 +55,8 @@ impl<'a> Plan<'a> {
     /// The next node of a node's level, or how many nodes there are.
     pub fn next_of_level(&self, k: u32) -> u32
         requires { k < length self.now.list.now.nodes }
-        ensures { IsNext (has_level (levels self.now.list.now) (level self.now.list.now k)) (length self.now.list.now.nodes) (k + 1) result }
+        ensures { IsNext (has_level (levels self.now.list.now) (level self.now.list.now k))
+            (length self.now.list.now.nodes) (k + 1) result }
     {
         self.by_level.next[k as usize]
     }

@@ -69,7 +69,8 @@ impl<'a> Plan<'a> {
     fn add_used(&self, row: &mut Vec<u32>, height: usize, k: u32) -> Result<(), AllocError>
         requires inside { k < length self.now.list.now.nodes }
         requires under { height < height_of self.now.list.now }
-        ensures { OnOk result (row.new.items ≡ row.old.items ++ (if is_used_above self.now.list.now height k then k ∷ [] else [])) }
+        ensures { OnOk result (row.new.items ≡ row.old.items
+            ++ (if is_used_above self.now.list.now height k then k ∷ [] else [])) }
     {
         if self.is_used_above(height, k as usize) {
             row.push(k)?;
@@ -89,7 +90,8 @@ impl<'a> Plan<'a> {
     ) -> Result<usize, AllocError>
         requires under { height + 1 < height_of self.now.list.now }
         requires below { below.now ≡ row self.now.list.now height }
-        requires new { IsNext (has_level (levels self.now.list.now) (suc height)) (length self.now.list.now.nodes) from to }
+        requires new { IsNext (has_level (levels self.now.list.now) (suc height))
+            (length self.now.list.now.nodes) from to }
         requires merged { IsMerged self.now.list.now height from taken above.old.items }
         ensures { IfOk result (λ t. IsMerged self.now.list.now height to t above.new.items) }
     {

@@ -41,7 +41,9 @@ fn mark_uses(uses: &mut [usize], list: &NodeList, node_levels: &[usize], top: us
 // An output is used at the height of the outputs.
 fn mark_outputs(uses: &mut [usize], outputs: &[u32], height: usize)
     requires { All (λ output. output < length uses.old) outputs.now }
-    ensures { (k : ℕ) → k < length uses.old → slice_index uses.new k ≡ (if list_any (λ output. output == k) outputs.now then height else slice_index uses.old k) }
+    ensures { (k : ℕ) → k < length uses.old
+        → slice_index uses.new k ≡ (if list_any (λ output. output == k) outputs.now then height
+        else slice_index uses.old k) }
 {
     for output in outputs {
         uses[*output as usize] = height;
@@ -52,7 +54,10 @@ fn mark_outputs(uses: &mut [usize], outputs: &[u32], height: usize)
 fn mark_operands(uses: &mut [usize], number: usize, node: &Node, level: usize)
     requires inside { number < length uses.old }
     requires before { OperandsBefore number node.now }
-    ensures { (k : ℕ) → k < length uses.old → slice_index uses.new k ≡ (if nat_lt 0 (slice_index uses.old number) && has_operand node.now k then max (slice_index uses.old k) level else slice_index uses.old k) }
+    ensures { (k : ℕ) → k < length uses.old
+        → slice_index uses.new k
+        ≡ (if nat_lt 0 (slice_index uses.old number) && has_operand node.now k
+        then max (slice_index uses.old k) level else slice_index uses.old k) }
 {
     if uses[number] == 0 {
         return;

@@ -6,5 +6,7 @@ ghost use Rattle.field_ext.specs.Multilinear.{extension_at, folded};
 
 /// To fold a table is to bind the first coordinate of its extension.
 pub fn fold_binds()
-    ensures { (t us : List K) (r : K) → extension_at k_ops k_ops (λ x. x) (folded k_ops t r) us ≡ extension_at k_ops k_ops (λ x. x) t (r ∷ us) }
+    ensures { (t us : List K) (r : K)
+        → extension_at k_ops k_ops (λ x. x) (folded k_ops t r) us ≡ extension_at k_ops k_ops
+        (λ x. x) t (r ∷ us) }
 {}

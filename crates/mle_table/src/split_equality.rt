@@ -24,7 +24,12 @@ impl Model for SplitEquality {
 
     ghost Value = { TwoTables };
 
-    ghost view = { λ s. record { low = s.low; high = s.high; low_size = s.low_size; high_size = s.high_size } };
+    ghost view = { λ s. record {
+      low = s.low;
+      high = s.high;
+      low_size = s.low_size;
+      high_size = s.high_size;
+    } };
 }
 
 impl SplitEquality {
@@ -45,7 +50,8 @@ impl SplitEquality {
     #[inline]
     pub fn value(&self, g: usize) -> Ext
         requires { g < 65536 }
-        ensures { (point : List K) → IsSplitAt point self.now → g < 2 ^ length point → result ≡ eq_poly k_ops point g }
+        ensures { (point : List K) → IsSplitAt point self.now → g < 2 ^ length point
+            → result ≡ eq_poly k_ops point g }
     {
         self.low[g % 256] * self.high[g / 256]
     }

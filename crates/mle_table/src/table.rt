@@ -26,7 +26,11 @@ impl Model for Table {
 
     ghost Value = { TableValues };
 
-    ghost view = { λ a. record { k = a.k; items = a.values.items; whole = sym a.values.ok.0 ∙ a.whole } };
+    ghost view = { λ a. record {
+      k = a.k;
+      items = a.values.items;
+      whole = sym a.values.ok.0 ∙ a.whole;
+    } };
 }
 
 /// The values that are no table, since how many they are is no power of two.

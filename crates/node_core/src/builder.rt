@@ -21,9 +21,17 @@ impl Model for NodeListBuilder {
 
     ghost Value = { Nodes };
 
-    ghost view = { λ l. record { inputs = l.inputs; nodes = l.nodes.items; outputs = l.outputs.items } };
+    ghost view = { λ l. record {
+      inputs = l.inputs;
+      nodes = l.nodes.items;
+      outputs = l.outputs.items;
+    } };
 
-    ghost invariant = { λ l. IsOpenList (record { inputs = l.inputs; nodes = l.nodes.items; outputs = l.outputs.items }) };
+    ghost invariant = { λ l. IsOpenList (record {
+      inputs = l.inputs;
+      nodes = l.nodes.items;
+      outputs = l.outputs.items;
+    }) };
 }
 
 impl NodeListBuilder {
@@ -42,7 +50,9 @@ impl NodeListBuilder {
     pub fn push(&mut self, node: Node) -> Result<u32, AllocError>
         requires fine { IsFineAt self.old.inputs (length self.old.nodes) node }
         requires room { length self.old.nodes + 1 < 2 ^ 32 }
-        ensures ok { OnOk result (self.new ≡ record self.old { nodes = self.old.nodes ++ node ∷ [] }) }
+        ensures ok { OnOk result (self.new ≡ record self.old {
+          nodes = self.old.nodes ++ node ∷ [];
+        }) }
         ensures number { IfOk result (λ k. k ≡ length self.old.nodes) }
         ensures err { OnErr result (self.new ≡ self.old) }
     {
@@ -55,7 +65,9 @@ impl NodeListBuilder {
     pub fn output(&mut self, node: u32) -> Result<(), AllocError>
         requires there { node < length self.old.nodes }
         requires room { length self.old.outputs + 1 < 2 ^ 32 }
-        ensures ok { OnOk result (self.new ≡ record self.old { outputs = self.old.outputs ++ node ∷ [] }) }
+        ensures ok { OnOk result (self.new ≡ record self.old {
+          outputs = self.old.outputs ++ node ∷ [];
+        }) }
         ensures err { OnErr result (self.new ≡ self.old) }
     {
         self.outputs.push(node)?;

@@ -13,5 +13,6 @@ pub fn one_value_a_node()
 /// A node's value is that of its input or constant, or its operation on the values of its operands.
 pub fn values_by_operands()
     ensures { (n : Nodes) (inputs : List F) (k : ℕ) → IsNodeList n → k < length n.nodes
-        → slice_index_or (values n inputs) k zero_f ≡ node_value inputs (values n inputs) (node_at n k) }
+        → slice_index_or (values n inputs) k zero_f ≡ node_value inputs (values n inputs)
+        (node_at n k) }
 {}

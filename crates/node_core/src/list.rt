@@ -22,9 +22,17 @@ impl Model for NodeList {
 
     ghost Value = { Nodes };
 
-    ghost view = { λ l. record { inputs = l.inputs; nodes = l.nodes.items; outputs = l.outputs.items } };
+    ghost view = { λ l. record {
+      inputs = l.inputs;
+      nodes = l.nodes.items;
+      outputs = l.outputs.items;
+    } };
 
-    ghost invariant = { λ l. IsNodeList (record { inputs = l.inputs; nodes = l.nodes.items; outputs = l.outputs.items }) };
+    ghost invariant = { λ l. IsNodeList (record {
+      inputs = l.inputs;
+      nodes = l.nodes.items;
+      outputs = l.outputs.items;
+    }) };
 }
 
 impl NodeList {
@@ -32,8 +40,16 @@ impl NodeList {
 
     /// The list of these nodes and outputs, which have to stand in order.
     pub fn of(inputs: u32, nodes: Vec<Node>, outputs: Vec<u32>) -> NodeList
-        requires { IsNodeList (record { inputs = inputs; nodes = nodes.items; outputs = outputs.items }) }
-        ensures { result ≡ record { inputs = inputs; nodes = nodes.items; outputs = outputs.items } }
+        requires { IsNodeList (record {
+          inputs = inputs;
+          nodes = nodes.items;
+          outputs = outputs.items;
+        }) }
+        ensures { result ≡ record {
+          inputs = inputs;
+          nodes = nodes.items;
+          outputs = outputs.items;
+        } }
     {
         NodeList {
             inputs,

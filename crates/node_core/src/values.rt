@@ -13,7 +13,8 @@ use std::alloc::{AllocError, Global};
 
 /// The values of nodes, each of which stands on earlier ones.
 pub fn node_values(alloc: Global, nodes: &[Node], inputs: &[Fp]) -> Result<Vec<Fp>, AllocError>
-    requires { (k : ℕ) → k < length nodes.now → IsFineAt (length inputs.now) k (slice_index_or nodes.now k (node.Input 0)) }
+    requires { (k : ℕ) → k < length nodes.now
+        → IsFineAt (length inputs.now) k (slice_index_or nodes.now k (node.Input 0)) }
     ensures { IfOk result (λ v. v.items ≡ made_in_order (node_value inputs.now) nodes.now) }
 {
     let mut values: Vec<Fp> = Vec::new(alloc);

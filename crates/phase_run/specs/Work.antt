@@ -14,4 +14,6 @@ pub record IsWork {X : Type 0} (out : ℕ → X) (pairs : List (ℕ × X)) (draw
 
 -- place j is vacant where j is none of the keys, and has the output of j else
 abbrev pub AllPlaced : {X : Type 0} → (ℕ → X) → List ℕ → List (Option X) → Type 0
-AllPlaced {X} out keys slots = (j : ℕ) → j < length slots → MatchOption (slice_index_or slots j None) (times j keys ≡ 0) (λ (x : X). x ≡ out j)
+AllPlaced {X} out keys slots =
+    (j : ℕ) → j < length slots
+    → MatchOption (slice_index_or slots j None) (times j keys ≡ 0) (λ (x : X). x ≡ out j)

@@ -30,7 +30,8 @@ where
     requires vacant { slots.items ≡ replicate (vec_len slots) None }
     requires places { All (λ p. p.0 < vec_len slots) results.items }
     requires outputs { All (λ p. p.1 ≡ W.out_of work.now p.0) results.items }
-    ensures { AllPlaced (W.out_of work.now) (map (λ p. p.0) results.items) result.items × (vec_len result ≡ vec_len slots) }
+    ensures { AllPlaced (W.out_of work.now) (map (λ p. p.0) results.items) result.items
+        × (vec_len result ≡ vec_len slots) }
 {
     let _ = work;
     while let Some((k, out)) = results.pop() {
@@ -47,8 +48,10 @@ fn gathered<W: PieceWork>(
 ) -> Result<Vec<W::Out>, AllocError>
 where
     W::Out: Drop,
-    requires { (j : ℕ) → j < length slots.items → slice_index_or slots.items j None ≡ Some (W.out_of work.now j) }
-    ensures { IfOk result (λ v. v.items ≡ map (W.out_of work.now) (range_with_len 0 (vec_len slots))) }
+    requires { (j : ℕ) → j < length slots.items
+        → slice_index_or slots.items j None ≡ Some (W.out_of work.now j) }
+    ensures { IfOk result (λ v. v.items ≡ map (W.out_of work.now)
+        (range_with_len 0 (vec_len slots))) }
 {
     let _ = work;
     let mut all = Vec::new(alloc);

@@ -26,7 +26,8 @@ where
     requires pieces { board.now.pieces ≤ W.pieces work.now }
     requires fresh { (claimer.drawn ≡ []) × (claimer.stopped ≡ false) }
     ensures claimer { IsOf board.now result.0 × (result.0.shares ≡ claimer.shares) }
-    ensures done { IfOk result.1 (λ v. IsWork (W.out_of work.now) v.items result.0.drawn × (result.0.stopped ≡ true)) }
+    ensures done { IfOk result.1 (λ v. IsWork (W.out_of work.now) v.items result.0.drawn
+        × (result.0.stopped ≡ true)) }
 {
     let mut results = Vec::new(alloc);
     for turn in 0..u64::from(board.pieces()) + 1 {
@@ -49,7 +50,8 @@ fn both<X: Drop>(
     first: Result<Vec<(u32, X)>, AllocError>,
     second: Result<Vec<(u32, X)>, AllocError>,
 ) -> Result<Vec<(u32, X)>, AllocError>
-    ensures items { IfOk result (λ v. IfOk first (λ x. IfOk second (λ y. v.items ≡ x.items ++ y.items))) }
+    ensures items { IfOk result
+        (λ v. IfOk first (λ x. IfOk second (λ y. v.items ≡ x.items ++ y.items))) }
     ensures ok { IfOk result (λ v. IsOk first × IsOk second) }
 {
     let mut all = first?;
@@ -77,7 +79,8 @@ where
     requires fresh { (claimer.drawn ≡ []) × (claimer.stopped ≡ false) }
     requires workers { (0 < claimer.shares) × (first + claimer.shares < 2 ^ 32) }
     ensures claimer { IsOf board.now result.0 × (result.0.shares ≡ claimer.shares) }
-    ensures done { IfOk result.1 (λ v. IsWork (W.out_of work.now) v.items result.0.drawn × (result.0.stopped ≡ true)) }
+    ensures done { IfOk result.1 (λ v. IsWork (W.out_of work.now) v.items result.0.drawn
+        × (result.0.stopped ≡ true)) }
 {
     let shares = claimer.shares();
     if shares == 1 {
@@ -88,12 +91,20 @@ where
     let second = first + left;
     let theirs = board.split(&mut claimer, half);
     let front = move || -> (Claimer, Result<Vec<(u32, W::Out)>, AllocError>)
-        requires { IsSync R.row × IsSync W.row × IsSync G.row × IsSend W.Out.row × IsOf board.now claimer × (board.now.pieces ≤ W.pieces work.now) × (claimer.drawn ≡ []) × (claimer.stopped ≡ false) × (0 < claimer.shares) × (first + claimer.shares < 2 ^ 32) }
-        ensures { IsOf board.entry.now result.0 × (result.0.shares ≡ claimer.shares) × IfOk result.1 (λ v. IsWork (W.out_of work.entry.now) v.items result.0.drawn × (result.0.stopped ≡ true)) }
+        requires { IsSync R.row × IsSync W.row × IsSync G.row × IsSend W.Out.row
+            × IsOf board.now claimer × (board.now.pieces ≤ W.pieces work.now) × (claimer.drawn ≡ [])
+            × (claimer.stopped ≡ false) × (0 < claimer.shares) × (first + claimer.shares < 2 ^ 32) }
+        ensures { IsOf board.entry.now result.0 × (result.0.shares ≡ claimer.shares)
+            × IfOk result.1 (λ v. IsWork (W.out_of work.entry.now) v.items result.0.drawn
+            × (result.0.stopped ≡ true)) }
     { spread(rt, alloc, board, claimer, first, work, gate) };
     let back = move || -> (Claimer, Result<Vec<(u32, W::Out)>, AllocError>)
-        requires { IsSync R.row × IsSync W.row × IsSync G.row × IsSend W.Out.row × IsOf board.now theirs × (board.now.pieces ≤ W.pieces work.now) × (theirs.drawn ≡ []) × (theirs.stopped ≡ false) × (0 < theirs.shares) × (second + theirs.shares < 2 ^ 32) }
-        ensures { IsOf board.entry.now result.0 × (result.0.shares ≡ theirs.shares) × IfOk result.1 (λ v. IsWork (W.out_of work.entry.now) v.items result.0.drawn × (result.0.stopped ≡ true)) }
+        requires { IsSync R.row × IsSync W.row × IsSync G.row × IsSend W.Out.row
+            × IsOf board.now theirs × (board.now.pieces ≤ W.pieces work.now) × (theirs.drawn ≡ [])
+            × (theirs.stopped ≡ false) × (0 < theirs.shares) × (second + theirs.shares < 2 ^ 32) }
+        ensures { IsOf board.entry.now result.0 × (result.0.shares ≡ theirs.shares)
+            × IfOk result.1 (λ v. IsWork (W.out_of work.entry.now) v.items result.0.drawn
+            × (result.0.stopped ≡ true)) }
     { spread(rt, alloc, board, theirs, second, work, gate) };
     let ((mut mine, a), (other, b)) = join(rt, front, back);
     board.join(&mut mine, other);

@@ -7,7 +7,8 @@ ghost use Rattle.field_ext.specs.Sums.{sum_below};
 
 /// A polynomial of at most d + 1 coefficients that is not zero has at most d distinct roots.
 pub fn few_roots()
-    ensures { (d : ℕ) (cs : List K) → length cs ≤ d + 1 → ¬ IsZero k_ops cs → HasAtMost d (λ e. value_at k_ops cs e ≡ zero_k) }
+    ensures { (d : ℕ) (cs : List K) → length cs ≤ d + 1 → ¬ IsZero k_ops cs
+        → HasAtMost d (λ e. value_at k_ops cs e ≡ zero_k) }
 {}
 
 /// The value at a point is the sum of the coefficients times the powers of the point.
@@ -19,6 +20,8 @@ pub fn powers()
 
 /// The value at a point carries sums to sums and products to products.
 pub fn evaluation()
-    ensures sums { (p q : List K) (e : K) → value_at k_ops (sum_of k_ops p q) e ≡ add_k (value_at k_ops p e) (value_at k_ops q e) }
-    ensures products { (p q : List K) (e : K) → value_at k_ops (product_of k_ops p q) e ≡ mul_k (value_at k_ops p e) (value_at k_ops q e) }
+    ensures sums { (p q : List K) (e : K)
+        → value_at k_ops (sum_of k_ops p q) e ≡ add_k (value_at k_ops p e) (value_at k_ops q e) }
+    ensures products { (p q : List K) (e : K)
+        → value_at k_ops (product_of k_ops p q) e ≡ mul_k (value_at k_ops p e) (value_at k_ops q e) }
 {}

@@ -54,8 +54,11 @@ fn add_rows(room: &mut [Ext], left: &[Ext], right: &[Ext])
 // Adds `c` times the coefficients to the room from `row` on.
 fn add_row(room: &mut [Ext], row: usize, c: Ext, coefficients: &[Ext])
     requires { row + length coefficients.now ≤ length room.old }
-    ensures before { (k : ℕ) → k < row → slice_index_or room.new k zero_k ≡ slice_index_or room.old k zero_k }
-    ensures from { (k : ℕ) → slice_index_or room.new (row + k) zero_k ≡ add_k (slice_index_or room.old (row + k) zero_k) (mul_k c (slice_index_or coefficients.now k zero_k)) }
+    ensures before { (k : ℕ) → k < row
+        → slice_index_or room.new k zero_k ≡ slice_index_or room.old k zero_k }
+    ensures from { (k : ℕ) → slice_index_or room.new (row + k) zero_k
+        ≡ add_k (slice_index_or room.old (row + k) zero_k)
+        (mul_k c (slice_index_or coefficients.now k zero_k)) }
 {
     for i in 0..coefficients.len() {
         let sum = room[row + i] + c * coefficients[i];

@@ -20,7 +20,8 @@ pub fn value_at(coefficients: &[Ext], e: Ext) -> Ext
 
 /// The value at 0 plus the value at 1 of the polynomial with these coefficients, constant first.
 pub fn sum01(coefficients: &[Ext]) -> Ext
-    ensures { result ≡ add_k (value_at k_ops coefficients.now zero_k) (value_at k_ops coefficients.now one_k) }
+    ensures { result ≡ add_k (value_at k_ops coefficients.now zero_k)
+        (value_at k_ops coefficients.now one_k) }
 {
     coefficient(coefficients, 0) + value_at_one(coefficients)
 }

@@ -43,7 +43,8 @@ fn part<C, A: Fits<C>>(
     ensures of { IsPassOf table.now pass.new × IsPassOf table.now result }
     ensures shares { (pass.new.shares + 1 ≡ pass.old.shares) × (result.shares ≡ 1) }
     ensures held { (pass.new.held ≡ pass.old.held) × (result.held ≡ 0) }
-    ensures submits { SubmitsOf script.now.value.items pass.new × SubmitsOf script.now.value.items result }
+    ensures submits { SubmitsOf script.now.value.items pass.new
+        × SubmitsOf script.now.value.items result }
 {
     let _ = script;
     table.split(pass, 1)
@@ -85,8 +86,11 @@ fn spread<
     let proves_alone = lists.len() >= clients as usize;
     let theirs = part(table, &mut pass, script);
     let one = move || -> Pass<Job<C>, Reply<A>>
-        requires { W.works work.now × IsSync R.row × IsSync W.row × IsSend C.row × IsSend A.row × IsPassOf table.now theirs × (theirs.held ≡ 0) × AreOf script.now.value.items jobs.items × SubmitsOf script.now.value.items theirs }
-        ensures { IsPassOf table.entry.now result × (result.held ≡ 0) × (result.shares ≡ theirs.shares) × SubmitsOf script.entry.now.value.items result }
+        requires { W.works work.now × IsSync R.row × IsSync W.row × IsSend C.row × IsSend A.row
+            × IsPassOf table.now theirs × (theirs.held ≡ 0)
+            × AreOf script.now.value.items jobs.items × SubmitsOf script.now.value.items theirs }
+        ensures { IsPassOf table.entry.now result × (result.held ≡ 0)
+            × (result.shares ≡ theirs.shares) × SubmitsOf script.entry.now.value.items result }
     {
         member(
             rt,
@@ -101,8 +105,12 @@ fn spread<
         )
     };
     let others = move || -> Pass<Job<C>, Reply<A>>
-        requires { W.works work.now × IsSync R.row × IsSync W.row × IsSend C.row × IsSend A.row × IsPassOf table.now pass × (pass.held ≡ 0) × (0 < vec_len lists) × (vec_len lists ≡ pass.shares) × AreDealt script.now.value.items lists.items × SubmitsOf script.now.value.items pass }
-        ensures { IsPassOf table.entry.now result × (result.held ≡ 0) × (result.shares ≡ pass.shares) × SubmitsOf script.entry.now.value.items result }
+        requires { W.works work.now × IsSync R.row × IsSync W.row × IsSend C.row × IsSend A.row
+            × IsPassOf table.now pass × (pass.held ≡ 0) × (0 < vec_len lists)
+            × (vec_len lists ≡ pass.shares) × AreDealt script.now.value.items lists.items
+            × SubmitsOf script.now.value.items pass }
+        ensures { IsPassOf table.entry.now result × (result.held ≡ 0)
+            × (result.shares ≡ pass.shares) × SubmitsOf script.entry.now.value.items result }
     {
         spread(
             rt, alloc, table, pass, lists, clients, script, submitting, work,
@@ -130,7 +138,8 @@ where
     requires places { AreInPlace jobs.items }
     requires provers { provers ≤ 64 }
     requires clients { (0 < clients) × (clients ≤ 64) }
-    ensures { IfOk result (λ closed. IsServed (λ reply job. W.Answer.fits reply.answer job.case) jobs.items closed.history.items closed.jobs.items) }
+    ensures { IfOk result (λ closed. IsServed (λ reply job. W.Answer.fits reply.answer job.case)
+        jobs.items closed.history.items closed.jobs.items) }
 {
     let script = Snapshot::of(&jobs);
     let capacity = if jobs.is_empty() {
@@ -218,8 +227,10 @@ fn put<A: Drop>(outcomes: &mut Vec<Outcome<A>>, place: u32, seen: Seen<Reply<A>>
 
 fn set<A: Drop>(outcomes: &mut Vec<Outcome<A>>, place: u32, outcome: Outcome<Reply<A>>)
     ensures long { vec_len outcomes.new ≡ vec_len outcomes.old }
-    ensures at { slice_get outcomes.new.items place ≡ Some (plain outcome) ⊎ (vec_len outcomes.old ≤ place) }
-    ensures others { (k : ℕ) → k ≢ place → slice_get outcomes.new.items k ≡ slice_get outcomes.old.items k }
+    ensures at { slice_get outcomes.new.items place ≡ Some (plain outcome)
+        ⊎ (vec_len outcomes.old ≤ place) }
+    ensures others { (k : ℕ) → k ≢ place
+        → slice_get outcomes.new.items k ≡ slice_get outcomes.old.items k }
 {
     let plain = match outcome {
         Outcome::Answer(Reply { answer }) => Outcome::Answer(answer),

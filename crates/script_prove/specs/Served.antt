@@ -15,7 +15,8 @@ pub record IsServed (job : ScriptJob) (served : Served) : Type 0 where
 -- a reply for each job, in the script's order
 pub record AreServed (script : List ScriptJob) (served : List Served) : Type 0 where
   pub as_many : length served ≡ length script
-  pub each : (k : ℕ) (job : ScriptJob) (reply : Served) → slice_get script k ≡ Some job → slice_get served k ≡ Some reply → IsServed job reply
+  pub each : (k : ℕ) (job : ScriptJob) (reply : Served) → slice_get script k ≡ Some job
+      → slice_get served k ≡ Some reply → IsServed job reply
 
 abbrev pub numbered_job : ScriptJob → ℕ × ScriptJob
 numbered_job job = (job.client, job)

@@ -41,7 +41,9 @@ impl<F: Fn(&ScriptJob) -> Result<JobReply, AllocError>> CaseWork for ByCalls<F> 
     type Answer = JobReply;
 
     // It may be called, and its calls give the reply to the job.
-    ghost works = { λ work. F.IsAlwaysCallable work.answer × ((job : ScriptJob) (r : Result JobReply AllocError) → FnReturnsAt F.Fn work.answer job r → IfOk r (λ reply. IsServed job reply.job)) };
+    ghost works = { λ work. F.IsAlwaysCallable work.answer
+        × ((job : ScriptJob) (r : Result JobReply AllocError) → FnReturnsAt F.Fn work.answer job r
+        → IfOk r (λ reply. IsServed job reply.job)) };
 
     fn work(&self, _alloc: Global, job: &ScriptJob) -> Result<JobReply, AllocError> {
         (self.answer)(job)

@@ -19,11 +19,13 @@ client_number = record { limit = 65; over = Length; behind_zero = 10; behind_oth
 -- a decimal that isn't 0
 unfoldable pub positive_at : Rule → List ℕ → Taking ℕ
 positive_at rule [] = Err (stopped End [])
-positive_at rule (b ∷ bytes) = if b == 48 then Err (stopped rule.over (b ∷ bytes)) else decimal_at rule (b ∷ bytes)
+positive_at rule (b ∷ bytes) =
+    if b == 48 then Err (stopped rule.over (b ∷ bytes)) else decimal_at rule (b ∷ bytes)
 
 -- the text of a job: its client's line, and its case
 abbrev pub IsJob : ScriptJob → List ℕ → Type 0
-IsJob job text = (0 < job.client) × (job.client < 65) × (case : List ℕ) × Spells Plain case job.case × (text ≡ concat (codes "client " ∷ number job.client 10 ∷ case ∷ []))
+IsJob job text = (0 < job.client) × (job.client < 65) × (case : List ℕ) × Spells Plain case job.case
+    × (text ≡ concat (codes "client " ∷ number job.client 10 ∷ case ∷ []))
 
 abbrev pub done : List ℕ
 done = codes "done" ++ 10 ∷ []
@@ -31,7 +33,8 @@ done = codes "done" ++ 10 ∷ []
 -- jobs, and then the last line
 abbrev pub AreJobs : List ScriptJob → List ℕ → Type 0
 AreJobs [] text = text ≡ done
-AreJobs (job ∷ jobs) text = (s : List ℕ) × (t : List ℕ) × IsJob job s × AreJobs jobs t × (text ≡ s ++ t)
+AreJobs (job ∷ jobs) text =
+    (s : List ℕ) × (t : List ℕ) × IsJob job s × AreJobs jobs t × (text ≡ s ++ t)
 
 -- These bytes are a text of the script.
 pub record SpellsScript (bytes : List ℕ) (jobs : List ScriptJob) : Type 0 where
@@ -52,7 +55,8 @@ done_at bytes = word_at Section done bytes >>= λ x. Ok ([], x.1)
 unfoldable pub jobs_at : ℕ → List ℕ → Taking (List ScriptJob)
 jobs_at zero bytes = done_at bytes
 jobs_at (suc more) bytes =
-    choice_at 99 (in_order job_at (λ job. in_order (jobs_at more) (λ jobs rest. Ok (job ∷ jobs, rest)))) done_at bytes
+    choice_at 99 (in_order job_at
+    (λ job. in_order (jobs_at more) (λ jobs rest. Ok (job ∷ jobs, rest)))) done_at bytes
 
 -- whether a job follows, where this many more may
 abbrev pub follows : ℕ → List ℕ → Result Bool Stop

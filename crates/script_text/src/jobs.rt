@@ -122,7 +122,8 @@ pub fn read_script(alloc: Global, bytes: &[u8]) -> Result<Vec<ScriptJob>, CaseRe
     // What is read is spelled so.
     ensures found { IfOk (jobs_of result) (λ jobs. SpellsScript bytes.now jobs) }
     // What is spelled so is read, unless memory runs out.
-    ensures only { (jobs : List ScriptJob) → SpellsScript bytes.now jobs → Answers (jobs_of result) (Ok jobs) }
+    ensures only { (jobs : List ScriptJob) → SpellsScript bytes.now jobs
+        → Answers (jobs_of result) (Ok jobs) }
     // Which refusal it is.
     ensures exact { Answers (jobs_of result) (script_reading bytes.now) }
 {

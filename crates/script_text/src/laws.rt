@@ -8,15 +8,18 @@ ghost use Rattle.script_text.specs.Scripts.{SpellsScript, script_reading};
 
 /// Bytes spell at most one script.
 pub fn one_script()
-    ensures { (bytes : List ℕ) (js ks : List ScriptJob) → SpellsScript bytes js → SpellsScript bytes ks → js ≡ ks }
+    ensures { (bytes : List ℕ) (js ks : List ScriptJob) → SpellsScript bytes js
+        → SpellsScript bytes ks → js ≡ ks }
 {}
 
 /// A refusal of a script stands at the end of the longest front of the bytes with which some script begins.
 pub fn script_refusal_place()
-    ensures { (bytes : List ℕ) (bad : BadCase) → script_reading bytes ≡ Err bad → IsPlace (λ jobs text. SpellsScript text jobs) bytes bad.at }
+    ensures { (bytes : List ℕ) (bad : BadCase) → script_reading bytes ≡ Err bad
+        → IsPlace (λ jobs text. SpellsScript text jobs) bytes bad.at }
 {}
 
 /// No text of a script begins another.
 pub fn no_script_begins_another()
-    ensures { (text more : List ℕ) (js ks : List ScriptJob) → SpellsScript text js → SpellsScript (text ++ more) ks → more ≡ [] }
+    ensures { (text more : List ℕ) (js ks : List ScriptJob) → SpellsScript text js
+        → SpellsScript (text ++ more) ks → more ≡ [] }
 {}

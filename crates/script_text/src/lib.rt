@@ -15,4 +15,3 @@ mod script;
 
 pub use jobs::read_script;
 pub use script::ScriptJob;
-

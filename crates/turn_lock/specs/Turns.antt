@@ -15,7 +15,16 @@ ticket_in t serving next = cond (ltb t serving) 0 (once_below t next)
 module _ {E : Type 0} where
   -- all shares, and nothing seen
   abbrev pub newcomer : ℕ → ℕ → View E
-  newcomer fix n = record { seats = n; fixed = fix; seen = []; mine = []; told = []; out = false; held = false; at = 0 }
+  newcomer fix n = record {
+    seats = n;
+    fixed = fix;
+    seen = [];
+    mine = [];
+    told = [];
+    out = false;
+    held = false;
+    at = 0;
+  }
 
   -- 1 where a ticket is out with the turn
   abbrev pub out : View E → ℕ
@@ -26,11 +35,13 @@ module _ {E : Type 0} where
 
 module _ {S E : Type 0} where
   abbrev pub drew : Step (Option S) → Me (Option S) (View E) → ℕ → Me (Option S) (View E) → Type 0
-  drew st m found m' = (m'.0 ≡ record m.0 { out = true; at = m'.0.at }) × (found ≡ m'.0.at % 2 ^ 64) × (m'.1 ≡ m.1)
+  drew st m found m' = (m'.0 ≡ record m.0 { out = true; at = m'.0.at }) × (found ≡ m'.0.at % 2 ^ 64)
+      × (m'.1 ≡ m.1)
 
 -- the history grew by this many entries, 0 or 1
 abbrev pub Grows : {E : Type 0} → ℕ → List E → List E → Type 0
-Grows {E} added before after = ((added ≡ 0) × (after ≡ before)) ⊎ ((added ≡ 1) × ((e : E) × (after ≡ before ++ e ∷ [])))
+Grows {E} added before after =
+    ((added ≡ 0) × (after ≡ before)) ⊎ ((added ≡ 1) × ((e : E) × (after ≡ before ++ e ∷ [])))
 
 -- the places of a turn, with the new place where there is one
 abbrev pub mine_after : ℕ → List ℕ → ℕ → List ℕ
@@ -41,19 +52,39 @@ abbrev pub kept : {E : Type 0} → ℕ → View E → View E
 kept n v = record v { seats = v.seats - n }
 
 abbrev pub given : {E : Type 0} → ℕ → View E → View E
-given n v = record { seats = n; fixed = v.fixed; seen = v.seen; mine = []; told = v.told; out = false; held = false; at = 0 }
+given n v = record {
+  seats = n;
+  fixed = v.fixed;
+  seen = v.seen;
+  mine = [];
+  told = v.told;
+  out = false;
+  held = false;
+  at = 0;
+}
 
 abbrev pub joined : {E : Type 0} → View E → View E → View E
-joined v w = record { seats = v.seats + w.seats; fixed = v.fixed; seen = longer v.seen w.seen; mine = unite v.mine w.mine; told = shorter v.seen w.seen; out = false; held = false; at = 0 }
+joined v w = record {
+  seats = v.seats + w.seats;
+  fixed = v.fixed;
+  seen = longer v.seen w.seen;
+  mine = unite v.mine w.mine;
+  told = shorter v.seen w.seen;
+  out = false;
+  held = false;
+  at = 0;
+}
 
 abbrev pub spent : {E : Type 0} → View E
 spent = newcomer 0 0
 
 -- what a turn at rest carries
 abbrev pub AtRest : {S E : Type 0} → Me (Option S) (View E) → Type 0
-AtRest m = (0 < m.0.seats) × (m.0.out ≡ m.0.held) × MatchBool m.0.held (m.1 ≡ (0, None) ∷ []) (m.1 ≡ [])
+AtRest m = (0 < m.0.seats) × (m.0.out ≡ m.0.held)
+    × MatchBool m.0.held (m.1 ≡ (0, None) ∷ []) (m.1 ≡ [])
 
-module _ {S E : Type 0} (history : S → List E) (owns : List E → List ℕ → Type 0) (fixed : S → ℕ) where
+module _ {S E : Type 0} (history : S → List E) (owns : List E → List ℕ → Type 0) (fixed : S
+    → ℕ) where
   pub record Fits (fix serving : ℕ) (log : List E) (v : View E) : Type 0 where
     pub still : 0 < v.seats → v.fixed ≡ fix
     pub begins : IsPrefix v.seen log
@@ -109,14 +140,20 @@ module _ {S E : Type 0} (history : S → List E) (owns : List E → List ℕ →
     pub view : m'.0 ≡ record m.0 { seen = history state; told = m.0.seen; held = true }
 
   abbrev pub looked : Step (Option S) → Seated → ℕ → Seated → Type 0
-  looked st m found m' = (found ≡ m.0.at % 2 ^ 64 → Served m m') × (¬ (found ≡ m.0.at % 2 ^ 64) → m' ≡ m)
+  looked st m found m' = (found ≡ m.0.at % 2 ^ 64 → Served m m')
+      × (¬ (found ≡ m.0.at % 2 ^ 64) → m' ≡ m)
 
   abbrev pub recorded : Step (Option S) → Seated → ℕ → Seated → Type 0
-  recorded st m found m' = (m'.1 ≡ m.1) × ((x : S) → m.1 ≡ (0, Some x) ∷ [] → m'.0 ≡ record m.0 { seen = history x; mine = mine_after st.first m.0.mine (length m.0.seen) })
+  recorded st m found m' =
+      (m'.1 ≡ m.1) × ((x : S) → m.1 ≡ (0, Some x) ∷ [] → m'.0 ≡ record m.0 {
+        seen = history x;
+        mine = mine_after st.first m.0.mine (length m.0.seen);
+      })
 
   abbrev pub left : Step (Option S) → Seated → ℕ → Seated → Type 0
   left st m found m' = (m'.1 ≡ rest m.1) × (m'.0 ≡ record m.0 { out = false; held = false })
 
   -- a look tells that the shorter of two beginnings begins the longer, that no place stands twice, and that the places are owned in a history that goes on
   abbrev pub told_so : Step (Option S) → Seated → ℕ → Seated → Type 0
-  told_so st m found m' = (m' ≡ m) × IsPrefix m.0.told m.0.seen × ((x : ℕ) → times x m.0.mine ≤ 1) × ((log : List E) × IsPrefix m.0.seen log × owns log m.0.mine)
+  told_so st m found m' = (m' ≡ m) × IsPrefix m.0.told m.0.seen × ((x : ℕ) → times x m.0.mine ≤ 1)
+      × ((log : List E) × IsPrefix m.0.seen log × owns log m.0.mine)

@@ -37,9 +37,13 @@ impl<S: Storied<E>, E> Model for TurnLock<S, E> {
 
     ghost Value = { LockView };
 
-    ghost view = { λ b. record { table = b.table.shared.table_id; seats = b.table.shared.key.seats } };
+    ghost view = { λ b. record {
+      table = b.table.shared.table_id;
+      seats = b.table.shared.key.seats;
+    } };
 
-    ghost invariant = { λ b. (b.table.shared.table_id.words ≡ 3) × (b.table.shared.table_id.slots ≡ 1) };
+    ghost invariant = { λ b. (b.table.shared.table_id.words ≡ 3)
+        × (b.table.shared.table_id.slots ≡ 1) };
 }
 
 /// The right to turns. It counts for as many seats as it was given, one at least.
@@ -54,7 +58,14 @@ impl<S, E> Model for Turn<S, E> {
 
     ghost Value = { TurnView E };
 
-    ghost view = { λ t. record { table = t.seat.table_id; seats = t.seat.me.0.seats; fixed = t.seat.me.0.fixed; seen = t.seat.me.0.seen; mine = t.seat.me.0.mine; holds = t.seat.me.0.held } };
+    ghost view = { λ t. record {
+      table = t.seat.table_id;
+      seats = t.seat.me.0.seats;
+      fixed = t.seat.me.0.fixed;
+      seen = t.seat.me.0.seen;
+      mine = t.seat.me.0.mine;
+      holds = t.seat.me.0.held;
+    } };
 
     ghost invariant = { λ t. AtRest t.seat.me };
 }
@@ -110,7 +121,8 @@ fn wait_for<R: Wait, S: Storied<E>, E>(
     ticket: u64,
 )
     requires lock { (seat.old.table_id ≡ shared.now.table_id) × (1 < shared.now.table_id.words) }
-    requires waits { (0 < seat.old.me.0.seats) × (seat.old.me.0.out ≡ true) × (seat.old.me.0.held ≡ false) }
+    requires waits { (0 < seat.old.me.0.seats) × (seat.old.me.0.out ≡ true)
+        × (seat.old.me.0.held ≡ false) }
     requires ticket { ticket ≡ seat.old.me.0.at % 2 ^ 64 }
     ensures seat { (seat.new.table_id ≡ seat.old.table_id) × (seat.new.id ≡ seat.old.id) }
     ensures served { Served S.history S.owns S.fixed seat.old.me seat.new.me }
@@ -141,7 +153,15 @@ impl<S: Storied<E>, E> TurnLock<S, E> {
     pub fn new(alloc: Global, state: S, seats: u32) -> Result<(TurnLock<S, E>, Turn<S, E>), S>
         requires fresh { S.history state ≡ [] }
         requires seats { 0 < seats }
-        ensures ok { IfOk result (λ r. (r.0.seats ≡ seats) × (r.1 ≡ record { table = r.0.table; seats = seats; fixed = S.fixed state; seen = []; mine = []; holds = false })) }
+        ensures ok { IfOk result (λ r. (r.0.seats ≡ seats)
+            × (r.1 ≡ record {
+              table = r.0.table;
+              seats = seats;
+              fixed = S.fixed state;
+              seen = [];
+              mine = [];
+              holds = false;
+            })) }
         ensures err { IfErr result (λ s. s ≡ state) }
     {
         let terms = Terms {
@@ -178,10 +198,15 @@ impl<S: Storied<E>, E> TurnLock<S, E> {
         requires lock { turn.old.table ≡ self.now.table }
         requires holds { turn.old.holds ≡ true }
         requires grows { Grows added turn.old.seen (S.history state) }
-        requires owned { S.owns (S.history state) (mine_after added turn.old.mine (length turn.old.seen)) }
+        requires owned { S.owns (S.history state)
+            (mine_after added turn.old.mine (length turn.old.seen)) }
         requires fixed { S.fixed state ≡ turn.old.fixed }
         requires room { length (S.history state) < 2 ^ 64 }
-        ensures { turn.new ≡ record turn.old { seen = S.history state; mine = mine_after added turn.old.mine (length turn.old.seen); holds = false } }
+        ensures { turn.new ≡ record turn.old {
+          seen = S.history state;
+          mine = mine_after added turn.old.mine (length turn.old.seen);
+          holds = false;
+        } }
     {
         let shared = &self.table.shared;
         let old = shared.exchange(&mut turn.seat, 0, Some(state));
@@ -219,8 +244,13 @@ impl<S: Storied<E>, E> TurnLock<S, E> {
     pub fn join(&self, turn: &mut Turn<S, E>, other: Turn<S, E>)
         requires lock { (turn.old.table ≡ self.now.table) × (other.table ≡ self.now.table) }
         requires free { (turn.old.holds ≡ false) × (other.holds ≡ false) }
-        ensures turn { turn.new ≡ record turn.old { seats = turn.old.seats + other.seats; seen = longer turn.old.seen other.seen; mine = unite turn.old.mine other.mine } }
-        ensures begins { IsPrefix (shorter turn.old.seen other.seen) (longer turn.old.seen other.seen) }
+        ensures turn { turn.new ≡ record turn.old {
+          seats = turn.old.seats + other.seats;
+          seen = longer turn.old.seen other.seen;
+          mine = unite turn.old.mine other.mine;
+        } }
+        ensures begins { IsPrefix (shorter turn.old.seen other.seen)
+            (longer turn.old.seen other.seen) }
         ensures apart { Apart turn.old.mine other.mine }
         ensures owned { (log : List E) × IsPrefix turn.new.seen log × S.owns log turn.new.mine }
         ensures rising { IsRising turn.old.mine → IsRising other.mine → IsRising turn.new.mine }

@@ -18,7 +18,10 @@ pub trait Storied<E> {
 
     ghost owns_none: { (h : List E) → owns h [] };
 
-    ghost owns_both: { (h : List E) (a b : List ℕ) → owns h a → owns h b → Apart a b → owns h (unite a b) };
+    ghost owns_both: { (h : List E) (a b : List ℕ) → owns h a → owns h b → Apart a b
+        → owns h (unite a b) };
 
-    ghost owns_others: { (h : List E) (e : E) (mine other : List ℕ) → owns (h ++ e ∷ []) (mine ++ length h ∷ []) → owns h other → Apart (mine ++ length h ∷ []) other → owns (h ++ e ∷ []) other };
+    ghost owns_others: { (h : List E) (e : E) (mine other : List ℕ)
+        → owns (h ++ e ∷ []) (mine ++ length h ∷ []) → owns h other
+        → Apart (mine ++ length h ∷ []) other → owns (h ++ e ∷ []) other };
 }

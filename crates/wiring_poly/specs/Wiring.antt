@@ -27,11 +27,13 @@ module _ {A : Type 0} (o : Ops A) where
 
   -- the multilinear extension of "the gate at z adds the values at b and c"
   abbrev pub wiring_add : List CircuitGate → List A → List A → List A → A
-  wiring_add gates z b c = sum_gates 0 gates (λ g gate. by_kind gate.kind (gate_weight z b c g gate) o.zero)
+  wiring_add gates z b c =
+      sum_gates 0 gates (λ g gate. by_kind gate.kind (gate_weight z b c g gate) o.zero)
 
   -- the multilinear extension of "the gate at z multiplies the values at b and c"
   abbrev pub wiring_mul : List CircuitGate → List A → List A → List A → A
-  wiring_mul gates z b c = sum_gates 0 gates (λ g gate. by_kind gate.kind o.zero (gate_weight z b c g gate))
+  wiring_mul gates z b c =
+      sum_gates 0 gates (λ g gate. by_kind gate.kind o.zero (gate_weight z b c g gate))
 
   -- what sumcheck sums for a layer, where x and y are the extension of the layer below at b and at c
   abbrev pub summand_from : List CircuitGate → List A → List A → List A → A → A → A
@@ -40,7 +42,9 @@ module _ {A : Type 0} (o : Ops A) where
   module _ {C : Type 0} (base : Ops C) (embed : C → A) where
     -- what sumcheck sums for a layer, over the values of the layer below
     abbrev pub summand : List CircuitGate → List C → List A → List A → List A → A
-    summand gates values z b c = summand_from gates z b c (extension_at o base embed values b) (extension_at o base embed values c)
+    summand gates values z b c =
+        summand_from gates z b c (extension_at o base embed values b)
+        (extension_at o base embed values c)
 
     -- the same at one list of 2 k coordinates, those of the left operand first
     abbrev pub summand_at : ℕ → List CircuitGate → List C → List A → List A → A
@@ -52,4 +56,6 @@ module _ {A : Type 0} (o : Ops A) where
 
   -- the values of a layer, from those of the layer below
   abbrev pub values_above : List CircuitGate → List A → List A
-  values_above gates below = map (λ gate. gate_output gate (slice_index_or below gate.left o.zero) (slice_index_or below gate.right o.zero)) gates
+  values_above gates below =
+      map (λ gate. gate_output gate (slice_index_or below gate.left o.zero)
+      (slice_index_or below gate.right o.zero)) gates

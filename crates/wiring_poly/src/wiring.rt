@@ -18,8 +18,10 @@ pub fn wiring_at(circuit: &Circuit, layer: u32, z: &[Ext], b: &[Ext], c: &[Ext])
     requires position { length z.now ≡ exponent_at circuit.now.parts layer }
     requires left { length b.now ≡ exponent_at circuit.now.parts (layer + 1) }
     requires right { length c.now ≡ exponent_at circuit.now.parts (layer + 1) }
-    ensures add { result.0 ≡ wiring_add k_ops (slice_index_or circuit.now.parts.layers layer []) z.now b.now c.now }
-    ensures mul { result.1 ≡ wiring_mul k_ops (slice_index_or circuit.now.parts.layers layer []) z.now b.now c.now }
+    ensures add { result.0 ≡ wiring_add k_ops (slice_index_or circuit.now.parts.layers layer [])
+        z.now b.now c.now }
+    ensures mul { result.1 ≡ wiring_mul k_ops (slice_index_or circuit.now.parts.layers layer [])
+        z.now b.now c.now }
 {
     let sums = gate_sums(circuit.gates(layer as usize), z, b, c);
     (sums.add, sums.mul)
