@@ -10,6 +10,7 @@ mod Headlines
 mod OneReply
 mod ProveAnswers
 mod ProvedCases
+mod InputReads
 mod Replied
 mod ScriptReplies
 mod SumLevels

@@ -293,19 +293,20 @@ pub full_has : {A : Type 0} (o : Option A) → Allows Full o → IsSome o
 full_has None is = absurd is
 full_has (Some x) is = refl
 
--- what a run that replied wrote is a front of its reply
-pub no_more : (status : Status) (words : List (List ℕ)) (input : List ℕ) (before after : Option (List ℕ)) → IsReplied status → WritesReplyFront words input before after → WritesNoMore status words input before after
-no_more statuses.Done words input before after is front = front
-no_more statuses.Rejected words input before after is front = front
-no_more statuses.Usage words input before after is front = front
-no_more statuses.BadCase words input before after is front = front
-no_more statuses.BadProgram words input before after is front = front
-no_more statuses.BadCount words input before after is front = front
-no_more statuses.BadProof words input before after is front = front
-no_more statuses.ReadFault words input before after is front = absurd is
-no_more statuses.WriteFault words input before after is front = absurd is
-no_more statuses.Memory words input before after is front = absurd is
-no_more statuses.TooLong words input before after is front = front
+-- what a run wrote is a front of its reply, or nothing
+pub no_more : (status : Status) (words : List (List ℕ)) (input : List ℕ) (before after : Option (List ℕ)) → (status ≡ statuses.ReadFault → Grows before after []) → (status ≡ statuses.Memory → Grows before after [])
+    → (status ≡ statuses.WriteFault → WritesReplyFront words input before after) → (IsReplied status → WritesReplyFront words input before after) → WritesNoMore status words input before after
+no_more statuses.Done words input before after fault memory cut whole = whole tt
+no_more statuses.Rejected words input before after fault memory cut whole = whole tt
+no_more statuses.Usage words input before after fault memory cut whole = whole tt
+no_more statuses.BadCase words input before after fault memory cut whole = whole tt
+no_more statuses.BadProgram words input before after fault memory cut whole = whole tt
+no_more statuses.BadCount words input before after fault memory cut whole = whole tt
+no_more statuses.BadProof words input before after fault memory cut whole = whole tt
+no_more statuses.ReadFault words input before after fault memory cut whole = fault refl
+no_more statuses.WriteFault words input before after fault memory cut whole = cut refl
+no_more statuses.Memory words input before after fault memory cut whole = memory refl
+no_more statuses.TooLong words input before after fault memory cut whole = whole tt
 
 -- a text that was written whole
 pub whole_front : (old new : Option (List ℕ)) (text : List ℕ) → Grows old new text → WritesFront old new text

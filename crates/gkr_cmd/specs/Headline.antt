@@ -1,5 +1,6 @@
 -- What holds of every run of the program: the headline, the one reply, and the causes of faults.
 use Rattle.std.specs.Prelude.{◌≡◌, ◌≢◌, ◌<◌, ◌≤◌, ◌↔◌, ◌+◌, ℕ, List, [], length, Option, Some, None, Ok}
+use Rattle.io_edge.specs.Calls.{Calls}
 use Rattle.io_edge.specs.Causes.{Rose}
 use Rattle.io_edge.specs.Written.{Grows}
 use Rattle.case_prove.specs.Sound.{HasExceptionalChallenge, HasMeaning}
@@ -15,16 +16,17 @@ use Rattle.gkr_words.specs.declared.words.Command.TheVariants.{OfCase, Demo, Ser
 use Rattle.gkr_words.specs.declared.words.CaseCommand.TheVariants.{Eval, Circuit, Prove, Verify}
 use Rattle.script_text.specs.declared.script.ScriptJob.{ScriptJob}
 use Rattle.script_text.specs.Scripts.{script_reading}
-use Rattle.gkr_words.specs.Commands.{ReadsCase, command_of, input_limit, script_limit}
-use Rattle.gkr_cmd.specs.Reached.{IsReadUpTo}
+use Rattle.gkr_words.specs.Commands.{ReadsCase, command_of, input_limit, read_room, script_limit}
+use Rattle.gkr_cmd.specs.Reached.{IsReadUpTo, ReadsWithin}
 use Rattle.gkr_cmd.specs.Replies.{IsOfCase}
 use Rattle.gkr_cmd.specs.Runs.{EndsWithReply, HasAcceptedProof, HasCircuit, IsEvaluable, IsInput}
 use Rattle.gkr_cmd.specs.Runs.{IsReplied, WritesHonestProof, WritesNoMore, WritesReplies}
 
--- What the source and the sink of a run tell at one moment: the bytes that are left and those that
--- were written, where they tell them, and how often each has failed.
+-- What the source and the sink of a run tell at one moment: the bytes that are left, the calls that
+-- read and the bytes that were written, where they tell them, and how often each has failed.
 pub record Ends : Type 0 where
   pub left : Option (List ℕ)
+  pub calls : Option Calls
   pub read_faults : ℕ
   pub written : Option (List ℕ)
   pub write_faults : ℕ
@@ -107,6 +109,11 @@ pub record HasCauses (run : Run) : Type 0 where
   pub read : ReadsCase (command_of run.words)
       → run.ended ≢ statuses.ReadFault → run.ended ≢ statuses.Memory
       → IsReadUpTo (input_limit (command_of run.words) + 1) run.before.left run.after.left
+  -- However it ends, at most one byte more than the limit is read, in as many reads at most, none
+  -- with room for more than 4,096 bytes.
+  pub read_within : ReadsCase (command_of run.words)
+      → ReadsWithin (input_limit (command_of run.words) + 1) read_room run.before.left run.after.left
+        run.before.calls run.after.calls
   -- A failure of the source, only where it failed and always there; then nothing is written.
   pub read_fault : run.ended ≡ statuses.ReadFault
       → Rose run.before.read_faults run.after.read_faults

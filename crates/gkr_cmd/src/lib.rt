@@ -3,7 +3,8 @@
 //! `gkr_run` reads the whole input where the command reads a case, makes the whole reply, and then
 //! writes it. Its contract is the theorem of the program (`specs/Headline.antt`): status and bytes are
 //! the reply that the definitions give, and a failing source or sink is told exactly where it failed.
-//! `run_program` ends a process with the number of that status.
+//! `run_program` ends a process with the number of that status. `run_alone` runs all commands but
+//! `serve`, whose threads wait for each other, and returns.
 //!
 //! ```text
 //! gkr_run(&rt, alloc, &words, &mut source, &mut sink, &OpenGate)      // Status::Done
@@ -23,5 +24,5 @@ mod serving;
 mod status;
 
 pub use program::{NoWords, run_program};
-pub use run::gkr_run;
+pub use run::{gkr_run, run_alone};
 pub use status::Status;

@@ -48,12 +48,14 @@ pub fn run_program<R: Threads + Wait + Sync, S: Source, K: Sink, G: Gate>(
         (map string_bytes words.items)
         (record {
           left = S.left source.old;
+          calls = S.calls source.old;
           read_faults = S.faults source.old;
           written = K.written sink.old;
           write_faults = K.faults sink.old;
         })
         (record {
           left = S.left source.new;
+          calls = S.calls source.new;
           read_faults = S.faults source.new;
           written = K.written sink.new;
           write_faults = K.faults sink.new;

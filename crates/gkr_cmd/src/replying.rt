@@ -1,25 +1,23 @@
 //! Making the whole reply.
 
-ghost use Rattle.std.specs.Prelude.{◌≡◌, ◌≢◌, ◌↔◌, ◌+◌, List, ℕ, map, IfOk, OnOk, IsErrOf, None, Some, Ok, Err, string_bytes};
+ghost use Rattle.std.specs.Prelude.{◌≡◌, ◌≢◌, ◌↔◌, ◌+◌, List, ℕ, IfOk, IfSome, OnOk, IsErrOf, None, Some, Ok, Err};
 ghost use Rattle.io_edge.specs.Causes.{Rose};
-ghost use Rattle.gkr_words.specs.Commands.{HasWorkers, case_limit, input_limit, ReadsCase, command_of};
-ghost use Rattle.gkr_cmd.specs.Reached.{IsReadUpTo};
-ghost use Rattle.gkr_cmd.specs.Replies.{IsCommandReply, IsReply, status_of};
+ghost use Rattle.gkr_words.specs.Commands.{HasWorkers, IsService, ReadsCase, case_limit, input_limit, read_room};
+ghost use Rattle.gkr_cmd.specs.Reached.{IsReadUpTo, ReadsWithin};
+ghost use Rattle.gkr_cmd.specs.Replies.{IsCommandReply, status_of};
 ghost use Rattle.gkr_cmd.specs.Runs.{IsInput};
 
 use crate::answering::answer;
 use crate::demo::demo;
 use crate::input::read_input;
 use crate::reply_error::ReplyError;
-use crate::serving::serve;
 use crate::status::Status;
+use gkr_words::{CaseCommand, Command};
 use case_text::Reply;
 use gkr_words::{CaseCommand, Command, named_command};
 use io_edge::{Gate, Source};
-use script_prove::Threading;
 use std::alloc::Global;
 use std::marker::Sync;
-use std::sync::Wait;
 use std::thread::Threads;
 
 /// The most bytes of a case.
@@ -39,6 +37,8 @@ fn run_command<R: Threads + Sync, S: Source, G: Gate>(
     ensures named { IfOk result (λ reply. status_of reply ≢ Status.Usage) }
     ensures read { OnOk result (IsReadUpTo (case_limit + 1) (S.left source.old)
         (S.left source.new)) }
+    ensures within { ReadsWithin (case_limit + 1) read_room (S.left source.old) (S.left source.new)
+        (S.calls source.old) (S.calls source.new) }
     ensures fault { IsErrOf result ReplyError.ReadFault
         → Rose (S.faults source.old) (S.faults source.new) }
     ensures no_fault { result ≢ Err ReplyError.ReadFault
@@ -51,46 +51,33 @@ fn run_command<R: Threads + Sync, S: Source, G: Gate>(
     answer(rt, alloc, command, &input, gate)
 }
 
-/// The reply to the words, and to what their command reads.
-pub fn make_reply<R: Threads + Wait + Sync, S: Source, G: Gate>(
+/// The reply to a command other than `serve`, or to words that are no command, and to what it reads.
+pub fn reply_alone<R: Threads + Sync, S: Source, G: Gate>(
     rt: &R,
     alloc: Global,
-    words: &[String],
+    command: Option<Command>,
     source: &mut S,
     gate: &G,
 ) -> Result<Reply, ReplyError>
+    requires workers { IfSome command HasWorkers }
+    requires alone { ¬ IsService command }
     ensures reply { IfOk result (λ reply. (input : List ℕ)
-        → IsInput (command_of (map string_bytes words.now)) (S.left source.old) input
-        → IsReply (map string_bytes words.now) input reply) }
-    ensures usage { IfOk result (λ reply. (status_of reply ≡ Status.Usage)
-        ↔ (command_of (map string_bytes words.now) ≡ None)) }
-    ensures read { ReadsCase (command_of (map string_bytes words.now))
-        → OnOk result (IsReadUpTo (input_limit (command_of (map string_bytes words.now)) + 1)
+        → IsInput command (S.left source.old) input → IsCommandReply command input reply) }
+    ensures usage { IfOk result (λ reply. (status_of reply ≡ Status.Usage) ↔ (command ≡ None)) }
+    ensures read { ReadsCase command → OnOk result (IsReadUpTo (input_limit command + 1)
         (S.left source.old) (S.left source.new)) }
-    ensures unread { ¬ ReadsCase (command_of (map string_bytes words.now))
-        → source.new ≡ source.old }
+    ensures within { ReadsCase command → ReadsWithin (input_limit command + 1) read_room
+        (S.left source.old) (S.left source.new) (S.calls source.old) (S.calls source.new) }
+    ensures unread { ¬ ReadsCase command → source.new ≡ source.old }
     ensures fault { IsErrOf result ReplyError.ReadFault
         → Rose (S.faults source.old) (S.faults source.new) }
     ensures no_fault { result ≢ Err ReplyError.ReadFault
         → S.faults source.new ≡ S.faults source.old }
 {
-    match named_command(alloc, words)? {
+    match command {
         None => Ok(Reply::Usage),
         Some(Command::OfCase(command)) => run_command(rt, alloc, command, source, gate),
         Some(Command::Demo { number, workers }) => demo(rt, alloc, number, workers, gate),
-        Some(
-            Command::Serve {
-                workers,
-                provers,
-                clients,
-            },
-        ) => {
-            let threading = Threading {
-                workers,
-                provers,
-                clients,
-            };
-            serve(rt, alloc, threading, source, gate)
-        }
+        Some(Command::Serve { .. }) => unreachable!(),
     }
 }

@@ -1,26 +1,147 @@
 //! The whole program.
 
-ghost use Rattle.std.specs.Prelude.{◌≡◌, map, string_bytes};
-ghost use Rattle.gkr_words.specs.Commands.{ReadsCase, command_of};
+ghost use Rattle.std.specs.Prelude.{◌≡◌, IfNone, IfSome, map, string_bytes};
+ghost use Rattle.gkr_words.specs.Commands.{IsService, ReadsCase, command_of};
 ghost use Rattle.gkr_cmd.specs.Headline.{KeepsPromises};
+ghost use Rattle.gkr_cmd.specs.RunLaws.{RunLaws};
 
 use crate::laws::{
     accepted_is_done, demo_is_done, evaluable_is_done, laid_out_is_done, provable_is_done,
 };
-use crate::output::write_output;
-use crate::reply_error::ReplyError;
-use crate::replying::make_reply;
+use crate::output::finish;
+use crate::replying::reply_alone;
+use crate::serving::serve;
 use crate::status::Status;
+use gkr_words::{Command, named_command};
 use case_prove::laws::{proved_is_accepted, proved_is_full, proved_is_short, sound};
 use case_text::laws::read_exactly;
-use case_text::write_reply;
-use io_edge::{Failed, Gate, Sink, Source};
+use io_edge::{Gate, Sink, Source};
+use script_prove::Threading;
 use std::alloc::Global;
 use std::marker::Sync;
 use std::sync::Wait;
 use std::thread::Threads;
 
+// The laws that the promises of a run stand on.
+fn run_laws()
+    ensures { RunLaws }
+{
+    evaluable_is_done();
+    laid_out_is_done();
+    provable_is_done();
+    demo_is_done();
+    accepted_is_done();
+    sound();
+    proved_is_accepted();
+    proved_is_full();
+    proved_is_short();
+    read_exactly();
+}
+
+/// Runs the command that the words name, unless that is `serve`, as `gkr_run` does.
+///
+/// No bound lets it wait, so it returns. None is answered where the words name `serve`, and then
+/// nothing was read or written.
+#[tactic(auto, using(crate::proofs::InputReads::none_within))]
+pub fn run_alone<R: Threads + Sync, S: Source, K: Sink, G: Gate>(
+    rt: &R,
+    alloc: Global,
+    words: &[String],
+    source: &mut S,
+    sink: &mut K,
+    gate: &G,
+) -> Option<Status>
+    ensures run { IfSome result (λ status. KeepsPromises (record {
+      words = map string_bytes words.now;
+      before = record {
+        left = S.left source.old;
+        calls = S.calls source.old;
+        read_faults = S.faults source.old;
+        written = K.written sink.old;
+        write_faults = K.faults sink.old;
+      };
+      after = record {
+        left = S.left source.new;
+        calls = S.calls source.new;
+        read_faults = S.faults source.new;
+        written = K.written sink.new;
+        write_faults = K.faults sink.new;
+      };
+      ended = status;
+    })) }
+    ensures unread { ¬ ReadsCase (command_of (map string_bytes words.now))
+        → source.new ≡ source.old }
+    ensures service { IfNone result (IsService (command_of (map string_bytes words.now))) }
+    ensures untaken { IfNone result (source.new ≡ source.old) }
+    ensures unwritten { IfNone result (sink.new ≡ sink.old) }
+{
+    run_laws();
+    let Ok(command) = named_command(alloc, words) else {
+        return Some(Status::Memory);
+    };
+    if let Some(Command::Serve { .. }) = command {
+        return None;
+    }
+    let made = reply_alone(rt, alloc, command, source, gate);
+    Some(finish(alloc, made, sink))
+}
+
+// Runs the command `serve`, which the words name.
+#[tactic(auto, using(crate::proofs::InputReads::none_within))]
+fn run_service<R: Threads + Wait + Sync, S: Source, K: Sink, G: Gate>(
+    rt: &R,
+    alloc: Global,
+    words: &[String],
+    source: &mut S,
+    sink: &mut K,
+    gate: &G,
+) -> Status
+    requires service { IsService (command_of (map string_bytes words.now)) }
+    ensures run { KeepsPromises (record {
+      words = map string_bytes words.now;
+      before = record {
+        left = S.left source.old;
+        calls = S.calls source.old;
+        read_faults = S.faults source.old;
+        written = K.written sink.old;
+        write_faults = K.faults sink.old;
+      };
+      after = record {
+        left = S.left source.new;
+        calls = S.calls source.new;
+        read_faults = S.faults source.new;
+        written = K.written sink.new;
+        write_faults = K.faults sink.new;
+      };
+      ended = result;
+    }) }
+{
+    run_laws();
+    let Ok(command) = named_command(alloc, words) else {
+        return Status::Memory;
+    };
+    let Some(
+        Command::Serve {
+            workers,
+            provers,
+            clients,
+        },
+    ) = command
+    else {
+        unreachable!()
+    };
+    let threading = Threading {
+        workers,
+        provers,
+        clients,
+    };
+    let made = serve(rt, alloc, threading, source, gate);
+    finish(alloc, made, sink)
+}
+
 /// Runs the command that the words name: reads the whole input, makes the whole reply, writes it.
+///
+/// The threads of `serve` wait for each other. All other commands run in `run_alone`, which returns.
 pub fn gkr_run<R: Threads + Wait + Sync, S: Source, K: Sink, G: Gate>(
     rt: &R,
     alloc: Global,
@@ -34,42 +155,26 @@ pub fn gkr_run<R: Threads + Wait + Sync, S: Source, K: Sink, G: Gate>(
       words = map string_bytes words.now;
       before = record {
         left = S.left source.old;
+        calls = S.calls source.old;
         read_faults = S.faults source.old;
         written = K.written sink.old;
         write_faults = K.faults sink.old;
       };
       after = record {
         left = S.left source.new;
+        calls = S.calls source.new;
         read_faults = S.faults source.new;
         written = K.written sink.new;
         write_faults = K.faults sink.new;
       };
       ended = result;
     }) }
-    // Words that name no command on a case leave the source as it was.
+    // Words that name no command on a case or a script leave the source as it was.
     ensures unread { ¬ ReadsCase (command_of (map string_bytes words.now))
         → source.new ≡ source.old }
 {
-    evaluable_is_done();
-    laid_out_is_done();
-    provable_is_done();
-    demo_is_done();
-    accepted_is_done();
-    sound();
-    proved_is_accepted();
-    proved_is_full();
-    proved_is_short();
-    read_exactly();
-    let reply = match make_reply(rt, alloc, words, source, gate) {
-        Ok(reply) => reply,
-        Err(ReplyError::ReadFault) => return Status::ReadFault,
-        Err(ReplyError::Memory) => return Status::Memory,
-    };
-    let Ok(text) = write_reply(alloc, &reply) else {
-        return Status::Memory;
-    };
-    match write_output(sink, &text) {
-        Ok(()) => Status::of(&reply),
-        Err(Failed) => Status::WriteFault,
+    match run_alone(rt, alloc, words, source, sink, gate) {
+        Some(status) => status,
+        None => run_service(rt, alloc, words, source, sink, gate),
     }
 }

@@ -3,8 +3,8 @@
 ghost use Rattle.std.specs.Prelude.{◌≡◌, ◌≢◌, ◌≤◌, ◌+◌, length, List, ℕ, IfOk, OnOk, IsErrOf, Some, Err};
 ghost use Rattle.io_edge.specs.Causes.{Rose};
 ghost use Rattle.phase_run.specs.Work.{IsWorkerCount};
-ghost use Rattle.gkr_words.specs.Commands.{script_limit};
-ghost use Rattle.gkr_cmd.specs.Reached.{IsReadUpTo};
+ghost use Rattle.gkr_words.specs.Commands.{read_room, script_limit};
+ghost use Rattle.gkr_cmd.specs.Reached.{IsReadUpTo, ReadsWithin};
 ghost use Rattle.gkr_cmd.specs.Replies.{IsScriptReply, status_of};
 
 use crate::input::read_input;
@@ -35,7 +35,10 @@ pub fn serve<R: Threads + Wait + Sync, S: Source, G: Gate>(
     requires clients { IsWorkerCount threading.clients }
     ensures reply { IfOk result (λ reply. (input : List ℕ) → S.left source.old ≡ Some input → IsScriptReply input reply) }
     ensures named { IfOk result (λ reply. status_of reply ≢ Status.Usage) }
-    ensures read { OnOk result (IsReadUpTo (script_limit + 1) (S.left source.old) (S.left source.new)) }
+    ensures read { OnOk result (IsReadUpTo (script_limit + 1) (S.left source.old)
+        (S.left source.new)) }
+    ensures within { ReadsWithin (script_limit + 1) read_room (S.left source.old)
+        (S.left source.new) (S.calls source.old) (S.calls source.new) }
     ensures fault { IsErrOf result ReplyError.ReadFault → Rose (S.faults source.old) (S.faults source.new) }
     ensures no_fault { result ≢ Err ReplyError.ReadFault → S.faults source.new ≡ S.faults source.old }
 {

@@ -1,0 +1,37 @@
+-- The laws that the promises of a run stand on, together. No public contract cites this.
+use Rattle.std.specs.Prelude.{◌≡◌, ◌<◌, ◌↔◌, ℕ, List, Ok, length}
+use Rattle.case_prove.specs.Answers.{IsProveAnswer}
+use Rattle.case_prove.specs.Proved.{IsProved}
+use Rattle.case_prove.specs.Sound.{HasExceptionalChallenge, HasMeaning}
+use Rattle.case_prove.specs.Verified.{IsVerdictOn}
+use Rattle.case_text.specs.Content.{Content, Fits}
+use Rattle.case_text.specs.Reading.{reading}
+use Rattle.case_text.specs.Spelling.{Spells, lower_case_text}
+use Rattle.case_text.specs.declared.form.Form.{Form}
+use Rattle.case_text.specs.declared.form.Form.TheVariants.{Full, Plain}
+use Rattle.case_text.specs.declared.reply.Reply.{Reply}
+use Rattle.gkr_layers.specs.declared.verdict.Verdict.TheVariants as verdicts
+use Rattle.gkr_cmd.specs.declared.status.Status.TheVariants as statuses
+use Rattle.gkr_cmd.specs.Replies.{IsCaseReply, IsCircuitAnswer, IsDemoAnswer, IsEvalAnswer, IsOfCase}
+use Rattle.gkr_cmd.specs.Replies.{IsVerifyAnswer, status_of}
+use Rattle.gkr_cmd.specs.Runs.{HasAcceptedProof, HasCircuit, IsEvaluable}
+
+pub record RunLaws : Type 0 where
+  pub evaluable : (input : List ℕ) (reply : Reply) → IsCaseReply Plain IsEvalAnswer input reply
+      → IsOfCase Plain input IsEvaluable → status_of reply ≡ statuses.Done
+  pub laid_out : (input : List ℕ) (reply : Reply) → IsCaseReply Plain IsCircuitAnswer input reply
+      → IsOfCase Plain input HasCircuit → status_of reply ≡ statuses.Done
+  pub provable : (input : List ℕ) (reply : Reply) → IsCaseReply Plain IsProveAnswer input reply
+      → IsOfCase Plain input HasCircuit → status_of reply ≡ statuses.Done
+  pub demo : (number : ℕ) (reply : Reply) → IsDemoAnswer number reply
+      → status_of reply ≡ statuses.Done
+  pub accepted : (input : List ℕ) (reply : Reply) → IsCaseReply Full IsVerifyAnswer input reply
+      → IsOfCase Full input HasAcceptedProof → status_of reply ≡ statuses.Done
+  pub sound : (c : Content) → IsVerdictOn c verdicts.Accepted → ¬ HasMeaning c
+      → (n : ℕ) × HasExceptionalChallenge c n
+  pub proved_accepted : (c p : Content) → IsProved c p → IsVerdictOn p verdicts.Accepted
+  pub proved_full : (c p : Content) → Fits c → IsProved c p → Spells Full (lower_case_text p) p
+  pub proved_short : (c p : Content) → Fits c → IsProved c p
+      → length (lower_case_text p) < 4194304
+  pub exactly : (form : Form) (bytes : List ℕ) (c : Content)
+      → (reading form bytes ≡ Ok c) ↔ Spells form bytes c
