@@ -1,8 +1,8 @@
 pub mod Demo
 pub mod Finished
 pub mod Headline
-pub mod RunLaws
 pub mod Programs
 pub mod Reached
 pub mod Replies
+pub mod RunLaws
 pub mod Runs
