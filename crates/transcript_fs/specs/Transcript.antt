@@ -8,6 +8,12 @@ use Rattle.field_ext.specs.Bytes.{bytes_of}
 use Rattle.field_ext.specs.Field.{F, K, of}
 use Rattle.transcript_fs.specs.Source.{Source}
 
+-- a program's text, its inputs and its outputs
+pub record Stated : Type 0 where
+  pub text : List ℕ
+  pub inputs : List F
+  pub outputs : List F
+
 -- a number below p as 4 bytes
 abbrev pub number_bytes : F → List ℕ
 number_bytes x = to_le_bytes w32 x.value

@@ -2,6 +2,7 @@ ghost use Rattle.std.specs.Prelude.{◌≡◌, ◌≤◌, length};
 ghost use Rattle.std.specs.Int.{w64, from_le_bytes};
 ghost use Rattle.transcript_fs.specs.Transcript.{element_in};
 
+use byteorder::{ByteOrder, LittleEndian};
 use field_ext::{Ext, Fp};
 
 /// The element of the numbers in the first 8 bytes and in the next 8.
@@ -19,7 +20,5 @@ fn leading_number(bytes: &[u8]) -> u64
     requires { 8 ≤ length bytes.now }
     ensures { result ≡ from_le_bytes w64 bytes.now }
 {
-    u64::from_le_bytes([
-        bytes[0], bytes[1], bytes[2], bytes[3], bytes[4], bytes[5], bytes[6], bytes[7],
-    ])
+    LittleEndian::read_u64(bytes)
 }

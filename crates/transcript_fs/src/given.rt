@@ -1,21 +1,32 @@
-ghost use Rattle.std.specs.Prelude.{◌≡◌, ◌≤◌, drop, vec_len};
+ghost use Rattle.std.specs.Prelude.{◌≡◌};
 ghost use Rattle.transcript_fs.specs.Given.{numbers_of, given};
 
 use crate::challenges::Challenges;
 use field_ext::Ext;
+use std::marker::Model;
 
-/// Hands out the challenges of a list, and takes in nothing.
+/// Hands out the challenges of a list, and takes in nothing. Contracts see those that are left.
 #[derive(Drop)]
 pub struct Given {
     challenges: Vec<Ext>,
     next: usize,
-    ghost within: { next ≤ vec_len challenges },
+}
+
+impl Model for Given {
+    ghost use Rattle.std.specs.Prelude.{◌≤◌, List, drop, vec_len};
+    ghost use Rattle.field_ext.specs.Field.{K};
+
+    ghost Value = { List K };
+
+    ghost view = { λ g. drop g.next g.challenges.items };
+
+    ghost invariant = { λ g. g.next ≤ vec_len g.challenges };
 }
 
 impl Given {
     /// A source of these challenges.
     pub fn of(challenges: Vec<Ext>) -> Given
-        ensures { numbers_of (drop result.next result.challenges.items) ≡ numbers_of challenges.items }
+        ensures { result ≡ challenges.items }
     {
         Given {
             challenges,
@@ -27,7 +38,7 @@ impl Given {
 impl Challenges for Given {
     ghost source = { given };
 
-    ghost state = { λ source. numbers_of (drop source.next source.challenges.items) };
+    ghost state = { λ left. numbers_of left };
 
     fn absorb(&mut self, _message: &[Ext]) {}
 

@@ -7,18 +7,29 @@ use crate::feeding::{feed_elements, feed_statement};
 use crate::statement::Statement;
 use field_ext::Ext;
 use sha2::{Digest, Sha256};
+use std::marker::Model;
 
 /// The Fiat-Shamir transcript: challenges that are hashes of the statement and of all messages before them. There
-/// are always more of them.
+/// are always more of them. Contracts see its state, the last hash.
 #[derive(Clone, Copy)]
 pub struct Transcript {
     state: [u8; 32],
 }
 
+impl Model for Transcript {
+    ghost use Rattle.std.specs.Prelude.{ℕ, List};
+
+    ghost Value = { List ℕ };
+
+    ghost view = { λ t. t.state };
+
+    ghost inverse = { λ state. record { state = state } };
+}
+
 impl Transcript {
     /// The transcript that has taken in the statement alone.
     pub fn start(statement: &Statement) -> Transcript
-        ensures { result.state ≡ start_state statement.now.text.now statement.now.inputs.now statement.now.outputs.now }
+        ensures { result ≡ start_state statement.now.text statement.now.inputs statement.now.outputs }
     {
         let mut hasher = Sha256::new();
         hasher.update(b"gkr-transcript-1\n".as_slice());
@@ -32,7 +43,7 @@ impl Transcript {
 impl Challenges for Transcript {
     ghost source = { transcript };
 
-    ghost state = { λ t. t.state };
+    ghost state = { λ state. state };
 
     fn absorb(&mut self, message: &[Ext]) {
         let mut hasher = Sha256::new();

@@ -10,7 +10,7 @@ use Rattle.case_prove.proofs.proving.honest_messages.Goals as goal
 pub returns-clause-honest : goal.returns-clause-honest
 returns-clause-honest g c =
     let case = c.args.case.now in
-    let start : c.start-challenges.result.state ≡ start_state c.args.case.now.program c.args.case.now.inputs c.args.outputs.now =
+    let start : c.start-challenges.result ≡ start_state c.args.case.now.program c.args.case.now.inputs c.args.outputs.now =
     same_start _ case.program _ case.inputs _ c.args.outputs.now _ (c.of-statement.ensures.text ∙ c.program.ensures.program) (c.of-statement.ensures.inputs ∙ c.inputs.ensures.inputs) c.of-statement.ensures.outputs c.start-challenges.ensures in
     IfOk-weaker c.prove.result _ _
     (λ messages honest. subst (λ (s : List ℕ). IsHonestProof c.args.circuit.now.parts case.inputs transcript s (all_messages messages.layers.items)) start (honest case.inputs c.requires.tables))
