@@ -43,8 +43,8 @@ coefficient_bytes (x ∷ xs) =
 
 proof_bytes : (messages : Messages) → IsBytes (spelling messages)
 proof_bytes messages =
-    joined_bytes magic (flat_map bytes_of (all_coefficients messages.layers.items))
-    (four_bytes 71 75 82 49 (omega arith) (omega arith) (omega arith) (omega arith)) (coefficient_bytes (all_coefficients messages.layers.items))
+    joined_bytes magic (flat_map bytes_of (all_coefficients messages.layers))
+    (four_bytes 71 75 82 49 (omega arith) (omega arith) (omega arith) (omega arith)) (coefficient_bytes (all_coefficients messages.layers))
 
 pub spells : (program : List ℕ) (inputs outputs : List F) (messages : Messages) →
     let c : Content = record { program = program; inputs = inputs; outputs = Some outputs; proof = Some (spelling messages) } in

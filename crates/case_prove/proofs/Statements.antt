@@ -20,7 +20,7 @@ same_start text text' inputs inputs' outputs outputs' state of_text of_inputs of
 abbrev pub verdict_from : Parts → List F → List F → Messages → List ℕ → Verdict
 verdict_from parts inputs outputs messages state =
     let stated = claim_of parts inputs outputs in
-    let qs = all_messages messages.layers.items in
+    let qs = all_messages messages.layers in
     verdict_of stated qs (all_draws transcript state stated.k qs)
 
 pub of_statement : (c : Content) (parts : Parts) (outputs : List F) (messages : Messages) (v : Verdict) (inputs text_inputs text_outputs : List F) (text state : List ℕ)

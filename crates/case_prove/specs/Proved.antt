@@ -1,12 +1,12 @@
 -- What the prover says of a case: the case with its outputs and the proof of them.
-use Rattle.std.specs.Prelude.{◌≡◌, List, Some}
+use Rattle.std.specs.Prelude.{◌≡◌, List, drop, Some}
 use Rattle.field_ext.specs.Field.{F}
 use Rattle.circuit_core.specs.Parts.{Parts}
 use Rattle.circuit_core.specs.Sound.{exponents}
 use Rattle.proof_wire.specs.declared.messages.Messages.{Messages}
-use Rattle.proof_wire.specs.Spelling.{AreOf, spelling}
+use Rattle.proof_wire.specs.Spelling.{spelling}
 use Rattle.transcript_fs.specs.Transcript.{start_state, transcript}
-use Rattle.proof_wire.specs.Lists.{all_messages}
+use Rattle.proof_wire.specs.Lists.{all_messages, HaveShape}
 use Rattle.gkr_layers.specs.Honest.{IsHonestProof}
 use Rattle.arr_compile.specs.Circuits.{IsCompiled}
 use Rattle.case_text.specs.Content.{Content}
@@ -20,6 +20,6 @@ pub record IsProved (c proved : Content) : Type 0 where
   pub outputs : List F
   pub evaluated : IsEvaluated c outputs
   pub messages : Messages
-  pub of_shape : AreOf (exponents parts) messages
-  pub honest : IsHonestProof parts c.inputs transcript (start_state c.program c.inputs outputs) (all_messages messages.layers.items)
+  pub of_shape : HaveShape (drop 1 (exponents parts)) messages.layers
+  pub honest : IsHonestProof parts c.inputs transcript (start_state c.program c.inputs outputs) (all_messages messages.layers)
   pub proved_is : proved ≡ record { program = c.program; inputs = c.inputs; outputs = Some outputs; proof = Some (spelling messages) }

@@ -1,14 +1,14 @@
 -- What an accepted case with other outputs than its program's meaning has.
-use Rattle.std.specs.Prelude.{◌≡◌, ℕ, List, Some}
+use Rattle.std.specs.Prelude.{◌≡◌, ℕ, List, drop, Some}
 use Rattle.field_ext.specs.Field.{F}
 use Rattle.circuit_core.specs.Parts.{Parts}
 use Rattle.circuit_core.specs.Sound.{exponents}
 use Rattle.proof_wire.specs.declared.messages.Messages.{Messages}
-use Rattle.proof_wire.specs.Spelling.{AreOf, spelling}
+use Rattle.proof_wire.specs.Spelling.{spelling}
 use Rattle.transcript_fs.specs.Source.{all_draws}
 use Rattle.transcript_fs.specs.Transcript.{start_state, transcript}
 use Rattle.gkr_layers.specs.Acceptance.{claim_of}
-use Rattle.proof_wire.specs.Lists.{all_messages}
+use Rattle.proof_wire.specs.Lists.{all_messages, HaveShape}
 use Rattle.gkr_layers.specs.Soundness.{LetsPass}
 use Rattle.case_text.specs.Content.{Content}
 use Rattle.case_prove.specs.Evaluated.{IsEvaluated}
@@ -26,9 +26,9 @@ pub record HasExceptionalChallenge (c : Content) (n : ℕ) : Type 0 where
   pub outputs : List F
   pub claim : IsClaim c parts outputs
   pub messages : Messages
-  pub of_shape : AreOf (exponents parts) messages
+  pub of_shape : HaveShape (drop 1 (exponents parts)) messages.layers
   pub spelled : c.proof ≡ Some (spelling messages)
   pub passes :
       let stated = claim_of parts c.inputs outputs in
-      let qs = all_messages messages.layers.items in
+      let qs = all_messages messages.layers in
       LetsPass stated qs (all_draws transcript (start_state c.program c.inputs outputs) stated.k qs) n

@@ -1,16 +1,16 @@
 -- What the verifier says of a case: its verdict on the proof, or why there is none.
-use Rattle.std.specs.Prelude.{◌≡◌, ◌≢◌, ℕ, List, length, Some}
+use Rattle.std.specs.Prelude.{◌≡◌, ◌≢◌, ℕ, List, length, drop, Some}
 use Rattle.field_ext.specs.Field.{F}
 use Rattle.circuit_core.specs.Parts.{Parts}
 use Rattle.circuit_core.specs.Sound.{exponents}
 use Rattle.proof_wire.specs.declared.messages.Messages.{Messages}
 use Rattle.proof_wire.specs.declared.refused.BadProof.{BadProof}
-use Rattle.proof_wire.specs.Spelling.{AreOf, spelling}
+use Rattle.proof_wire.specs.Spelling.{spelling}
 use Rattle.proof_wire.specs.Trouble.{TroubleIs}
 use Rattle.transcript_fs.specs.Source.{all_draws}
 use Rattle.transcript_fs.specs.Transcript.{start_state, transcript}
 use Rattle.gkr_layers.specs.Acceptance.{claim_of, verdict_of}
-use Rattle.proof_wire.specs.Lists.{all_messages}
+use Rattle.proof_wire.specs.Lists.{all_messages, HaveShape}
 use Rattle.gkr_layers.specs.declared.verdict.Verdict.{Verdict}
 use Rattle.arr_compile.specs.Circuits.{IsCompiled, IsCircuitRefusal}
 use Rattle.case_text.specs.Content.{Content}
@@ -28,7 +28,7 @@ pub record IsClaim (c : Content) (parts : Parts) (outputs : List F) : Type 0 whe
 abbrev pub transcript_verdict : Content → Parts → List F → Messages → Verdict
 transcript_verdict c parts outputs messages =
     let stated = claim_of parts c.inputs outputs in
-    let qs = all_messages messages.layers.items in
+    let qs = all_messages messages.layers in
     verdict_of stated qs (all_draws transcript (start_state c.program c.inputs outputs) stated.k qs)
 
 -- The case's proof spells messages of the circuit's shape, and this is the first equation of acceptance that fails, or none.
@@ -38,7 +38,7 @@ pub record IsVerdictOn (c : Content) (verdict : Verdict) : Type 0 where
   pub claim : IsClaim c parts outputs
   pub as_many : length outputs ≡ parts.outputs
   pub messages : Messages
-  pub of_shape : AreOf (exponents parts) messages
+  pub of_shape : HaveShape (drop 1 (exponents parts)) messages.layers
   pub spelled : c.proof ≡ Some (spelling messages)
   pub verdict_is : verdict ≡ transcript_verdict c parts outputs messages
 

@@ -3,9 +3,8 @@
 ghost use Rattle.std.specs.Prelude.{◌≡◌, ◌<◌, ◌^◌, length, map, take, drop, IfOk, IfErr};
 ghost use Rattle.circuit_core.specs.Sound.{exponents};
 ghost use Rattle.circuit_eval.specs.Tables.{AreTables};
-ghost use Rattle.proof_wire.specs.Spelling.{AreOf};
 ghost use Rattle.transcript_fs.specs.Transcript.{start_state, transcript};
-ghost use Rattle.proof_wire.specs.Lists.{all_messages};
+ghost use Rattle.proof_wire.specs.Lists.{all_messages, HaveShape};
 ghost use Rattle.gkr_layers.specs.Honest.{IsHonestProof};
 ghost use Rattle.phase_run.specs.Work.{IsWorkerCount};
 ghost use Rattle.arr_compile.specs.Circuits.{IsCompiled};
@@ -112,8 +111,8 @@ fn honest_messages<R: Threads + Sync, G: Gate>(
     requires workers { IsWorkerCount workers }
     requires tables { AreTables circuit.now.parts case.now.inputs values.now }
     requires few { length outputs.now < 2 ^ 32 }
-    ensures honest { IfOk result (λ messages. IsHonestProof circuit.now.parts case.now.inputs transcript (start_state case.now.program case.now.inputs outputs.now) (all_messages messages.layers.items)) }
-    ensures shape { IfOk result (λ messages. AreOf (exponents circuit.now.parts) messages) }
+    ensures honest { IfOk result (λ messages. IsHonestProof circuit.now.parts case.now.inputs transcript (start_state case.now.program case.now.inputs outputs.now) (all_messages messages.layers)) }
+    ensures shape { IfOk result (λ messages. HaveShape (drop 1 (exponents circuit.now.parts)) messages.layers) }
 {
     always_has();
     let statement = Statement::of(case.program(), case.inputs(), outputs);

@@ -22,10 +22,12 @@ fn messages(alloc: Global) -> Result<Messages, AllocError> {
     ];
     let mut layers = Vec::new(alloc);
     layers.push(LayerMessages {
-        rounds: Vec::from_slice(alloc, &rounds)?,
-        line: Vec::from_slice(alloc, &[number(15), number(5)])?,
+        rounds: Listed::of(Vec::from_slice(alloc, &rounds)?),
+        line: Listed::of(Vec::from_slice(alloc, &[number(15), number(5)])?),
     })?;
-    Ok(Messages { layers })
+    Ok(Messages {
+        layers: Listed::of(layers),
+    })
 }
 
 fn one_and_one(alloc: Global) -> Result<Shape, AllocError> {

@@ -1,18 +1,16 @@
 -- A case has at most one answer of `verify`, and that to a case whose proof meets every equation is that it is accepted.
-use Rattle.std.proofs.Common.{◌≡◌, ℕ, List, [], ◌∷◌, ◌++◌, length, map, subst, Option, Some, refl, sym, ap, ◌∙◌}
+use Rattle.std.proofs.Common.{◌≡◌, ℕ, List, [], ◌∷◌, ◌++◌, length, drop, subst, Option, Some, refl, sym, ap, ◌∙◌}
 use Rattle.field_ext.specs.Field.{F, K}
 use Rattle.circuit_core.specs.Parts.{Parts}
 use Rattle.circuit_core.specs.Sound.{exponents}
-use Rattle.proof_wire.specs.declared.messages.Round.{Round}
-use Rattle.proof_wire.specs.declared.messages.LayerMessages.{LayerMessages}
 use Rattle.proof_wire.specs.declared.messages.Messages.{Messages}
 use Rattle.proof_wire.specs.declared.refused.BadProof.{BadProof}
-use Rattle.proof_wire.specs.Spelling.{AreOf, SameMessages, spelling}
+use Rattle.proof_wire.specs.Spelling.{spelling}
 use Rattle.proof_wire.specs.Trouble.{TroubleIs}
 use Rattle.transcript_fs.specs.Source.{all_draws}
 use Rattle.transcript_fs.specs.Transcript.{start_state, transcript}
 use Rattle.gkr_layers.specs.Acceptance.{claim_of, verdict_of}
-use Rattle.proof_wire.specs.Lists.{all_messages, messages_of, round_messages}
+use Rattle.proof_wire.specs.Lists.{all_messages, HaveShape}
 use Rattle.gkr_layers.specs.declared.verdict.Verdict.{Verdict}
 use Rattle.gkr_layers.specs.declared.verdict.Verdict.TheVariants as verdicts
 use Rattle.arr_compile.specs.declared.refused.BadProgram.{BadProgram}
@@ -32,9 +30,9 @@ use Rattle.gkr_cmd.proofs.OneReply.{OneAnswer}
 
 -- bytes spell the same messages or have one first trouble
 pub record IsOneProof : Type 0 where
-  pub reading : (ks : List ℕ) (some others : Messages) → AreOf ks some → AreOf ks others → spelling some ≡ spelling others → SameMessages some others
+  pub reading : (ks : List ℕ) (some others : Messages) → HaveShape (drop 1 ks) some.layers → HaveShape (drop 1 ks) others.layers → spelling some ≡ spelling others → some ≡ others
   pub trouble : (ks bytes : List ℕ) (trouble other : BadProof) → TroubleIs ks bytes trouble → TroubleIs ks bytes other → trouble ≡ other
-  pub none : (ks : List ℕ) (messages : Messages) (trouble : BadProof) → AreOf ks messages → TroubleIs ks (spelling messages) trouble → ⊥
+  pub none : (ks : List ℕ) (messages : Messages) (trouble : BadProof) → HaveShape (drop 1 ks) messages.layers → TroubleIs ks (spelling messages) trouble → ⊥
 
 -- what is said of a case
 pub data Answer (c : Content) : Reply → Type 0 where
@@ -108,47 +106,21 @@ spelled_or_not one proofs c bad v is is' =
     proofs.none (exponents is'.parts) is'.messages bad is'.of_shape
     (subst (λ (q : Parts). TroubleIs (exponents q) (spelling is'.messages) bad) parts (subst (λ (bytes : List ℕ). TroubleIs (exponents is.parts) bytes bad) proof is.trouble))
 
-abbrev rounds_of : LayerMessages → List Round
-rounds_of layer = layer.rounds.items
-
-abbrev line_of : LayerMessages → List K
-line_of layer = layer.line.items
-
-head_is : {A : Type 0} (x y : A) (xs ys : List A) → x ∷ xs ≡ y ∷ ys → x ≡ y
-head_is x y xs ys e = cc
-
-tail_is : {A : Type 0} (x y : A) (xs ys : List A) → x ∷ xs ≡ y ∷ ys → xs ≡ ys
-tail_is x y xs ys e = cc
-
-same_all : (xs ys : List LayerMessages) → map rounds_of xs ≡ map rounds_of ys → map line_of xs ≡ map line_of ys → all_messages xs ≡ all_messages ys
-same_all [] [] rounds lines = refl
-same_all [] (y ∷ ys) rounds lines = absurd cc
-same_all (x ∷ xs) [] rounds lines = absurd cc
-same_all (x ∷ xs) (y ∷ ys) rounds lines =
-    let round = head_is (rounds_of x) (rounds_of y) (map rounds_of xs) (map rounds_of ys) rounds in
-    let line = head_is (line_of x) (line_of y) (map line_of xs) (map line_of ys) lines in
-    let others = same_all xs ys (tail_is (rounds_of x) (rounds_of y) (map rounds_of xs) (map rounds_of ys) rounds) (tail_is (line_of x) (line_of y) (map line_of xs) (map line_of ys) lines) in
-    ap (λ (qs : List (List K)). messages_of x ++ qs) others
-    ∙ ap (λ (r : List Round). (round_messages r ++ line_of x ∷ []) ++ all_messages ys) round
-    ∙ ap (λ (l : List K). (round_messages (rounds_of y) ++ l ∷ []) ++ all_messages ys) line
-
--- the verdict reads the messages alone
-abbrev by_messages : Content → Parts → List F → List (List K) → Verdict
-by_messages c parts outputs qs =
+abbrev by_messages : Content → Parts → List F → Messages → Verdict
+by_messages c parts outputs messages =
     let stated = claim_of parts c.inputs outputs in
-    verdict_of stated qs (all_draws transcript (start_state c.program c.inputs outputs) stated.k qs)
+    verdict_of stated (all_messages messages.layers) (all_draws transcript (start_state c.program c.inputs outputs) stated.k (all_messages messages.layers))
 
 same_verdict : IsOne → IsOneProof → (c : Content) (v w : Verdict) → IsVerdictOn c v → IsVerdictOn c w → v ≡ w
 same_verdict one proofs c v w is is' =
     let parts = same_parts one c is'.parts is.parts is'.outputs is.outputs is'.claim is.claim in
     let outputs = same_outputs c is'.parts is.parts is'.outputs is.outputs is'.claim is.claim in
     let bytes = one_list c.proof (spelling is.messages) (spelling is'.messages) is.spelled is'.spelled in
-    let same = proofs.reading (exponents is.parts) is.messages is'.messages is.of_shape (subst (λ (q : Parts). AreOf (exponents q) is'.messages) parts is'.of_shape) bytes in
-    let messages = same_all is.messages.layers.items is'.messages.layers.items same.rounds same.lines in
+    let messages : is.messages ≡ is'.messages = proofs.reading (exponents is.parts) is.messages is'.messages is.of_shape (subst (λ (q : Parts). HaveShape (drop 1 (exponents q)) is'.messages.layers) parts is'.of_shape) bytes in
     is.verdict_is
     ∙ ap (by_messages c is.parts is.outputs) messages
-    ∙ ap (λ (o : List F). by_messages c is.parts o (all_messages is'.messages.layers.items)) (sym outputs)
-    ∙ ap (λ (q : Parts). by_messages c q is'.outputs (all_messages is'.messages.layers.items)) (sym parts)
+    ∙ ap (λ (o : List F). by_messages c is.parts o is'.messages) (sym outputs)
+    ∙ ap (λ (q : Parts). by_messages c q is'.outputs is'.messages) (sym parts)
     ∙ sym is'.verdict_is
 
 one_answer : IsOne → IsOneProof → (c : Content) {a b : Reply} → Answer c a → Answer c b → a ≡ b

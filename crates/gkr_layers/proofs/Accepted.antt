@@ -21,7 +21,7 @@ pub first_fails : (b : Bool) (x y : Verdict) → b ≡ false → (if b then x el
 first_fails b x y e = ap (λ (c : Bool). if c then x else y) e
 
 -- whether the answer is that every equation holds
-abbrev accepts : Verdict → Bool
+abbrev pub accepts : Verdict → Bool
 accepts Accepted = true
 accepts (Sum a b c d) = false
 accepts (End a b c) = false
@@ -30,7 +30,7 @@ accepts (Input a b) = false
 apart : false ≡ true → ⊥
 apart e = subst (λ (b : Bool). MatchBool b ⊥ (Unit {0})) e tt
 
-differ : {v : Verdict} → accepts v ≡ false → v ≡ Accepted → ⊥
+pub differ : {v : Verdict} → accepts v ≡ false → v ≡ Accepted → ⊥
 differ {v} e h = apart (sym e ∙ ap accepts h)
 
 both : (a b : Bool) → (a && b) ≡ true → (a ≡ true) × (b ≡ true)

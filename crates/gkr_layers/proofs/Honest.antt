@@ -6,8 +6,7 @@ use Rattle.circuit_core.specs.Sound.{SoundCircuit, exponents}
 use Rattle.transcript_fs.specs.Source.{Source, coordinates, state_after_coordinates, draws, all_draws}
 use Rattle.transcript_fs.proofs.Draws.{length-draws, length-coordinates, point_front, point_rest}
 use Rattle.proof_wire.specs.declared.messages.Messages.{Messages}
-use Rattle.proof_wire.specs.Spelling.{AreOf}
-use Rattle.proof_wire.specs.Lists.{all_messages}
+use Rattle.proof_wire.specs.Lists.{all_messages, HaveShape}
 use Rattle.gkr_layers.specs.declared.verdict.Verdict.TheVariants.{Accepted}
 use Rattle.gkr_layers.specs.Places.{value_over}
 use Rattle.gkr_layers.specs.Places.Place.{At}
@@ -47,9 +46,9 @@ honest_of_circuit form c inputs outputs source s qs count are size honest =
 
 -- of a proof by lines
 pub honest_proof : (c : SoundCircuit) (inputs outputs : List F) (source : Source) (s : List ℕ) (messages : Messages) → length outputs ≡ c.parts.outputs →
-    outputs ≡ take (length outputs) (drop 1 (layer_values c.parts inputs 0)) → AreOf (exponents c.parts) messages →
-    let stated = claim_of c.parts inputs outputs in let qs = all_messages messages.layers.items in
+    outputs ≡ take (length outputs) (drop 1 (layer_values c.parts inputs 0)) → HaveShape (drop 1 (exponents c.parts)) messages.layers →
+    let stated = claim_of c.parts inputs outputs in let qs = all_messages messages.layers in
     IsHonestProof c.parts inputs source s qs → verdict_of stated qs (all_draws source s stated.k qs) ≡ Accepted
 honest_proof c inputs outputs source s messages count are shape honest =
     let stated : CircuitClaim = claim_of c.parts inputs outputs in
-    honest_of_circuit stated.form c inputs outputs source s (all_messages messages.layers.items) count are (length-all stated.layers messages.layers.items (have_shape c.parts messages shape)) honest
+    honest_of_circuit stated.form c inputs outputs source s (all_messages messages.layers) count are (length-all stated.layers messages.layers (have_shape c.parts messages shape)) honest

@@ -11,6 +11,7 @@ pub mod Widths
 pub mod Forms
 pub mod SoundLayers
 pub mod Accepted
+pub mod Answers
 pub mod Earlier
 pub mod Few
 pub mod Sound

@@ -1,5 +1,5 @@
 -- Messages of a circuit's shape, and what follows where they are accepted
-use Rattle.std.proofs.Common.{◌≡◌, ℕ, zero, suc, ◌+◌, ◌-◌, ◌*◌, ◌^◌, ◌<◌, ◌≤◌, List, [], ◌∷◌, ◌++◌, All, length, map, take, drop, get_or, replicate, refl, sym, ◌∙◌, ap, subst, arith, append_assoc, length-append, add-one, IsTrue}
+use Rattle.std.proofs.Common.{◌≡◌, ℕ, zero, suc, ◌+◌, ◌-◌, ◌^◌, ◌<◌, ◌≤◌, List, [], ◌∷◌, ◌++◌, All, length, map, take, drop, get_or, replicate, refl, sym, ◌∙◌, ap, subst, arith, append_assoc, length-append, add-one, IsTrue}
 use Rattle.std.specs.List.{range_with_len}
 use Rattle.std.proofs.lemmas.List.{length-map}
 use Rattle.field_ext.specs.Field.{F, K, embed_k}
@@ -7,7 +7,7 @@ use Rattle.circuit_core.specs.declared.gate.CircuitGate.{CircuitGate}
 use Rattle.circuit_core.specs.Parts.{Parts, height, width_of, leaf_value, padded_values, layer_values, zero_f}
 use Rattle.circuit_core.specs.Sound.{SoundCircuit, exponent_at, exponents}
 use Rattle.circuit_core.proofs.Faultless.{none_from_test, width_bounds, leaves_room}
-use Rattle.gkr_layers.specs.Layers.{GateLayer, layers_from, layers_of, message_count}
+use Rattle.gkr_layers.specs.Layers.{GateLayer, layers_from, layers_of, lower_exponents, message_count}
 use Rattle.circuit_core.proofs.Sizes.{size_of}
 use Rattle.gkr_layers.proofs.Circuits.{layers_fit, input_size, length-layers, over-embed, input_width, length-table}
 use Rattle.wiring_poly.proofs.Identity.{take-front}
@@ -15,10 +15,9 @@ use Rattle.transcript_fs.specs.Source.{Source, coordinates, state_after_coordina
 use Rattle.proof_wire.specs.declared.messages.LayerMessages.{LayerMessages}
 use Rattle.proof_wire.specs.declared.messages.Messages.{Messages}
 use Rattle.proof_wire.specs.declared.messages.Round.{Round}
-use Rattle.proof_wire.specs.Spelling.{AreOf, coefficients_of}
+use Rattle.proof_wire.specs.Spelling.{coefficients_of}
 use Rattle.gkr_layers.specs.declared.verdict.Verdict.TheVariants.{Accepted}
-use Rattle.proof_wire.specs.Lists.{messages_of, all_messages, round_messages, HasShape}
-use Rattle.gkr_layers.specs.Shapes.{HaveShape}
+use Rattle.proof_wire.specs.Lists.{messages_of, all_messages, round_messages, HasShape, HaveShape}
 use Rattle.gkr_layers.specs.Acceptance.{CircuitClaim, claim_in, claim_of, true_table, challenge_count, verdict_of}
 use Rattle.gkr_layers.specs.Soundness.{HaveDegrees, IsFalse, LetsPass}
 use Rattle.gkr_layers.proofs.Lists.{front-take, next-read, rest-drop}
@@ -28,7 +27,7 @@ use Rattle.gkr_layers.specs.Forms.Form.{Line}
 use Rattle.gkr_layers.proofs.Sound.{lets_pass}
 
 pub length-messages : (k : ℕ) (m : LayerMessages) → HasShape k m → length (messages_of m) ≡ k + k + 1
-length-messages k m h = omega (arith, length-append (map coefficients_of m.rounds.items) (m.line.items ∷ []), length-map m.rounds.items coefficients_of, h.rounds)
+length-messages k m h = omega (arith, length-append (map coefficients_of m.rounds) (m.line ∷ []), length-map m.rounds coefficients_of, h.rounds)
 
 -- the challenges of a layer and of those below it are there
 module _ (source : Source) (s : List ℕ) (layer : GateLayer) (layers : List GateLayer) (has : IsTrue (source.has s (message_count (layer ∷ layers)))) where
@@ -38,34 +37,31 @@ module _ (source : Source) (s : List ℕ) (layer : GateLayer) (layers : List Gat
   pub has_below : (m : LayerMessages) → HasShape layer.k m → IsTrue (source.has (state_after source s (messages_of m)) (message_count layers))
   has_below m h = has_behind source s (messages_of m) (message_count layers) (subst (λ (n : ℕ). IsTrue (source.has s (n + message_count layers))) (sym (length-messages layer.k m h)) has)
 
-have_from : (p : Parts) (i : ℕ) (layers : List (List CircuitGate)) (ms : List LayerMessages) →
-    map (λ layer. length layer.rounds.items) ms ≡ map (λ k. 2 * k) (map (exponent_at p) (range_with_len (i + 1) (length layers))) →
-    map (λ layer. length layer.line.items) ms ≡ map (λ k. k + 1) (map (exponent_at p) (range_with_len (i + 1) (length layers))) → HaveShape (layers_from p i layers) ms
-have_from p i [] [] e f = tt
-have_from p i [] (m ∷ ms) e f = absurd (let u : suc (length (map (λ layer. length layer.rounds.items) ms)) ≡ 0 = ap length e in omega (arith, u))
-have_from p i (gates ∷ layers) [] e f = absurd (let u : 0 ≡ suc (length (map (λ (k : ℕ). 2 * k) (map (exponent_at p) (range_with_len (i + 1 + 1) (length layers))))) = ap length e in omega (arith, u))
-have_from p i (gates ∷ layers) (m ∷ ms) e f =
-    let two : length m.rounds.items ≡ 2 * exponent_at p (i + 1) = ap (λ (xs : List ℕ). get_or xs 0 0) e in (
-      record { rounds = omega (arith, two); line = ap (λ (xs : List ℕ). get_or xs 0 0) f },
-      have_from p (i + 1) layers ms (ap (λ (xs : List ℕ). drop 1 xs) e) (ap (λ (xs : List ℕ). drop 1 xs) f),
-    )
+exponents_from : (p : Parts) (i : ℕ) (layers : List (List CircuitGate)) → lower_exponents (layers_from p i layers) ≡ map (exponent_at p) (range_with_len (i + 1) (length layers))
+exponents_from p i [] = refl
+exponents_from p i (gates ∷ layers) = ap (λ (ks : List ℕ). exponent_at p (i + 1) ∷ ks) (exponents_from p (i + 1) layers)
 
--- messages of a circuit's shape are so for each layer
-pub have_shape : (p : Parts) (messages : Messages) → AreOf (exponents p) messages → HaveShape (layers_of p) messages.layers.items
-have_shape p messages h =
-    let one : drop 1 (exponents p) ≡ map (exponent_at p) (range_with_len (0 + 1) (height p)) = ap (λ (n : ℕ). drop 1 (map (exponent_at p) (range_with_len 0 n))) (add-one (height p)) in
-    have_from p 0 p.layers messages.layers.items (h.rounds ∙ ap (λ (ks : List ℕ). map (λ k. 2 * k) ks) one) (h.lines ∙ ap (λ (ks : List ℕ). map (λ k. k + 1) ks) one)
+-- the layers below are those of the circuit but its first
+lower_exponents_of : (p : Parts) → lower_exponents (layers_of p) ≡ drop 1 (exponents p)
+lower_exponents_of p = exponents_from p 0 p.layers ∙ sym (ap (λ (n : ℕ). drop 1 (map (exponent_at p) (range_with_len 0 n))) (add-one (height p)))
 
-same_length : (layers : List GateLayer) (ms : List LayerMessages) → HaveShape layers ms → length ms ≡ length layers
+-- messages of a circuit's shape are so for each layer, and the other way round
+pub have_shape : (p : Parts) (messages : Messages) → HaveShape (drop 1 (exponents p)) messages.layers → HaveShape (lower_exponents (layers_of p)) messages.layers
+have_shape p messages h = subst (λ (ks : List ℕ). HaveShape ks messages.layers) (sym (lower_exponents_of p)) h
+
+pub have_circuit_shape : (p : Parts) (layers : List LayerMessages) → HaveShape (lower_exponents (layers_of p)) layers → HaveShape (drop 1 (exponents p)) layers
+have_circuit_shape p layers h = subst (λ (ks : List ℕ). HaveShape ks layers) (lower_exponents_of p) h
+
+same_length : (layers : List GateLayer) (ms : List LayerMessages) → HaveShape (lower_exponents layers) ms → length ms ≡ length layers
 same_length [] [] h = refl
 same_length [] (m ∷ ms) h = absurd h
 same_length (layer ∷ layers) [] h = absurd h
 same_length (layer ∷ layers) (m ∷ ms) h = ap (λ (n : ℕ). suc n) (same_length layers ms h.1)
 
-pub messages_height : (p : Parts) (messages : Messages) → AreOf (exponents p) messages → length messages.layers.items ≡ height p
-messages_height p messages h = same_length (layers_of p) messages.layers.items (have_shape p messages h) ∙ length-layers p 0 p.layers
+pub messages_height : (p : Parts) (messages : Messages) → HaveShape (drop 1 (exponents p)) messages.layers → length messages.layers ≡ height p
+messages_height p messages h = same_length (layers_of p) messages.layers (have_shape p messages h) ∙ length-layers p 0 p.layers
 
-pub length-all : (layers : List GateLayer) (ms : List LayerMessages) → HaveShape layers ms → length (all_messages ms) ≡ message_count layers
+pub length-all : (layers : List GateLayer) (ms : List LayerMessages) → HaveShape (lower_exponents layers) ms → length (all_messages ms) ≡ message_count layers
 length-all [] [] h = refl
 length-all [] (m ∷ ms) h = absurd h
 length-all (layer ∷ layers) [] h = absurd h
@@ -82,21 +78,21 @@ three_each rounds i d u =
     at (round ∷ rounds) zero d u = omega arith
     at (round ∷ rounds) (suc i) d u = at rounds i d (omega arith)
 
-degrees_of : (layers : List GateLayer) (ms : List LayerMessages) → HaveShape layers ms → HaveDegrees Line layers (all_messages ms)
+degrees_of : (layers : List GateLayer) (ms : List LayerMessages) → HaveShape (lower_exponents layers) ms → HaveDegrees Line layers (all_messages ms)
 degrees_of [] [] h = tt
 degrees_of [] (m ∷ ms) h = absurd h
 degrees_of (layer ∷ layers) [] h = absurd h
 degrees_of (layer ∷ layers) (m ∷ ms) h =
     let k = layer.k in
-    let rounds : List (List K) = round_messages m.rounds.items in
-    let line : List K = m.line.items in
+    let rounds : List (List K) = round_messages m.rounds in
+    let line : List K = m.line in
     let rest : List (List K) = all_messages ms in
-    let flat : (round_messages m.rounds.items ++ m.line.items ∷ []) ++ all_messages ms ≡ round_messages m.rounds.items ++ m.line.items ∷ all_messages ms = append_assoc rounds (line ∷ []) rest in
-    let count : length (round_messages m.rounds.items) ≡ layer.k + layer.k = length-map m.rounds.items coefficients_of ∙ h.0.rounds in
+    let flat : (round_messages m.rounds ++ m.line ∷ []) ++ all_messages ms ≡ round_messages m.rounds ++ m.line ∷ all_messages ms = append_assoc rounds (line ∷ []) rest in
+    let count : length (round_messages m.rounds) ≡ layer.k + layer.k = length-map m.rounds coefficients_of ∙ h.0.rounds in
     let after : layer.k + layer.k + 1 ≡ suc (layer.k + layer.k) = omega arith in
-    let last : length m.line.items ≤ layer.k + 1 = omega (arith, h.0.line) in
+    let last : length m.line ≤ layer.k + 1 = omega (arith, h.0.line) in
     subst (λ (qs : List (List K)). HaveDegrees Line (layer ∷ layers) qs) (sym flat) (
-      subst (λ (qs : List (List K)). All (λ q. length q ≤ 3) qs) (sym (front-take rounds (line ∷ rest) (k + k) count)) (three_each m.rounds.items),
+      subst (λ (qs : List (List K)). All (λ q. length q ≤ 3) qs) (sym (front-take rounds (line ∷ rest) (k + k) count)) (three_each m.rounds),
       subst (λ (q : List K). length q ≤ layer.k + 1) (sym (next-read rounds rest line [] (k + k) count)) last,
       subst (λ (qs : List (List K)). HaveDegrees Line layers qs) (sym (rest-drop rounds rest line (k + k) (k + k + 1) count after)) (degrees_of layers ms h.1),
     )
@@ -106,11 +102,11 @@ length-challenges source s stated qs e =
     omega (arith, length-append (coordinates source s stated.k) (draws source (state_after_coordinates source s stated.k) qs), length-coordinates source s stated.k, length-draws source (state_after_coordinates source s stated.k) qs, e)
 
 -- a source gives as many challenges for messages of the shape
-pub drawn : (p : Parts) (inputs outputs : List F) (source : Source) (s : List ℕ) (messages : Messages) → AreOf (exponents p) messages →
-    length (all_draws source s (exponent_at p 0) (all_messages messages.layers.items)) ≡ challenge_count (claim_of p inputs outputs)
+pub drawn : (p : Parts) (inputs outputs : List F) (source : Source) (s : List ℕ) (messages : Messages) → HaveShape (drop 1 (exponents p)) messages.layers →
+    length (all_draws source s (exponent_at p 0) (all_messages messages.layers)) ≡ challenge_count (claim_of p inputs outputs)
 drawn p inputs outputs source s messages shape =
     let stated : CircuitClaim = claim_of p inputs outputs in
-    length-challenges source s stated (all_messages messages.layers.items) (length-all stated.layers messages.layers.items (have_shape p messages shape))
+    length-challenges source s stated (all_messages messages.layers) (length-all stated.layers messages.layers (have_shape p messages shape))
 
 -- the outputs stand behind position 0
 pub outputs_room : (c : SoundCircuit) → c.parts.outputs < width_of c.parts 0
@@ -150,9 +146,9 @@ module _ (c : SoundCircuit) (inputs outputs : List F) (count : length outputs �
       all drawn' accepted (λ e. false' (outputs_true form e)) degrees
 
   -- and for messages of the shape of a proof
-  pub sound : (messages : Messages) (rs : List K) → AreOf (exponents c.parts) messages → length rs ≡ challenge_count (claim_of c.parts inputs outputs) →
-      verdict_of (claim_of c.parts inputs outputs) (all_messages messages.layers.items) rs ≡ Accepted → IsFalse c.parts inputs outputs →
-      (n : ℕ) × LetsPass (claim_of c.parts inputs outputs) (all_messages messages.layers.items) rs n
+  pub sound : (messages : Messages) (rs : List K) → HaveShape (drop 1 (exponents c.parts)) messages.layers → length rs ≡ challenge_count (claim_of c.parts inputs outputs) →
+      verdict_of (claim_of c.parts inputs outputs) (all_messages messages.layers) rs ≡ Accepted → IsFalse c.parts inputs outputs →
+      (n : ℕ) × LetsPass (claim_of c.parts inputs outputs) (all_messages messages.layers) rs n
   sound messages rs shape drawn' accepted false' =
       let have = have_shape c.parts messages shape in
-      sound_in Line (all_messages messages.layers.items) rs (degrees_of (layers_of c.parts) messages.layers.items have) (length-all (layers_of c.parts) messages.layers.items have) drawn' accepted false'
+      sound_in Line (all_messages messages.layers) rs (degrees_of (layers_of c.parts) messages.layers have) (length-all (layers_of c.parts) messages.layers have) drawn' accepted false'

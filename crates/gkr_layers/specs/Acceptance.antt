@@ -3,13 +3,14 @@ use Rattle.std.specs.Prelude.{ℕ, ◌+◌, List, map, take, drop}
 use Rattle.field_ext.specs.Field.{F, K, k_ops, embed_k}
 use Rattle.circuit_core.specs.Parts.{Parts, width_of, leaf_value, padded_values}
 use Rattle.circuit_core.specs.Sound.{exponent_at}
+use Rattle.transcript_fs.specs.Source.{Source, coordinates, state_after_coordinates, draws}
 use Rattle.gkr_layers.specs.declared.verdict.Verdict.{Verdict}
 use Rattle.gkr_layers.specs.Places.{Place, value_over}
 use Rattle.gkr_layers.specs.Places.Place.{At}
 use Rattle.gkr_layers.specs.Forms.{Form}
 use Rattle.gkr_layers.specs.Forms.Form.{Line}
 use Rattle.gkr_layers.specs.Layers.{GateLayer, layers_of, values_over, LayersHold, message_count}
-use Rattle.gkr_layers.specs.Equations.{equations, first_failure}
+use Rattle.gkr_layers.specs.Equations.{equations, first_failure, Answered, answer}
 
 -- that the layers, of which the first has 2 ^ k positions, over this table of the input layer give the claimed table, as messages of
 -- this form are to show
@@ -62,3 +63,11 @@ abbrev pub verdict_of : CircuitClaim → List (List K) → List K → Verdict
 verdict_of stated qs rs =
     let place = output_place stated rs in
     first_failure (equations stated.form 0 stated.layers stated.input_table place (value_over k_ops stated.claimed_table place) qs (drop stated.k rs))
+
+-- The same answer and the state in which it leaves the challenges, where these come from a source: first the coordinates of the output
+-- point are drawn, then each message is taken in once its equation holds.
+abbrev pub answer_from : CircuitClaim → Source → List ℕ → List (List K) → Answered
+answer_from stated source s qs =
+    let place = At (coordinates source s stated.k) in
+    let behind = state_after_coordinates source s stated.k in
+    answer source behind (equations stated.form 0 stated.layers stated.input_table place (value_over k_ops stated.claimed_table place) qs (draws source behind qs)) qs

@@ -5,6 +5,7 @@ use Rattle.field_ext.specs.Polynomial.{value_at}
 use Rattle.gkr_layers.specs.Places.{Place, value_over, weighted_summand_from}
 use Rattle.gkr_layers.specs.Forms.{Form, said_left, said_right}
 use Rattle.gkr_layers.specs.Layers.{GateLayer, next_place}
+use Rattle.transcript_fs.specs.Source.{Source, state_after}
 use Rattle.gkr_layers.specs.declared.verdict.Verdict.{Verdict}
 use Rattle.gkr_layers.specs.declared.verdict.Verdict.TheVariants.{Accepted, Sum, End, Input}
 
@@ -57,3 +58,16 @@ equations form number (layer ∷ layers) input place claim qs rs =
 abbrev pub first_failure : List Equation → Verdict
 first_failure [] = Accepted
 first_failure (equation ∷ equations) = if same_k equation.had equation.want then first_failure equations else equation.failed
+
+-- an answer, and the state of the challenges that is left with it
+pub record Answered : Type 0 where
+  pub verdict : Verdict
+  pub state : List ℕ
+
+-- The answer to equations, of which each stands before one of these messages, the last aside. Once an equation holds, its message is
+-- taken in and a challenge drawn behind it, so that the first that fails leaves the state before its message.
+abbrev pub answer : Source → List ℕ → List Equation → List (List K) → Answered
+answer source s [] qs = record { verdict = Accepted; state = s }
+answer source s (equation ∷ equations) qs =
+    if same_k equation.had equation.want then answer source (state_after source s (take 1 qs)) equations (drop 1 qs)
+    else record { verdict = equation.failed; state = s }

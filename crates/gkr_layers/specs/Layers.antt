@@ -1,5 +1,5 @@
 -- The layers of a circuit, the equations of all layers, and the exceptional challenges, over flat lists of messages and challenges
-use Rattle.std.specs.Prelude.{◌≡◌, ℕ, ◌+◌, ◌-◌, ◌^◌, List, [], ◌∷◌, length, take, drop, slice_index_or, All, nat_lt, nat_eq, MatchBool}
+use Rattle.std.specs.Prelude.{◌≡◌, ℕ, ◌+◌, ◌-◌, ◌^◌, List, [], ◌∷◌, length, map, take, drop, slice_index_or, All, nat_lt, nat_eq, MatchBool}
 use Rattle.field_ext.specs.Ring.{Ops}
 use Rattle.field_ext.specs.Polynomial.{value_at}
 use Rattle.circuit_core.specs.declared.gate.CircuitGate.{CircuitGate}
@@ -65,6 +65,10 @@ module _ {A : Type 0} (o : Ops A) (form : Form) where
       (MatchBool (nat_eq n (k + k))
       (IsExceptionalFor o (slice_index_or qs n []) (last_polynomial o form t (take k (take (k + k) rs)) (drop k (take (k + k) rs))) v)
       (IsExceptional layers input (next_place k rs) (drop (k + k + 1) qs) (drop (k + k + 1) rs) (n - (k + k + 1)) v))
+
+-- the numbers of coordinates of the layers below, one for each layer
+abbrev pub lower_exponents : List GateLayer → List ℕ
+lower_exponents layers = map (λ layer. layer.k) layers
 
 -- the layers' sizes fit together, from a first layer of 2 ^ j positions on
 abbrev pub FitTogether : ℕ → List GateLayer → Type 0

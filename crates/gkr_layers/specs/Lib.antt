@@ -6,5 +6,4 @@ pub mod Equations
 pub mod Acceptance
 pub mod Soundness
 pub mod Honest
-pub mod Shapes
 pub mod Examples

@@ -9,17 +9,16 @@ ghost use Rattle.circuit_core.specs.Parts as parts;
 ghost use Rattle.circuit_core.specs.Parts.{Parts, layer_values, height};
 ghost use Rattle.circuit_core.specs.Sound.{SoundCircuit, exponents};
 ghost use Rattle.wiring_poly.specs.Wiring.{values_above};
-ghost use Rattle.transcript_fs.specs.Source.{Source, draws, all_draws};
+ghost use Rattle.transcript_fs.specs.Source.{Source, draws, all_draws, state_after, state_after_coordinates};
 ghost use Rattle.proof_wire.specs.declared.messages.Messages.{Messages};
-ghost use Rattle.proof_wire.specs.Spelling.{AreOf};
-ghost use Rattle.proof_wire.specs.Lists.{all_messages};
+ghost use Rattle.proof_wire.specs.Lists.{all_messages, HaveShape};
 ghost use Rattle.gkr_layers.specs.declared.verdict.Verdict.TheVariants.{Accepted};
 ghost use Rattle.gkr_layers.specs.Places.{Place, IsOver, value_over, weighted_summand_at};
 ghost use Rattle.gkr_layers.specs.Forms.{Form, last_polynomial, last_degree};
 ghost use Rattle.gkr_layers.specs.Forms.Form.{Line, Pair};
 ghost use Rattle.gkr_layers.specs.Sumcheck.{round_polynomial};
 ghost use Rattle.gkr_layers.specs.Layers.{GateLayer, LayersHold, IsExceptional, FitTogether, message_count, total_exponent, values_over, layers_below};
-ghost use Rattle.gkr_layers.specs.Acceptance.{CircuitClaim, Accepts, challenge_count, claim_in, claim_of, verdict_of, input_table};
+ghost use Rattle.gkr_layers.specs.Acceptance.{CircuitClaim, Accepts, challenge_count, claim_in, claim_of, verdict_of, answer_from, input_table};
 ghost use Rattle.gkr_layers.specs.Soundness.{IsExceptionalChallenge, HaveDegrees, IsFalse, LetsPass, bound, bounds};
 ghost use Rattle.gkr_layers.specs.Honest.{AreHonest, AreHonestMessages, IsHonestProof};
 
@@ -46,6 +45,14 @@ pub fn degrees()
 #[tactic(auto, using(crate::proofs::Accepted::accepted_exactly))]
 pub fn accepted_exactly()
     ensures { (stated : CircuitClaim) (qs : List (List K)) (rs : List K) → length qs ≡ message_count stated.layers → length rs ≡ challenge_count stated → (verdict_of stated qs rs ≡ Accepted) ↔ Accepts stated qs rs }
+{}
+
+/// The answer that a verifier gives with challenges from a source is the one for the challenges that the source gives. Where it is
+/// `Accepted`, every message has been taken in.
+pub fn answers()
+    ensures verdict { (stated : CircuitClaim) (source : Source) (s : List ℕ) (qs : List (List K)) → (answer_from stated source s qs).verdict ≡ verdict_of stated qs (all_draws source s stated.k qs) }
+    ensures accepted { (stated : CircuitClaim) (source : Source) (s : List ℕ) (qs : List (List K)) → length qs ≡ message_count stated.layers → (answer_from stated source s qs).verdict ≡ Accepted →
+        (answer_from stated source s qs).state ≡ state_after source (state_after_coordinates source s stated.k) qs }
 {}
 
 /// At each place and after any messages and challenges, few challenges are exceptional, whatever the verdict is.
@@ -75,12 +82,12 @@ pub fn sound()
     ensures forms { (form : Form) (circuit : SoundCircuit) (inputs outputs : List F) (qs : List (List K)) (rs : List K) → length outputs ≡ circuit.parts.outputs →
         let stated = claim_in form circuit.parts inputs outputs in HaveDegrees form stated.layers qs →
         length qs ≡ message_count stated.layers → length rs ≡ challenge_count stated → verdict_of stated qs rs ≡ Accepted → IsFalse circuit.parts inputs outputs → (n : ℕ) × LetsPass stated qs rs n }
-    ensures lists { (circuit : SoundCircuit) (inputs outputs : List F) (messages : Messages) (rs : List K) → length outputs ≡ circuit.parts.outputs → AreOf (exponents circuit.parts) messages →
-        let stated = claim_of circuit.parts inputs outputs in let qs = all_messages messages.layers.items in
+    ensures lists { (circuit : SoundCircuit) (inputs outputs : List F) (messages : Messages) (rs : List K) → length outputs ≡ circuit.parts.outputs → HaveShape (drop 1 (exponents circuit.parts)) messages.layers →
+        let stated = claim_of circuit.parts inputs outputs in let qs = all_messages messages.layers in
         length rs ≡ challenge_count stated → verdict_of stated qs rs ≡ Accepted → IsFalse circuit.parts inputs outputs → (n : ℕ) × LetsPass stated qs rs n }
-    ensures draws { (circuit : SoundCircuit) (inputs outputs : List F) (messages : Messages) (source : Source) (state : List ℕ) → AreOf (exponents circuit.parts) messages →
+    ensures draws { (circuit : SoundCircuit) (inputs outputs : List F) (messages : Messages) (source : Source) (state : List ℕ) → HaveShape (drop 1 (exponents circuit.parts)) messages.layers →
         let stated = claim_of circuit.parts inputs outputs in
-        length (all_draws source state stated.k (all_messages messages.layers.items)) ≡ challenge_count stated }
+        length (all_draws source state stated.k (all_messages messages.layers)) ≡ challenge_count stated }
 {}
 
 /// Honest messages are accepted, where the claimed outputs are those that the circuit has on these inputs.
@@ -89,8 +96,8 @@ pub fn honest_is_accepted()
         outputs ≡ take (length outputs) (drop 1 (layer_values c.parts inputs 0)) → let stated = claim_in form c.parts inputs outputs in length qs ≡ message_count stated.layers →
         AreHonestMessages form c.parts inputs source s qs → verdict_of stated qs (all_draws source s stated.k qs) ≡ Accepted }
     ensures proofs { (c : SoundCircuit) (inputs outputs : List F) (source : Source) (s : List ℕ) (messages : Messages) → length outputs ≡ c.parts.outputs →
-        outputs ≡ take (length outputs) (drop 1 (layer_values c.parts inputs 0)) → AreOf (exponents c.parts) messages →
-        let stated = claim_of c.parts inputs outputs in let qs = all_messages messages.layers.items in
+        outputs ≡ take (length outputs) (drop 1 (layer_values c.parts inputs 0)) → HaveShape (drop 1 (exponents c.parts)) messages.layers →
+        let stated = claim_of c.parts inputs outputs in let qs = all_messages messages.layers in
         IsHonestProof c.parts inputs source s qs → verdict_of stated qs (all_draws source s stated.k qs) ≡ Accepted }
 {}
 

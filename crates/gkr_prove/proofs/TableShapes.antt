@@ -1,6 +1,5 @@
--- The layers' tables and gates have the circuit's sizes, and messages of each layer's shape are of the circuit's
+-- The layers' tables and gates have the circuit's sizes
 use Rattle.std.proofs.Common.{◌≡◌, ℕ, ◌+◌, ◌*◌, ◌^◌, ◌<◌, ◌≤◌, ◌⊎◌, inl, inr, List, [], ◌∷◌, length, map, drop, get_or, All, refl, sym, ◌∙◌, ap, ap₂, subst, arith, add-one}
-use Rattle.std.specs.List.{range_with_len}
 use Rattle.std.proofs.lemmas.Bool.{cases_lt, cases_eq}
 use Rattle.std.proofs.lemmas.List.{length-map}
 use Rattle.std.proofs.lemmas.Nat.{pow_below}
@@ -12,15 +11,12 @@ use Rattle.circuit_core.proofs.Faultless.{none_from_test, leaves_room}
 use Rattle.circuit_core.proofs.LayerValues.{length-layer, length-input}
 use Rattle.circuit_eval.specs.Tables.{AreTables}
 use Rattle.mle_table.specs.Shape.{TableValues}
-use Rattle.gkr_layers.specs.Layers.{layers_from, layers_of, layers_below}
+use Rattle.gkr_layers.specs.Layers.{layers_below, lower_exponents}
 use Rattle.circuit_core.proofs.Sizes.{size_of, gates_size, gates_over}
 use Rattle.gkr_layers.proofs.Circuits.{input_width, below_more}
 use Rattle.round_tables.specs.Phase.{IsLayer}
 use Rattle.proof_wire.specs.declared.messages.LayerMessages.{LayerMessages}
-use Rattle.proof_wire.specs.declared.messages.Messages.{Messages}
-use Rattle.proof_wire.specs.Spelling.{AreOf}
-use Rattle.proof_wire.specs.Lists.{HasShape}
-use Rattle.gkr_layers.specs.Shapes.{HaveShape}
+use Rattle.proof_wire.specs.Lists.{HasShape, HaveShape}
 use Rattle.gkr_layers.specs.Places.Place.{At}
 
 pow-same : (m n : ℕ) → 2 ^ m ≡ 2 ^ n → m ≡ n
@@ -67,22 +63,5 @@ module _ (c : SoundCircuit) where
       }
 
 -- messages of one more layer's shape
-pub shape_more : (p : Parts) (i : ℕ) (m : LayerMessages) (ms : List LayerMessages) → i < height p → HasShape (exponent_at p (i + 1)) m → HaveShape (layers_below p (i + 1)) ms → HaveShape (layers_below p i) (m ∷ ms)
-shape_more p i m ms u h rest = subst (λ layers. HaveShape layers (m ∷ ms)) (sym (below_more p i u)) (h, rest)
-
-of_from : (p : Parts) (i : ℕ) (layers : List (List CircuitGate)) (ms : List LayerMessages) → HaveShape (layers_from p i layers) ms →
-    (map (λ layer. length layer.rounds.items) ms ≡ map (λ k. 2 * k) (map (exponent_at p) (range_with_len (i + 1) (length layers))))
-    × (map (λ layer. length layer.line.items) ms ≡ map (λ k. k + 1) (map (exponent_at p) (range_with_len (i + 1) (length layers))))
-of_from p i [] [] h = (refl, refl)
-of_from p i [] (m ∷ ms) h = absurd h
-of_from p i (gates ∷ layers) [] h = absurd h
-of_from p i (gates ∷ layers) (m ∷ ms) h =
-    let rest = of_from p (i + 1) layers ms h.1 in
-    let two : length m.rounds.items ≡ 2 * exponent_at p (i + 1) = omega (arith, h.0.rounds) in
-    (ap₂ (λ (x : ℕ) (xs : List ℕ). x ∷ xs) two rest.0, ap₂ (λ (x : ℕ) (xs : List ℕ). x ∷ xs) h.0.line rest.1)
-
-pub are_of : (p : Parts) (messages : Messages) → HaveShape (layers_of p) messages.layers.items → AreOf (exponents p) messages
-are_of p messages h =
-    let one : drop 1 (exponents p) ≡ map (exponent_at p) (range_with_len (0 + 1) (height p)) = ap (λ (n : ℕ). drop 1 (map (exponent_at p) (range_with_len 0 n))) (add-one (height p)) in
-    let parts = of_from p 0 p.layers messages.layers.items h in
-    record { rounds = parts.0 ∙ ap (λ (ks : List ℕ). map (λ k. 2 * k) ks) (sym one); lines = parts.1 ∙ ap (λ (ks : List ℕ). map (λ k. k + 1) ks) (sym one) }
+pub shape_more : (p : Parts) (i : ℕ) (m : LayerMessages) (ms : List LayerMessages) → i < height p → HasShape (exponent_at p (i + 1)) m → HaveShape (lower_exponents (layers_below p (i + 1))) ms → HaveShape (lower_exponents (layers_below p i)) (m ∷ ms)
+shape_more p i m ms u h rest = subst (λ layers. HaveShape (lower_exponents layers) (m ∷ ms)) (sym (below_more p i u)) (h, rest)

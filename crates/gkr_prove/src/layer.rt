@@ -17,7 +17,7 @@ use field_ext::Ext;
 use io_edge::Gate;
 use line_reduce::{line_poly, point_at};
 use mle_table::Table;
-use proof_wire::LayerMessages;
+use proof_wire::{LayerMessages, Listed};
 use round_tables::{GateTables, Room};
 use std::alloc::{AllocError, Global};
 use std::marker::Sync;
@@ -68,8 +68,8 @@ pub(crate) fn prove_layer<R: Threads + Sync, C: Challenges, G: Gate>(
     point_at(left, right, challenge, &mut next);
     Ok(ProvedLayer {
         messages: LayerMessages {
-            rounds: messages,
-            line,
+            rounds: Listed::of(messages),
+            line: Listed::of(line),
         },
         point: next,
         room,

@@ -4,10 +4,9 @@ ghost use Rattle.std.specs.Prelude.{◌≡◌, List, IfOk, IsTrue, length};
 ghost use Rattle.field_ext.specs.Field.{F};
 ghost use Rattle.circuit_core.specs.Sound.{exponent_at};
 ghost use Rattle.circuit_eval.specs.Tables.{AreTables};
-ghost use Rattle.gkr_layers.specs.Layers.{layers_of, message_count};
-ghost use Rattle.transcript_fs.specs.Source.{draws};
-ghost use Rattle.proof_wire.specs.Lists.{all_messages};
-ghost use Rattle.gkr_layers.specs.Shapes.{HaveShape};
+ghost use Rattle.gkr_layers.specs.Layers.{layers_of, lower_exponents, message_count};
+ghost use Rattle.transcript_fs.specs.Source.{draws, state_after};
+ghost use Rattle.proof_wire.specs.Lists.{all_messages, HaveShape};
 ghost use Rattle.gkr_layers.specs.Honest.{AreHonest};
 ghost use Rattle.gkr_layers.specs.Acceptance.{input_table};
 ghost use Rattle.gkr_layers.specs.Places.Place.{At};
@@ -44,7 +43,8 @@ pub(crate) fn prove_layers<R: Threads + Sync, C: Challenges, G: Gate>(
     requires has { IsTrue (C.source.has (C.state challenges.old) (message_count (layers_of circuit.now.parts))) }
     ensures honest { IfOk result (λ messages. (inputs : List F) → AreTables circuit.now.parts inputs values.now → let qs = all_messages messages.items in
         AreHonest Line (layers_of circuit.now.parts) (input_table circuit.now.parts inputs) (At point.items) qs (draws C.source (C.state challenges.old) qs)) }
-    ensures shape { IfOk result (λ messages. HaveShape (layers_of circuit.now.parts) messages.items) }
+    ensures state { IfOk result (λ messages. C.state challenges.new ≡ state_after C.source (C.state challenges.old) (all_messages messages.items)) }
+    ensures shape { IfOk result (λ messages. HaveShape (lower_exponents (layers_of circuit.now.parts)) messages.items) }
 {
     let mut messages = Vec::new(alloc);
     for layer in 0..circuit.height() {

@@ -1,13 +1,13 @@
 // The prover.
 
-ghost use Rattle.std.specs.Prelude.{◌≡◌, ◌+◌, List, IfOk, IsTrue};
+ghost use Rattle.std.specs.Prelude.{◌≡◌, ◌+◌, List, IfOk, IsTrue, drop};
 ghost use Rattle.field_ext.specs.Field.{F};
 ghost use Rattle.circuit_core.specs.Sound.{exponent_at, exponents};
 ghost use Rattle.circuit_eval.specs.Tables.{AreTables};
 ghost use Rattle.gkr_layers.specs.Layers.{layers_of, message_count};
+ghost use Rattle.transcript_fs.specs.Source.{state_after, state_after_coordinates};
 ghost use Rattle.phase_run.specs.Work.{IsWorkerCount};
-ghost use Rattle.proof_wire.specs.Spelling.{AreOf};
-ghost use Rattle.proof_wire.specs.Lists.{all_messages};
+ghost use Rattle.proof_wire.specs.Lists.{all_messages, HaveShape};
 ghost use Rattle.gkr_layers.specs.Honest.{IsHonestProof};
 
 use crate::layers::prove_layers;
@@ -15,7 +15,7 @@ use circuit_core::Circuit;
 use circuit_eval::Values;
 use field_ext::Ext;
 use io_edge::Gate;
-use proof_wire::Messages;
+use proof_wire::{Listed, Messages};
 use round_tables::Room;
 use std::alloc::{AllocError, Global};
 use std::marker::Sync;
@@ -23,7 +23,7 @@ use std::thread::Threads;
 use transcript_fs::{Challenges, draw_point};
 
 /// The honest messages of a circuit with these values of its layers, which are its values for some inputs, and challenges
-/// from a source that has enough of them. They are of the circuit's shape. Err only where no memory is found; the
+/// from a source that has enough of them. They are of the circuit's shape, and all are taken in. Err only where no memory is found; the
 /// challenges may then have moved on. They are the same for every number of workers, which sum the pieces of a round side by
 /// side where there are many, and enter the gate with each.
 pub fn prove<R: Threads + Sync, C: Challenges, G: Gate>(
@@ -39,8 +39,10 @@ pub fn prove<R: Threads + Sync, C: Challenges, G: Gate>(
     requires values { (inputs : List F) × AreTables circuit.now.parts inputs values.now }
     requires has { IsTrue (C.source.has (C.state challenges.old) (exponent_at circuit.now.parts 0 + message_count (layers_of circuit.now.parts))) }
     ensures honest { IfOk result (λ messages. (inputs : List F) → AreTables circuit.now.parts inputs values.now →
-        IsHonestProof circuit.now.parts inputs C.source (C.state challenges.old) (all_messages messages.layers.items)) }
-    ensures shape { IfOk result (λ messages. AreOf (exponents circuit.now.parts) messages) }
+        IsHonestProof circuit.now.parts inputs C.source (C.state challenges.old) (all_messages messages.layers)) }
+    ensures state { IfOk result (λ messages. C.state challenges.new
+        ≡ state_after C.source (state_after_coordinates C.source (C.state challenges.old) (exponent_at circuit.now.parts 0)) (all_messages messages.layers)) }
+    ensures shape { IfOk result (λ messages. HaveShape (drop 1 (exponents circuit.now.parts)) messages.layers) }
 {
     let mut point = vec![in alloc; Ext::zero(); circuit.coordinates(0)]?;
     draw_point(&mut point, challenges);
@@ -48,7 +50,9 @@ pub fn prove<R: Threads + Sync, C: Challenges, G: Gate>(
     let layers = prove_layers(
         rt, alloc, circuit, values, room, point, challenges, workers, gate,
     )?;
-    Ok(Messages { layers })
+    Ok(Messages {
+        layers: Listed::of(layers),
+    })
 }
 
 // Room for the widest layer.

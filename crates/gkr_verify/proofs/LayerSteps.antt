@@ -7,8 +7,8 @@ use Rattle.gkr_layers.specs.Layers.{GateLayer}
 use Rattle.transcript_fs.specs.Source.{Source, draws, state_after}
 use Rattle.gkr_layers.specs.declared.verdict.Verdict.{Verdict}
 use Rattle.gkr_layers.specs.declared.verdict.Verdict.TheVariants.{End}
-use Rattle.gkr_layers.specs.Equations.{Equation, end_equation, claim_after, sum_equations, first_failure, equations}
-use Rattle.gkr_layers.proofs.Accepted.{first_holds, first_fails}
+use Rattle.gkr_layers.specs.Equations.{Equation, end_equation, claim_after, sum_equations, equations, Answered, answer}
+use Rattle.gkr_verify.proofs.Choices.{first_holds, first_fails}
 use Rattle.transcript_fs.proofs.Draws.{draws-append, length-draws}
 use Rattle.gkr_layers.proofs.Lists.{front-take, next-read, rest-drop}
 use Rattle.gkr_layers.specs.Places.{Place, weighted_summand_from}
@@ -76,23 +76,26 @@ module _ (form : Form) (source : Source) (s : List ℕ) (number k : ℕ) (gates 
   abbrev layer_whole : List Equation
   layer_whole = equations form number (record { k = k; gates = gates } ∷ below) input place claim messages challenges
 
-  pub round_fails : (verdict : Verdict) → ((rest : List Equation) → first_failure (sum_equations number 1 claim rounds layer_bound ++ rest) ≡ verdict) → first_failure layer_whole ≡ verdict
-  round_fails verdict fails = ap first_failure layer_equations ∙ fails _
+  abbrev equations_below : List Equation
+  equations_below = equations form (suc number) below input (place_between k_ops form (take k layer_bound) (drop k layer_bound) last_challenge) (value_at k_ops last last_challenge) qs (draws source (source.after last_state) qs)
 
-  module _ (holds : (rest : List Equation) → first_failure (sum_equations number 1 claim rounds layer_bound ++ rest) ≡ first_failure rest) (had want : K) (had-is : had ≡ claim_after claim rounds layer_bound) (want-is : want ≡ layer_end) where
-    pub end_fails : same_k had want ≡ false → first_failure layer_whole ≡ End number had want
-    end_fails e =
-        ap first_failure layer_equations
-        ∙ holds _
-        ∙ (λ i. first_failure (end_equation number (sym had-is i) (sym want-is i) ∷ equations form (suc number) below input (place_between k_ops form (take k layer_bound) (drop k layer_bound) last_challenge) (value_at k_ops last last_challenge) qs (draws source (source.after last_state) qs)))
-        ∙ first_fails (same_k had want) _ _ e
+  pub round_fails : (answered : Answered) → ((rest : List Equation) (more : List (List K)) → answer source s (sum_equations number 1 claim rounds layer_bound ++ rest) (rounds ++ more) ≡ answered) → answer source s layer_whole messages ≡ answered
+  round_fails answered fails = (λ i. answer source s (layer_equations i) (flat i)) ∙ fails _ _
+
+  module _ (holds : (rest : List Equation) (more : List (List K)) → answer source s (sum_equations number 1 claim rounds layer_bound ++ rest) (rounds ++ more) ≡ answer source (state_after source s rounds) rest more) (had want : K) (had-is : had ≡ claim_after claim rounds layer_bound) (want-is : want ≡ layer_end) where
+    at_end : answer source s layer_whole messages ≡ answer source (state_after source s rounds) (end_equation number had want ∷ equations_below) (last ∷ qs)
+    at_end =
+        (λ i. answer source s (layer_equations i) (flat i))
+        ∙ holds _ _
+        ∙ (λ i. answer source (state_after source s rounds) (end_equation number (sym had-is i) (sym want-is i) ∷ equations_below) (last ∷ qs))
+
+    pub end_fails : same_k had want ≡ false → answer source s layer_whole messages ≡ record { verdict = End number had want; state = state_after source s rounds }
+    end_fails e = at_end ∙ first_fails (same_k had want) _ _ e
 
     pub end_holds : same_k had want ≡ true → (next : Place K) (value : K) (s' : List ℕ) (t : K) → t ≡ last_challenge → next ≡ place_between k_ops form (take k layer_bound) (drop k layer_bound) t → value ≡ value_at k_ops last t → s' ≡ source.after last_state →
-        first_failure layer_whole ≡ first_failure (equations form (suc number) below input next value qs (draws source s' qs))
+        answer source s layer_whole messages ≡ answer source s' (equations form (suc number) below input next value qs (draws source s' qs)) qs
     end_holds e next value s' t ht hn hv hs =
-        ap first_failure layer_equations
-        ∙ holds _
-        ∙ (λ i. first_failure (end_equation number (sym had-is i) (sym want-is i) ∷ equations form (suc number) below input (place_between k_ops form (take k layer_bound) (drop k layer_bound) last_challenge) (value_at k_ops last last_challenge) qs (draws source (source.after last_state) qs)))
+        at_end
         ∙ first_holds (same_k had want) _ _ e
-        ∙ (λ i. first_failure (equations form (suc number) below input (place_between k_ops form (take k layer_bound) (drop k layer_bound) (sym ht i)) (value_at k_ops last (sym ht i)) qs (draws source (sym hs i) qs)))
-        ∙ (λ i. first_failure (equations form (suc number) below input (sym hn i) (sym hv i) qs (draws source s' qs)))
+        ∙ (λ i. answer source (sym hs i) (equations form (suc number) below input (place_between k_ops form (take k layer_bound) (drop k layer_bound) (sym ht i)) (value_at k_ops last (sym ht i)) qs (draws source (sym hs i) qs)) qs)
+        ∙ (λ i. answer source s' (equations form (suc number) below input (sym hn i) (sym hv i) qs (draws source s' qs)) qs)

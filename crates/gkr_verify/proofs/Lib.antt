@@ -1,3 +1,4 @@
+pub mod Choices
 pub mod RoundSteps
 pub mod LayerSteps
 pub mod InputSteps

@@ -8,10 +8,10 @@ use Rattle.field_ext.specs.Field.{K, k_ops, add_k, zero_k, one_k, same_k}
 use Rattle.field_ext.specs.Polynomial.{value_at}
 use Rattle.transcript_fs.specs.Source.{Source, draws, state_after}
 use Rattle.transcript_fs.proofs.Draws.{has_any}
-use Rattle.gkr_layers.proofs.Accepted.{first_holds, first_fails}
+use Rattle.gkr_verify.proofs.Choices.{first_holds, first_fails}
 use Rattle.gkr_layers.specs.declared.verdict.Verdict.{Verdict}
 use Rattle.gkr_layers.specs.declared.verdict.Verdict.TheVariants.{Sum}
-use Rattle.gkr_layers.specs.Equations.{Equation, claim_after, sum_equations, first_failure}
+use Rattle.gkr_layers.specs.Equations.{Equation, claim_after, sum_equations, Answered, answer}
 
 -- a round's message as it is read
 pub message_read : (messages : List Round) (j : ℕ) (round : Round) (q : List K) → j < length messages → round ≡ get_or messages j round → q ≡ coefficients_of round → (j < length (round_messages messages)) × (q ≡ get_or (round_messages messages) j q)
@@ -24,8 +24,9 @@ sum_at q = add_k (value_at k_ops q zero_k) (value_at k_ops q one_k)
 
 -- j messages are taken, and every equation up to them holds
 pub record Progress (source : Source) (s0 : List ℕ) (claim0 : K) (all : List (List K)) (j : ℕ) (s : List ℕ) (now : K) (kept : List K) : Type 0 where
-  pub holds : (number : ℕ) (rest : List Equation) →
-      first_failure (sum_equations number 1 claim0 all (draws source s0 all) ++ rest) ≡ first_failure (sum_equations number (suc j) now (drop j all) (draws source s (drop j all)) ++ rest)
+  pub holds : (number : ℕ) (rest : List Equation) (more : List (List K)) →
+      answer source s0 (sum_equations number 1 claim0 all (draws source s0 all) ++ rest) (all ++ more)
+      ≡ answer source s (sum_equations number (suc j) now (drop j all) (draws source s (drop j all)) ++ rest) (drop j all ++ more)
   pub claim : claim_after claim0 all (draws source s0 all) ≡ claim_after now (drop j all) (draws source s (drop j all))
   pub drawn : take j kept ++ draws source s (drop j all) ≡ draws source s0 all
   pub state : state_after source s (drop j all) ≡ state_after source s0 all
@@ -33,7 +34,7 @@ pub record Progress (source : Source) (s0 : List ℕ) (claim0 : K) (all : List (
 
 pub begun : (source : Source) (s : List ℕ) (claim : K) (all : List (List K)) (drawn : List K) → IsTrue (source.has s (length all)) → Progress source s claim all 0 s claim drawn
 begun source s claim all drawn has = record {
-  holds = λ number rest. refl;
+  holds = λ number rest more. refl;
   claim = refl;
   drawn = refl;
   state = refl;
@@ -58,12 +59,12 @@ module _ (source : Source) (s0 : List ℕ) (claim0 : K) (all : List (List K)) (j
     pub stepped : length drawn ≡ length all → same_k (sum_at q) claim ≡ true → (s' : List ℕ) (r : K) (claim' : K) → r ≡ source.draw (source.absorb s q) → s' ≡ source.after (source.absorb s q) → claim' ≡ value_at k_ops q r →
         Progress source s0 claim0 all (j + 1) s' claim' (set drawn j r)
     stepped size e s' r claim' hr hs hc = record {
-      holds = λ number rest.
-          p.holds number rest
-          ∙ (λ i. first_failure (sum_equations number (suc j) claim (split i) (draws source s (split i)) ++ rest))
+      holds = λ number rest more.
+          p.holds number rest more
+          ∙ (λ i. answer source s (sum_equations number (suc j) claim (split i) (draws source s (split i)) ++ rest) (split i ++ more))
           ∙ first_holds (same_k (sum_at q) claim) _ _ e
-          ∙ (λ i. first_failure (sum_equations number (suc (sym (add-one j) i)) (value_at k_ops q (sym hr i)) (drop (j + 1) all) (draws source (sym hs i) (drop (j + 1) all)) ++ rest))
-          ∙ (λ i. first_failure (sum_equations number (suc (j + 1)) (sym hc i) (drop (j + 1) all) (draws source s' (drop (j + 1) all)) ++ rest));
+          ∙ (λ i. answer source (sym hs i) (sum_equations number (suc (sym (add-one j) i)) (value_at k_ops q (sym hr i)) (drop (j + 1) all) (draws source (sym hs i) (drop (j + 1) all)) ++ rest) (drop (j + 1) all ++ more))
+          ∙ (λ i. answer source s' (sum_equations number (suc (j + 1)) (sym hc i) (drop (j + 1) all) (draws source s' (drop (j + 1) all)) ++ rest) (drop (j + 1) all ++ more));
       claim =
           p.claim
           ∙ (λ i. claim_after claim (split i) (draws source s (split i)))
@@ -80,20 +81,24 @@ module _ (source : Source) (s0 : List ℕ) (claim0 : K) (all : List (List K)) (j
       has = subst (λ (t : List ℕ). IsTrue (source.has t (length all - (j + 1)))) (sym hs) (source.has_after (source.absorb s q) (length all - (j + 1)) (source.has_absorbed s q (suc (length all - (j + 1))) has_one));
     }
 
-    pub failed : same_k (sum_at q) claim ≡ false → (number : ℕ) (rest : List Equation) →
-        first_failure (sum_equations number 1 claim0 all (draws source s0 all) ++ rest) ≡ Sum number (j + 1) (sum_at q) claim
-    failed e number rest =
-        p.holds number rest
-        ∙ (λ i. first_failure (sum_equations number (suc j) claim (split i) (draws source s (split i)) ++ rest))
+    pub failed : same_k (sum_at q) claim ≡ false → (number : ℕ) (rest : List Equation) (more : List (List K)) →
+        answer source s0 (sum_equations number 1 claim0 all (draws source s0 all) ++ rest) (all ++ more) ≡ record { verdict = Sum number (j + 1) (sum_at q) claim; state = s }
+    failed e number rest more =
+        p.holds number rest more
+        ∙ (λ i. answer source s (sum_equations number (suc j) claim (split i) (draws source s (split i)) ++ rest) (split i ++ more))
         ∙ first_fails (same_k (sum_at q) claim) _ _ e
-        ∙ (λ i. Sum number (sym (add-one j) i) (sum_at q) claim)
+        ∙ (λ i. record { verdict = Sum number (sym (add-one j) i) (sum_at q) claim; state = s })
 
   module _ (u : length all ≤ j) (size : length drawn ≡ length all) where
     none : drop j all ≡ []
     none = drop_of_length-le all u
 
-    pub done_holds : (number : ℕ) (rest : List Equation) → first_failure (sum_equations number 1 claim0 all (draws source s0 all) ++ rest) ≡ first_failure rest
-    done_holds number rest = p.holds number rest ∙ (λ i. first_failure (sum_equations number (suc j) claim (none i) (draws source s (none i)) ++ rest))
+    pub done_holds : (number : ℕ) (rest : List Equation) (more : List (List K)) →
+        answer source s0 (sum_equations number 1 claim0 all (draws source s0 all) ++ rest) (all ++ more) ≡ answer source (state_after source s0 all) rest more
+    done_holds number rest more =
+        p.holds number rest more
+        ∙ (λ i. answer source s (sum_equations number (suc j) claim (none i) (draws source s (none i)) ++ rest) (none i ++ more))
+        ∙ (λ i. answer source (((λ j. state_after source s (sym none j)) ∙ p.state) i) rest more)
 
     pub done_claim : claim ≡ claim_after claim0 all (draws source s0 all)
     done_claim = sym (p.claim ∙ (λ i. claim_after claim (none i) (draws source s (none i))))

@@ -6,7 +6,7 @@ ghost use Rattle.circuit_core.specs.Parts.{height};
 ghost use Rattle.circuit_core.specs.Sound.{exponent_at};
 ghost use Rattle.gkr_layers.specs.Layers.{GateLayer, layer_at};
 ghost use Rattle.transcript_fs.specs.Source.{draws, state_after};
-ghost use Rattle.gkr_layers.specs.Equations.{equations, first_failure};
+ghost use Rattle.gkr_layers.specs.Equations.{equations, answer};
 ghost use Rattle.proof_wire.specs.Lists.{messages_of, HasShape};
 ghost use Rattle.gkr_layers.specs.Places.Place.{At};
 ghost use Rattle.gkr_layers.specs.Forms.Form.{Line};
@@ -40,14 +40,14 @@ pub(crate) fn check_layer<C: Challenges>(
     requires next { length next.old ≡ exponent_at circuit.now.parts (layer + 1) }
     requires has { IsTrue (C.source.has (C.state challenges.old) (exponent_at circuit.now.parts (layer + 1) + exponent_at circuit.now.parts (layer + 1) + 1)) }
     ensures holds { IfOk result (λ value. (below : List GateLayer) (input : List K) (qs : List (List K)) →
-        first_failure (equations Line layer (layer_at circuit.now.parts layer ∷ below) input (At point.now) claim (messages_of messages.now ++ qs) (draws C.source (C.state challenges.old) (messages_of messages.now ++ qs)))
-        ≡ first_failure (equations Line (suc layer) below input (At next.new) value qs (draws C.source (C.state challenges.new) qs))) }
+        answer C.source (C.state challenges.old) (equations Line layer (layer_at circuit.now.parts layer ∷ below) input (At point.now) claim (messages_of messages.now ++ qs) (draws C.source (C.state challenges.old) (messages_of messages.now ++ qs))) (messages_of messages.now ++ qs)
+        ≡ answer C.source (C.state challenges.new) (equations Line (suc layer) below input (At next.new) value qs (draws C.source (C.state challenges.new) qs)) qs) }
     ensures state { IfOk result (λ value. C.state challenges.new ≡ state_after C.source (C.state challenges.old) (messages_of messages.now)) }
     ensures fails { IfErr result (λ verdict. (below : List GateLayer) (input : List K) (qs : List (List K)) →
-        first_failure (equations Line layer (layer_at circuit.now.parts layer ∷ below) input (At point.now) claim (messages_of messages.now ++ qs) (draws C.source (C.state challenges.old) (messages_of messages.now ++ qs)))
-        ≡ verdict) }
+        answer C.source (C.state challenges.old) (equations Line layer (layer_at circuit.now.parts layer ∷ below) input (At point.now) claim (messages_of messages.now ++ qs) (draws C.source (C.state challenges.old) (messages_of messages.now ++ qs))) (messages_of messages.now ++ qs)
+        ≡ record { verdict = verdict; state = C.state challenges.new }) }
 {
-    let claim = match check_rounds(&messages.rounds, claim, drawn, challenges) {
+    let claim = match check_rounds(messages.rounds.as_slice(), claim, drawn, challenges) {
         Ok(claim) => claim,
         Err(fault) => {
             return Err(Verdict::Sum {
@@ -59,7 +59,7 @@ pub(crate) fn check_layer<C: Challenges>(
         }
     };
     let (left, right) = drawn.split_at(next.len());
-    let want = end_value(circuit, layer, point, left, right, &messages.line);
+    let want = end_value(circuit, layer, point, left, right, messages.line.as_slice());
     if !claim.equals(want) {
         return Err(Verdict::End {
             layer,
@@ -67,8 +67,8 @@ pub(crate) fn check_layer<C: Challenges>(
             want,
         });
     }
-    challenges.absorb(&messages.line);
+    challenges.absorb(messages.line.as_slice());
     let challenge = challenges.challenge();
     point_at(left, right, challenge, next);
-    Ok(value_at(&messages.line, challenge))
+    Ok(value_at(messages.line.as_slice(), challenge))
 }

@@ -3,11 +3,10 @@
 ghost use Rattle.std.specs.Prelude.{◌≡◌, ◌≤◌, ◌*◌, ◌+◌, [], length, IsTrue};
 ghost use Rattle.circuit_core.specs.Parts.{height};
 ghost use Rattle.circuit_core.specs.Sound.{exponent_at};
-ghost use Rattle.gkr_layers.specs.Layers.{message_count, total_exponent, layers_below};
+ghost use Rattle.gkr_layers.specs.Layers.{message_count, total_exponent, layers_below, lower_exponents};
 ghost use Rattle.transcript_fs.specs.Source.{draws};
-ghost use Rattle.gkr_layers.specs.Equations.{equations, first_failure};
-ghost use Rattle.proof_wire.specs.Lists.{all_messages};
-ghost use Rattle.gkr_layers.specs.Shapes.{HaveShape};
+ghost use Rattle.gkr_layers.specs.Equations.{equations, first_failure, answer};
+ghost use Rattle.proof_wire.specs.Lists.{all_messages, HaveShape};
 ghost use Rattle.gkr_layers.specs.Places.Place.{At};
 ghost use Rattle.gkr_layers.specs.Forms.Form.{Line};
 ghost use Rattle.gkr_layers.specs.Acceptance.{input_table};
@@ -35,10 +34,11 @@ pub(crate) fn check_layers<C: Challenges>(
     requires inputs { length inputs.now ≡ circuit.now.parts.inputs }
     requires layer { layer + length messages.now ≡ height circuit.now.parts }
     requires position { length point.now ≡ exponent_at circuit.now.parts layer }
-    requires shape { HaveShape (layers_below circuit.now.parts layer) messages.now }
+    requires shape { HaveShape (lower_exponents (layers_below circuit.now.parts layer)) messages.now }
     requires room { length room.old ≡ 3 * total_exponent (layers_below circuit.now.parts layer) }
     requires has { IsTrue (C.source.has (C.state challenges.old) (message_count (layers_below circuit.now.parts layer))) }
-    ensures { result ≡ first_failure (equations Line layer (layers_below circuit.now.parts layer) (input_table circuit.now.parts inputs.now) (At point.now) claim (all_messages messages.now) (draws C.source (C.state challenges.old) (all_messages messages.now))) }
+    ensures { record { verdict = result; state = C.state challenges.new }
+        ≡ answer C.source (C.state challenges.old) (equations Line layer (layers_below circuit.now.parts layer) (input_table circuit.now.parts inputs.now) (At point.now) claim (all_messages messages.now) (draws C.source (C.state challenges.old) (all_messages messages.now))) (all_messages messages.now) }
 {
     let Some((first, later)) = messages.split_first() else {
         return check_inputs(circuit, inputs, claim, point);

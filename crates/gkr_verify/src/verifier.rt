@@ -1,12 +1,11 @@
 // The verifier.
 
-ghost use Rattle.std.specs.Prelude.{◌≡◌, ◌+◌, ◌*◌, ℕ, length, IsTrue, IfOk, IfErr};
+ghost use Rattle.std.specs.Prelude.{◌≡◌, ◌+◌, ◌*◌, ℕ, length, drop, IsTrue, IfOk, IfErr};
 ghost use Rattle.circuit_core.specs.Sound.{exponent_at, exponents};
 ghost use Rattle.gkr_layers.specs.Layers.{layers_of, total_exponent};
 ghost use Rattle.transcript_fs.specs.Source.{all_draws};
-ghost use Rattle.proof_wire.specs.Spelling.{AreOf};
-ghost use Rattle.gkr_layers.specs.Acceptance.{claim_of, verdict_of, challenge_count};
-ghost use Rattle.proof_wire.specs.Lists.{all_messages};
+ghost use Rattle.gkr_layers.specs.Acceptance.{claim_of, verdict_of, answer_from, challenge_count};
+ghost use Rattle.proof_wire.specs.Lists.{all_messages, HaveShape};
 ghost use Rattle.gkr_layers.specs.Soundness.{LetsPass, IsFalse};
 
 use crate::extension::values_extension;
@@ -20,8 +19,8 @@ use transcript_fs::{Challenges, draw_point};
 
 /// Checks the messages of a proof that the circuit on these inputs has these outputs: as many of both as the circuit has,
 /// messages of its shape, and challenges from a source that has enough of them. The answer is the first equation that
-/// fails, or `Accepted`. Memory is taken before the first challenge is drawn, and none later; Err only where none is
-/// found.
+/// fails, or `Accepted`. Each message is taken in once its equation holds: at `Accepted` all are, and else those before the
+/// equation that fails. Memory is taken before the first challenge is drawn, and none later; Err only where none is found.
 pub fn check<C: Challenges>(
     alloc: Global,
     circuit: &Circuit,
@@ -32,12 +31,14 @@ pub fn check<C: Challenges>(
 ) -> Result<Verdict, AllocError>
     requires inputs { length inputs.now ≡ circuit.now.parts.inputs }
     requires outputs { length outputs.now ≡ circuit.now.parts.outputs }
-    requires shape { AreOf (exponents circuit.now.parts) messages.now }
+    requires shape { HaveShape (drop 1 (exponents circuit.now.parts)) messages.now.layers }
     requires has { IsTrue (C.source.has (C.state challenges.old) (challenge_count (claim_of circuit.now.parts inputs.now outputs.now))) }
-    ensures verdict { IfOk result (λ verdict. let stated = claim_of circuit.now.parts inputs.now outputs.now in let qs = all_messages messages.now.layers.items in
+    ensures verdict { IfOk result (λ verdict. let stated = claim_of circuit.now.parts inputs.now outputs.now in let qs = all_messages messages.now.layers in
         verdict ≡ verdict_of stated qs (all_draws C.source (C.state challenges.old) stated.k qs)) }
-    ensures sound { IfOk result (λ verdict. let stated = claim_of circuit.now.parts inputs.now outputs.now in let qs = all_messages messages.now.layers.items in
+    ensures sound { IfOk result (λ verdict. let stated = claim_of circuit.now.parts inputs.now outputs.now in let qs = all_messages messages.now.layers in
         verdict ≡ Verdict.Accepted → IsFalse circuit.now.parts inputs.now outputs.now → (n : ℕ) × LetsPass stated qs (all_draws C.source (C.state challenges.old) stated.k qs) n) }
+    ensures state { IfOk result (λ verdict. let stated = claim_of circuit.now.parts inputs.now outputs.now in let qs = all_messages messages.now.layers in
+        C.state challenges.new ≡ (answer_from stated C.source (C.state challenges.old) qs).state) }
     ensures memory { IfErr result (λ _. C.state challenges.new ≡ C.state challenges.old) }
 {
     let width = circuit.coordinates(0) + 3 * width_below(circuit);
@@ -56,17 +57,17 @@ fn check_in<C: Challenges>(
 ) -> Verdict
     requires inputs { length inputs.now ≡ circuit.now.parts.inputs }
     requires outputs { length outputs.now ≡ circuit.now.parts.outputs }
-    requires shape { AreOf (exponents circuit.now.parts) messages.now }
+    requires shape { HaveShape (drop 1 (exponents circuit.now.parts)) messages.now.layers }
     requires has { IsTrue (C.source.has (C.state challenges.old) (challenge_count (claim_of circuit.now.parts inputs.now outputs.now))) }
     requires room { length room.old ≡ exponent_at circuit.now.parts 0 + 3 * total_exponent (layers_of circuit.now.parts) }
-    ensures { let stated = claim_of circuit.now.parts inputs.now outputs.now in let qs = all_messages messages.now.layers.items in
-        result ≡ verdict_of stated qs (all_draws C.source (C.state challenges.old) stated.k qs) }
+    ensures { record { verdict = result; state = C.state challenges.new }
+        ≡ answer_from (claim_of circuit.now.parts inputs.now outputs.now) C.source (C.state challenges.old) (all_messages messages.now.layers) }
 {
     let (point, room) = room.split_at_mut(circuit.coordinates(0));
     draw_point(point, challenges);
     let claim = values_extension(outputs, point);
     check_layers(
-        &messages.layers,
+        messages.layers.as_slice(),
         circuit,
         inputs,
         0,

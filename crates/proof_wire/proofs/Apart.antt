@@ -1,5 +1,4 @@
 -- Messages of one shape with one spelling are the same.
-use Rattle.std.specs.Prelude.{map}
 use Rattle.std.proofs.Common.{◌≡◌, ℕ, ◌*◌, ◌<◌, List, [], ◌∷◌, ◌++◌, length, take, drop, sym, ◌∙◌, ap, refl, length-append, arith, lit<}
 use Rattle.std.specs.List.{flat_map}
 use Rattle.std.proofs.Math.Seq.{take-append_seam, drop-append_seam}
@@ -11,8 +10,9 @@ use Rattle.field_ext.proofs.ElementBytes.{bytes_apart}
 use Rattle.proof_wire.specs.declared.messages.Round.{Round}
 use Rattle.proof_wire.specs.declared.messages.LayerMessages.{LayerMessages}
 use Rattle.proof_wire.specs.declared.messages.Messages.{Messages}
-use Rattle.proof_wire.specs.Spelling.{coefficients_of, layer_coefficients, all_coefficients, magic, spelling, AreOf, SameMessages}
-use Rattle.proof_wire.proofs.Lengths.{rounds_length}
+use Rattle.proof_wire.specs.Spelling.{coefficients_of, layer_coefficients, all_coefficients, magic, spelling}
+use Rattle.proof_wire.specs.Lists.{HasShape, HaveShape}
+use Rattle.proof_wire.proofs.Lengths.{rounds_length, layer_count}
 
 front_same : {A : Type 0} (xs ys us vs : List A) → length xs ≡ length us → xs ++ ys ≡ us ++ vs → xs ≡ us
 front_same xs ys us vs n e = sym (take-append_seam xs ys) ∙ ap (λ m. take m (xs ++ ys)) n ∙ ap (take (length us)) e ∙ take-append_seam us vs
@@ -55,45 +55,31 @@ rounds_apart = pieces_apart coefficients_of 3 (lit< tt) (λ x. refl) round_apart
 elements_apart : (xs ys : List K) → flat_map bytes_of xs ≡ flat_map bytes_of ys → xs ≡ ys
 elements_apart = pieces_apart bytes_of 8 (lit< tt) (λ x. refl) bytes_apart
 
-abbrev rounds_of : LayerMessages → List Round
-rounds_of layer = layer.rounds.items
+layer_apart : (k : ℕ) (x y : LayerMessages) → HasShape k x → HasShape k y → layer_coefficients x ≡ layer_coefficients y → x ≡ y
+layer_apart k x y a b e =
+    let size : length (flat_map coefficients_of x.rounds) ≡ length (flat_map coefficients_of y.rounds) =
+    rounds_length x.rounds ∙ ap (λ n. 3 * n) (a.rounds ∙ sym b.rounds) ∙ sym (rounds_length y.rounds) in
+    let rounds = rounds_apart x.rounds y.rounds (front_same (flat_map coefficients_of x.rounds) x.line (flat_map coefficients_of y.rounds) y.line size e) in
+    let line = back_same (flat_map coefficients_of x.rounds) x.line (flat_map coefficients_of y.rounds) y.line size e in
+    λ i. record { rounds = rounds i; line = line i }
 
-abbrev line_of : LayerMessages → List K
-line_of layer = layer.line.items
+layers_apart : (ks : List ℕ) (xs ys : List LayerMessages) → HaveShape ks xs → HaveShape ks ys → all_coefficients xs ≡ all_coefficients ys → xs ≡ ys
+layers_apart [] [] [] a b e = refl
+layers_apart [] [] (y ∷ ys) a b e = absurd b
+layers_apart [] (x ∷ xs) ys a b e = absurd a
+layers_apart (k ∷ ks) [] ys a b e = absurd a
+layers_apart (k ∷ ks) (x ∷ xs) [] a b e = absurd b
+layers_apart (k ∷ ks) (x ∷ xs) (y ∷ ys) a b e =
+    let size : length (layer_coefficients x) ≡ length (layer_coefficients y) = layer_count k x a.0 ∙ sym (layer_count k y b.0) in
+    let whole : layer_coefficients x ++ all_coefficients xs ≡ layer_coefficients y ++ all_coefficients ys =
+    sym (flat_map-cons layer_coefficients x xs) ∙ e ∙ flat_map-cons layer_coefficients y ys in
+    cons_same x y xs ys
+    (layer_apart k x y a.0 b.0 (front_same (layer_coefficients x) (all_coefficients xs) (layer_coefficients y) (all_coefficients ys) size whole))
+    (layers_apart ks xs ys a.1 b.1 (back_same (layer_coefficients x) (all_coefficients xs) (layer_coefficients y) (all_coefficients ys) size whole))
 
-abbrev round_counts : List LayerMessages → List ℕ
-round_counts ls = map (λ layer. length layer.rounds.items) ls
-
-abbrev line_counts : List LayerMessages → List ℕ
-line_counts ls = map (λ layer. length layer.line.items) ls
-
-abbrev SameParts : List LayerMessages → List LayerMessages → Type 0
-SameParts xs ys = (map rounds_of xs ≡ map rounds_of ys) × (map line_of xs ≡ map line_of ys)
-
-head_same : (m n : ℕ) (ms ns : List ℕ) → m ∷ ms ≡ n ∷ ns → m ≡ n
-head_same m n ms ns e = cc e
-
-tail_same : (m n : ℕ) (ms ns : List ℕ) → m ∷ ms ≡ n ∷ ns → ms ≡ ns
-tail_same m n ms ns e = cc e
-
-layers_apart : (xs ys : List LayerMessages) → round_counts xs ≡ round_counts ys → line_counts xs ≡ line_counts ys → all_coefficients xs ≡ all_coefficients ys → SameParts xs ys
-layers_apart [] [] r l e = (refl, refl)
-layers_apart [] (y ∷ ys) r l e = absurd (cc r)
-layers_apart (x ∷ xs) [] r l e = absurd (cc r)
-layers_apart (x ∷ xs) (y ∷ ys) r l e =
-    let r0 = head_same (length (rounds_of x)) (length (rounds_of y)) (round_counts xs) (round_counts ys) r in
-    let l0 = head_same (length (line_of x)) (length (line_of y)) (line_counts xs) (line_counts ys) l in
-    let rs : length (flat_map coefficients_of (rounds_of x)) ≡ length (flat_map coefficients_of (rounds_of y)) = rounds_length (rounds_of x) ∙ ap (λ n. 3 * n) r0 ∙ sym (rounds_length (rounds_of y)) in
-    let whole : length (layer_coefficients x) ≡ length (layer_coefficients y) = length-append (flat_map coefficients_of (rounds_of x)) (line_of x) ∙ omega (arith, rs, l0) ∙ sym (length-append (flat_map coefficients_of (rounds_of y)) (line_of y)) in
-    let s : layer_coefficients x ++ all_coefficients xs ≡ layer_coefficients y ++ all_coefficients ys = sym (flat_map-cons layer_coefficients x xs) ∙ e ∙ flat_map-cons layer_coefficients y ys in
-    let one = front_same (layer_coefficients x) (all_coefficients xs) (layer_coefficients y) (all_coefficients ys) whole s in
-    let rest = layers_apart xs ys (tail_same (length (rounds_of x)) (length (rounds_of y)) (round_counts xs) (round_counts ys) r) (tail_same (length (line_of x)) (length (line_of y)) (line_counts xs) (line_counts ys) l) (back_same (layer_coefficients x) (all_coefficients xs) (layer_coefficients y) (all_coefficients ys) whole s) in (
-      cons_same (rounds_of x) (rounds_of y) (map rounds_of xs) (map rounds_of ys) (rounds_apart (rounds_of x) (rounds_of y) (front_same (flat_map coefficients_of (rounds_of x)) (line_of x) (flat_map coefficients_of (rounds_of y)) (line_of y) rs one)) rest.0,
-      cons_same (line_of x) (line_of y) (map line_of xs) (map line_of ys) (back_same (flat_map coefficients_of (rounds_of x)) (line_of x) (flat_map coefficients_of (rounds_of y)) (line_of y) rs one) rest.1,
-    )
-
-pub one_reading : (ks : List ℕ) (some others : Messages) → AreOf ks some → AreOf ks others → spelling some ≡ spelling others → SameMessages some others
+pub one_reading : (ks : List ℕ) (some others : Messages) → HaveShape (drop 1 ks) some.layers → HaveShape (drop 1 ks) others.layers → spelling some ≡ spelling others → some ≡ others
 one_reading ks some others a b e =
-    let p = layers_apart some.layers.items others.layers.items (a.rounds ∙ sym b.rounds) (a.lines ∙ sym b.lines)
-    (elements_apart (all_coefficients some.layers.items) (all_coefficients others.layers.items) (append_cancel_left magic (flat_map bytes_of (all_coefficients some.layers.items)) (flat_map bytes_of (all_coefficients others.layers.items)) e)) in
-    record { rounds = p.0; lines = p.1 }
+    let coefficients = elements_apart (all_coefficients some.layers) (all_coefficients others.layers)
+    (append_cancel_left magic (flat_map bytes_of (all_coefficients some.layers)) (flat_map bytes_of (all_coefficients others.layers)) e) in
+    let layers = layers_apart (drop 1 ks) some.layers others.layers a b coefficients in
+    λ i. record { layers = layers i }

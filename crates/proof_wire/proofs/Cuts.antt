@@ -1,13 +1,13 @@
 -- The coefficients up to the next layer, and the messages with that layer.
-use Rattle.std.specs.Prelude.{map}
-use Rattle.std.proofs.Common.{◌≡◌, ℕ, ◌+◌, ◌*◌, ◌-◌, ◌<◌, ◌≤◌, List, [], ◌∷◌, ◌++◌, length, get_or, take, drop, sym, ◌∙◌, ap, arith, length-drop, append-nil}
+use Rattle.std.proofs.Common.{◌≡◌, ℕ, ◌+◌, ◌*◌, ◌-◌, ◌<◌, ◌≤◌, List, [], ◌∷◌, ◌++◌, length, get_or, take, drop, sym, ◌∙◌, ap, subst, arith, length-drop, append-nil}
 use Rattle.std.proofs.Math.Seq.{take-add}
 use Rattle.std.proofs.lemmas.Grind.{flat_map-append}
-use Rattle.std.proofs.lemmas.List.{take_more, get_or-drop, map-append}
+use Rattle.std.proofs.lemmas.List.{take_more, get_or-drop}
 use Rattle.std.proofs.lemmas.List.Sums.{sum_by-take-le}
 use Rattle.field_ext.specs.Field.{K}
 use Rattle.proof_wire.specs.declared.messages.LayerMessages.{LayerMessages}
 use Rattle.proof_wire.specs.Spelling.{all_coefficients, coefficient_count, layer_coefficients}
+use Rattle.proof_wire.specs.Lists.{HasShape, HaveShape}
 use Rattle.proof_wire.proofs.Counts.{count_more}
 
 lower : (ks : List ℕ) (j k : ℕ) → k ≡ get_or ks (j + 1) 0 → k ≡ get_or (drop 1 ks) j 0
@@ -22,13 +22,18 @@ next_count ks j k from h e f = ap (λ n. n + (7 * k + 1)) f ∙ ap (λ n. coeffi
 pub next_within : (ks : List ℕ) (j k from n : ℕ) → j < length ks - 1 → k ≡ get_or ks (j + 1) 0 → from ≡ coefficient_count (take j (drop 1 ks)) → n ≡ coefficient_count (drop 1 ks) → from + (7 * k + 1) ≤ n
 next_within ks j k from n h e f g = omega (arith, next_count ks j k from h e f, g, sum_by-take-le (λ k. 7 * k + 1) (drop 1 ks) (j + 1))
 
-pub next_map : (f : ℕ → ℕ) (g : LayerMessages → ℕ) (ks : List ℕ) (j k : ℕ) (layers : List LayerMessages) (layer : LayerMessages) → j < length ks - 1 → k ≡ get_or ks (j + 1) 0 → g layer ≡ f k → map g layers ≡ map f (take j (drop 1 ks)) → map g (layers ++ layer ∷ []) ≡ map f (take (j + 1) (drop 1 ks))
-next_map f g ks j k layers layer h e s t =
-    map-append g layers (layer ∷ [])
-    ∙ ap (λ ns. ns ++ g layer ∷ []) t
-    ∙ ap (λ n. map f (take j (drop 1 ks)) ++ n ∷ []) (s ∙ ap f (lower ks j k e))
-    ∙ sym (map-append f (take j (drop 1 ks)) (get_or (drop 1 ks) j 0 ∷ []))
-    ∙ ap (map f) (sym (take_more (drop 1 ks) j 0 (within ks j h)))
+shape_append : (ks : List ℕ) (ms : List LayerMessages) (k : ℕ) (m : LayerMessages) → HaveShape ks ms → HasShape k m → HaveShape (ks ++ k ∷ []) (ms ++ m ∷ [])
+shape_append [] [] k m h one = (one, tt)
+shape_append [] (n ∷ ns) k m h one = absurd h
+shape_append (j ∷ ks) [] k m h one = absurd h
+shape_append (j ∷ ks) (n ∷ ns) k m h one = (h.0, shape_append ks ns k m h.1 one)
+
+pub next_shape : (ks : List ℕ) (j k : ℕ) (layers : List LayerMessages) (layer : LayerMessages) → j < length ks - 1 → k ≡ get_or ks (j + 1) 0 → HasShape k layer →
+    HaveShape (take j (drop 1 ks)) layers → HaveShape (take (j + 1) (drop 1 ks)) (layers ++ layer ∷ [])
+next_shape ks j k layers layer h e one before =
+    subst (λ (widths : List ℕ). HaveShape widths (layers ++ layer ∷ []))
+    (ap (λ (n : ℕ). take j (drop 1 ks) ++ n ∷ []) (lower ks j k e) ∙ sym (take_more (drop 1 ks) j 0 (within ks j h)))
+    (shape_append (take j (drop 1 ks)) layers k layer before one)
 
 pub next_part : (from size : ℕ) (elements : List K) (layers : List LayerMessages) (layer : LayerMessages) → layer_coefficients layer ≡ take size (drop from elements) → all_coefficients layers ≡ take from elements → all_coefficients (layers ++ layer ∷ []) ≡ take (from + size) elements
 next_part from size elements layers layer e f =

@@ -1,6 +1,6 @@
 -- Bytes that spell messages of the shape have no trouble.
 use Rattle.std.specs.Prelude.{Result, Ok, Err, IsErrAnd, MatchResult}
-use Rattle.std.proofs.Common.{◌≡◌, ℕ, ◌<◌, List, get_or, sym, ◌∙◌, subst, arith, refl, ◌++◌}
+use Rattle.std.proofs.Common.{◌≡◌, ℕ, ◌<◌, List, get_or, drop, sym, ◌∙◌, subst, arith, refl, ◌++◌}
 use Rattle.std.specs.List.{flat_map}
 use Rattle.field_ext.specs.Bytes.{bytes_of}
 use Rattle.std.proofs.lemmas.List.{get_or_append_left}
@@ -9,7 +9,8 @@ use Rattle.proof_wire.specs.declared.refused.BadProof.{BadProof}
 use Rattle.proof_wire.specs.declared.refused.BadProof.TheVariants.{Magic, Short, Range, Long}
 use Rattle.proof_wire.specs.declared.refused.ProofRefused.{ProofRefused}
 use Rattle.proof_wire.specs.declared.refused.ProofRefused.TheVariants.{Bad, Memory}
-use Rattle.proof_wire.specs.Spelling.{AreOf, all_coefficients, magic, spelling}
+use Rattle.proof_wire.specs.Spelling.{all_coefficients, magic, spelling}
+use Rattle.proof_wire.specs.Lists.{HaveShape}
 use Rattle.proof_wire.specs.Trouble.{RefusedFor, TroubleIs}
 use Rattle.proof_wire.proofs.Lengths.{count_is, spelling_length}
 use Rattle.proof_wire.proofs.Reading.{spelled_in_range}
@@ -17,13 +18,13 @@ use Rattle.proof_wire.proofs.Reading.{spelled_in_range}
 begins : (ys : List ℕ) (i : ℕ) → i < 4 → get_or (magic ++ ys) i 0 ≡ get_or magic i 0
 begins ys i h = get_or_append_left magic ys 0 i h
 
-pub faultless : (ks : List ℕ) (m : Messages) (trouble : BadProof) → AreOf ks m → TroubleIs ks (spelling m) trouble → ⊥
-faultless ks m (Magic at) a t = t.differs (begins (flat_map bytes_of (all_coefficients m.layers.items)) at t.early)
+pub faultless : (ks : List ℕ) (m : Messages) (trouble : BadProof) → HaveShape (drop 1 ks) m.layers → TroubleIs ks (spelling m) trouble → ⊥
+faultless ks m (Magic at) a t = t.differs (begins (flat_map bytes_of (all_coefficients m.layers)) at t.early)
 faultless ks m (Short at need) a t = omega (arith, t.at_end, t.whole, t.early, spelling_length ks m a)
-faultless ks m (Range at) a t = t.bad (spelled_in_range (all_coefficients m.layers.items) t.index (subst (λ n. t.index < n) (sym (count_is ks m a)) t.among))
+faultless ks m (Range at) a t = t.bad (spelled_in_range (all_coefficients m.layers) t.index (subst (λ n. t.index < n) (sym (count_is (drop 1 ks) m.layers a)) t.among))
 faultless ks m (Long extra) a t = omega (arith, t.some, t.behind, spelling_length ks m a)
 
-pub only_memory : (ks : List ℕ) (m : Messages) (bytes : List ℕ) (e : ProofRefused) → AreOf ks m → bytes ≡ spelling m → RefusedFor ks bytes e → e ≡ Memory
+pub only_memory : (ks : List ℕ) (m : Messages) (bytes : List ℕ) (e : ProofRefused) → HaveShape (drop 1 ks) m.layers → bytes ≡ spelling m → RefusedFor ks bytes e → e ≡ Memory
 only_memory ks m bytes (Bad trouble) a s t = absurd (faultless ks m trouble a (subst (λ ys. TroubleIs ks ys trouble) s t))
 only_memory ks m bytes Memory a s t = refl
 

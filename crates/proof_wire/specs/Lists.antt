@@ -1,4 +1,4 @@
--- The messages of a proof as one list, as the equations take them
+-- The messages of a proof as one list, as the equations take them, and their shape
 use Rattle.std.specs.Prelude.{◌≡◌, ℕ, ◌+◌, List, [], ◌∷◌, ◌++◌, map, length}
 use Rattle.field_ext.specs.Field.{K}
 use Rattle.proof_wire.specs.declared.messages.Round.{Round}
@@ -11,14 +11,21 @@ round_messages rounds = map coefficients_of rounds
 
 -- a layer's messages: those of its rounds, and that of its line
 abbrev pub messages_of : LayerMessages → List (List K)
-messages_of m = round_messages m.rounds.items ++ m.line.items ∷ []
+messages_of m = round_messages m.rounds ++ m.line ∷ []
 
 -- all messages, in the order of the proof
 abbrev pub all_messages : List LayerMessages → List (List K)
 all_messages [] = []
 all_messages (m ∷ ms) = messages_of m ++ all_messages ms
 
--- two messages of rounds for each coordinate, and a line of k + 1 coefficients
+-- two messages of rounds for each of k coordinates, and a line of k + 1 coefficients
 pub record HasShape (k : ℕ) (messages : LayerMessages) : Type 0 where
-  pub rounds : length messages.rounds.items ≡ k + k
-  pub line : length messages.line.items ≡ k + 1
+  pub rounds : length messages.rounds ≡ k + k
+  pub line : length messages.line ≡ k + 1
+
+-- there are messages of its shape for each layer, where the layers below have these many coordinates
+abbrev pub HaveShape : List ℕ → List LayerMessages → Type 0
+HaveShape [] [] = Unit {0}
+HaveShape [] (m ∷ ms) = ⊥
+HaveShape (k ∷ ks) [] = ⊥
+HaveShape (k ∷ ks) (m ∷ ms) = HasShape k m × HaveShape ks ms

@@ -1,7 +1,9 @@
 ghost use Rattle.std.specs.Prelude.{◌≡◌, ◌+◌, ◌*◌, IfOk, length, drop};
 ghost use Rattle.std.specs.List.{flat_map};
-ghost use Rattle.proof_wire.specs.Spelling.{AreOf, all_coefficients, coefficient_count, coefficients_of, layer_coefficients};
+ghost use Rattle.proof_wire.specs.Spelling.{all_coefficients, coefficient_count, coefficients_of, layer_coefficients};
+ghost use Rattle.proof_wire.specs.Lists.{HasShape, HaveShape};
 
+use crate::listed::Listed;
 use crate::messages::{LayerMessages, Messages, Round};
 use circuit_core::Shape;
 use field_ext::Ext;
@@ -10,8 +12,8 @@ use std::alloc::{AllocError, Global};
 /// The messages with these coefficients, for a circuit of this shape.
 pub fn cut(alloc: Global, elements: &[Ext], shape: &Shape) -> Result<Messages, AllocError>
     requires { length elements.now ≡ coefficient_count (drop 1 shape.now.ks) }
-    ensures of { IfOk result (λ messages. AreOf shape.now.ks messages) }
-    ensures all { IfOk result (λ messages. all_coefficients messages.layers.items ≡ elements.now) }
+    ensures of { IfOk result (λ messages. HaveShape (drop 1 shape.now.ks) messages.layers) }
+    ensures all { IfOk result (λ messages. all_coefficients messages.layers ≡ elements.now) }
 {
     let mut layers = Vec::with_capacity(alloc, shape.layers() - 1)?;
     let mut from = 0;
@@ -21,19 +23,20 @@ pub fn cut(alloc: Global, elements: &[Ext], shape: &Shape) -> Result<Messages, A
         layers.push(cut_layer(alloc, &elements[from..next], k)?)?;
         from = next;
     }
-    Ok(Messages { layers })
+    Ok(Messages {
+        layers: Listed::of(layers),
+    })
 }
 
 fn cut_layer(alloc: Global, elements: &[Ext], k: usize) -> Result<LayerMessages, AllocError>
     requires { length elements.now ≡ 7 * k + 1 }
-    ensures rounds { IfOk result (λ layer. length layer.rounds.items ≡ 2 * k) }
-    ensures line { IfOk result (λ layer. length layer.line.items ≡ k + 1) }
+    ensures shape { IfOk result (λ layer. HasShape k layer) }
     ensures all { IfOk result (λ layer. layer_coefficients layer ≡ elements.now) }
 {
     let (of_rounds, of_line) = elements.split_at(6 * k);
     Ok(LayerMessages {
-        rounds: cut_rounds(alloc, of_rounds, 2 * k)?,
-        line: Vec::from_slice(alloc, of_line)?,
+        rounds: Listed::of(cut_rounds(alloc, of_rounds, 2 * k)?),
+        line: Listed::of(Vec::from_slice(alloc, of_line)?),
     })
 }
 

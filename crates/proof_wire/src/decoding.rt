@@ -2,7 +2,8 @@ ghost use Rattle.std.specs.Prelude.{◌≡◌, ◌≤◌, ◌+◌, ◌*◌, ◌<
 ghost use Rattle.std.specs.List.{flat_map};
 ghost use Rattle.field_ext.specs.Bytes.{bytes_of};
 ghost use Rattle.proof_wire.specs.declared.refused.ProofRefused.TheVariants.{Memory};
-ghost use Rattle.proof_wire.specs.Spelling.{AreOf, SameMessages, coefficient_count, magic, spelling};
+ghost use Rattle.proof_wire.specs.Spelling.{coefficient_count, magic, spelling};
+ghost use Rattle.proof_wire.specs.Lists.{HaveShape};
 ghost use Rattle.proof_wire.specs.Trouble.{Foreign, InRange, IsFront, Opens, RefusedFor, element_at};
 
 use crate::cutting::cut;
@@ -17,9 +18,10 @@ use std::alloc::Global;
 /// The messages that the bytes spell, for a circuit of this shape. The refusal names the first trouble from the front.
 /// No more memory is asked for than for the coefficients that are there.
 pub fn decode(alloc: Global, bytes: &[u8], shape: &Shape) -> Result<Messages, ProofRefused>
-    ensures of { IfOk result (λ messages. AreOf shape.now.ks messages) }
+    ensures of { IfOk result (λ messages. HaveShape (drop 1 shape.now.ks) messages.layers) }
     ensures found { IfOk result (λ messages. spelling messages ≡ bytes.now) }
-    ensures only { (messages : Messages) → AreOf shape.now.ks messages → bytes.now ≡ spelling messages → MatchResult result (λ read. SameMessages read messages) (λ e. e ≡ Memory) }
+    ensures only { (messages : Messages) → HaveShape (drop 1 shape.now.ks) messages.layers → bytes.now ≡ spelling messages →
+        MatchResult result (λ read. read ≡ messages) (λ e. e ≡ Memory) }
     ensures exact { IfErr result (λ e. RefusedFor shape.now.ks bytes.now e) }
 {
     let elements = read_all(alloc, bytes, shape)?;

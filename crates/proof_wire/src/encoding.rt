@@ -16,7 +16,7 @@ pub fn encode(alloc: Global, messages: &Messages) -> Result<Vec<u8>, AllocError>
 {
     let mut bytes = Vec::new(alloc);
     bytes.extend_from_slice(&MAGIC)?;
-    for layer in &messages.layers {
+    for layer in messages.layers.as_slice() {
         push_layer(&mut bytes, layer)?;
     }
     Ok(bytes)
@@ -25,8 +25,8 @@ pub fn encode(alloc: Global, messages: &Messages) -> Result<Vec<u8>, AllocError>
 fn push_layer(bytes: &mut Vec<u8>, layer: &LayerMessages) -> Result<(), AllocError>
     ensures { OnOk result (bytes.new.items ≡ bytes.old.items ++ flat_map bytes_of (layer_coefficients layer.now)) }
 {
-    push_rounds(bytes, &layer.rounds)?;
-    push_elements(bytes, &layer.line)
+    push_rounds(bytes, layer.rounds.as_slice())?;
+    push_elements(bytes, layer.line.as_slice())
 }
 
 fn push_rounds(bytes: &mut Vec<u8>, rounds: &[Round]) -> Result<(), AllocError>

@@ -16,11 +16,13 @@ mod decoding;
 mod encoding;
 pub mod laws;
 mod length;
+mod listed;
 mod messages;
 mod refused;
 
 pub use decoding::decode;
 pub use encoding::encode;
 pub use length::proof_len;
+pub use listed::Listed;
 pub use messages::{LayerMessages, Messages, Round};
 pub use refused::{BadProof, ProofRefused};

@@ -1,6 +1,4 @@
-ghost use Rattle.std.specs.Prelude.{◌≡◌};
-ghost use Rattle.proof_wire.specs.Spelling.{coefficients_of};
-
+use crate::listed::Listed;
 use field_ext::Ext;
 
 /// A round's message: the coefficients of a polynomial of degree at most 2, constant first.
@@ -12,6 +10,9 @@ pub struct Round {
 }
 
 impl Round {
+    ghost use Rattle.std.specs.Prelude.{◌≡◌};
+    ghost use Rattle.proof_wire.specs.Spelling.{coefficients_of};
+
     /// The message of these coefficients, constant first.
     pub fn of(coefficients: [Ext; 3]) -> Round
         ensures { coefficients_of result ≡ coefficients }
@@ -32,12 +33,12 @@ impl Round {
 /// coefficients are one more than the coordinates, constant first.
 #[derive(Drop)]
 pub struct LayerMessages {
-    pub rounds: Vec<Round>,
-    pub line: Vec<Ext>,
+    pub rounds: Listed<Round>,
+    pub line: Listed<Ext>,
 }
 
 /// All messages of a proof, those of the output layer first.
 #[derive(Drop)]
 pub struct Messages {
-    pub layers: Vec<LayerMessages>,
+    pub layers: Listed<LayerMessages>,
 }

@@ -1,11 +1,13 @@
 // The rounds of a sumcheck.
 
-ghost use Rattle.std.specs.Prelude.{◌≡◌, ◌+◌, ◌<◌, ◌^◌, true, false, IfOk, IfErr};
+ghost use Rattle.std.specs.Prelude.{◌≡◌, true, false, IfOk, IfErr};
 ghost use Rattle.field_ext.specs.Field.{k_ops, add_k, zero_k, one_k, same_k};
 ghost use Rattle.field_ext.specs.Polynomial.{value_at};
+ghost use Rattle.sumcheck_verify.specs.Sumcheck.{counted};
 
 use field_ext::Ext;
 use poly_roots::{sum01, value_at};
+use std::marker::Model;
 
 /// A message whose values at 0 and at 1 do not add to the claim.
 #[derive(Clone, Copy, Debug, PartialEq, Eq)]
@@ -18,13 +20,22 @@ pub struct SumFault {
     pub claim: Ext,
 }
 
-/// A sumcheck between two messages, or between a message and its challenge.
+/// A sumcheck between two messages, or between a message and its challenge. The count of messages stands still at the
+/// greatest `usize`.
 #[derive(Drop)]
 pub struct Rounds {
     claim: Ext,
     message: [Ext; 3],
     waiting: bool,
     taken: usize,
+}
+
+impl Model for Rounds {
+    ghost use Rattle.sumcheck_verify.specs.Sumcheck.{Sumcheck};
+
+    ghost Value = { Sumcheck };
+
+    ghost view = { λ r. record { claim = r.claim; message = r.message; waiting = r.waiting; taken = r.taken } };
 }
 
 impl Rounds {
@@ -45,30 +56,30 @@ impl Rounds {
     /// Takes the next round's message, of three coefficients. `SumFault` comes exactly where the value at 0 plus the
     /// value at 1 is not the claim, and then nothing changes.
     pub fn take(&mut self, message: [Ext; 3]) -> Result<(), SumFault>
-        requires ready { self.old.waiting ≡ false }
-        requires few { self.old.taken < 2 ^ 32 }
+        requires { self.old.waiting ≡ false }
         ensures holds { IfOk result (λ _. same_k (add_k (value_at k_ops message zero_k) (value_at k_ops message one_k)) self.old.claim ≡ true) }
         ensures message { IfOk result (λ _. self.new.message ≡ message) }
         ensures kept { IfOk result (λ _. self.new.claim ≡ self.old.claim) }
         ensures waiting { IfOk result (λ _. self.new.waiting ≡ true) }
-        ensures taken { IfOk result (λ _. self.new.taken ≡ self.old.taken + 1) }
+        ensures taken { IfOk result (λ _. self.new.taken ≡ counted self.old.taken) }
         ensures fails { IfErr result (λ fault. same_k (add_k (value_at k_ops message zero_k) (value_at k_ops message one_k)) self.old.claim ≡ false) }
-        ensures round { IfErr result (λ fault. fault.round ≡ self.old.taken + 1) }
+        ensures round { IfErr result (λ fault. fault.round ≡ counted self.old.taken) }
         ensures had { IfErr result (λ fault. fault.had ≡ add_k (value_at k_ops message zero_k) (value_at k_ops message one_k)) }
         ensures claim { IfErr result (λ fault. fault.claim ≡ self.old.claim) }
         ensures unchanged { IfErr result (λ fault. self.new ≡ self.old) }
     {
         let had = sum01(&message);
+        let round = self.taken.saturating_add(1);
         if !had.equals(self.claim) {
             return Err(SumFault {
-                round: self.taken + 1,
+                round,
                 had,
                 claim: self.claim,
             });
         }
         self.message = message;
         self.waiting = true;
-        self.taken += 1;
+        self.taken = round;
         Ok(())
     }
 

@@ -13,5 +13,5 @@ returns-clause-honest g c =
     let start : c.start-challenges.result ≡ start_state c.args.case.now.program c.args.case.now.inputs c.args.outputs.now =
     same_start _ case.program _ case.inputs _ c.args.outputs.now _ (c.of-statement.ensures.text ∙ c.program.ensures.program) (c.of-statement.ensures.inputs ∙ c.inputs.ensures.inputs) c.of-statement.ensures.outputs c.start-challenges.ensures in
     IfOk-weaker c.prove.result _ _
-    (λ messages honest. subst (λ (s : List ℕ). IsHonestProof c.args.circuit.now.parts case.inputs transcript s (all_messages messages.layers.items)) start (honest case.inputs c.requires.tables))
+    (λ messages honest. subst (λ (s : List ℕ). IsHonestProof c.args.circuit.now.parts case.inputs transcript s (all_messages messages.layers)) start (honest case.inputs c.requires.tables))
     c.prove.ensures.honest

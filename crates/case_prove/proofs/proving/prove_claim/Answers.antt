@@ -42,7 +42,7 @@ returns g c =
       messages = c.in_ok-messages.messages;
       of_shape = c.in_ok-messages.ensures.shape;
       honest =
-          subst (λ (xs : List F). IsHonestProof circuit.parts case.inputs transcript (start_state case.program case.inputs xs) (all_messages c.in_ok-messages.messages.layers.items)) c.deref.ensures.value
+          subst (λ (xs : List F). IsHonestProof circuit.parts case.inputs transcript (start_state case.program case.inputs xs) (all_messages c.in_ok-messages.messages.layers)) c.deref.ensures.value
           c.in_ok-messages.ensures.honest;
       proved_is =
           c.new.ensures

@@ -1,5 +1,5 @@
 -- The rounds and the line make a layer's messages
-use Rattle.std.proofs.Common.{◌≡◌, ℕ, ◌+◌, ◌++◌, List, [], IsTrue, length, take, drop, arith, ◌∙◌, ap, sym, subst}
+use Rattle.std.proofs.Common.{◌≡◌, ℕ, ◌+◌, ◌++◌, List, [], ◌∷◌, IsTrue, length, take, drop, arith, ◌∙◌, ap, sym, subst}
 use Rattle.std.proofs.lemmas.List.{length-map}
 use Rattle.field_ext.specs.Field.{K, k_ops}
 use Rattle.field_ext.specs.Polynomial.{coefficients}
@@ -7,11 +7,13 @@ use Rattle.wiring_poly.proofs.Identity.{take-front}
 use Rattle.gkr_layers.proofs.Coefficients.{length-coefficients}
 use Rattle.gkr_layers.specs.Sumcheck.{line_polynomial, point_between}
 use Rattle.round_tables.specs.LayerSum.{LayerSum}
-use Rattle.transcript_fs.specs.Source.{Source, state_after}
+use Rattle.transcript_fs.specs.Source.{Source, draws, state_after}
 use Rattle.proof_wire.specs.Spelling.{coefficients_of}
 use Rattle.proof_wire.specs.Lists.{round_messages}
 use Rattle.transcript_fs.proofs.Draws.{has_behind, has_front}
-use Rattle.gkr_layers.specs.Honest.{AreHonestRounds}
+use Rattle.gkr_layers.specs.Honest.{AreHonestRounds, IsHonestLayer}
+use Rattle.gkr_layers.specs.Layers.{next_place}
+use Rattle.gkr_layers.specs.Forms.Form.{Line}
 use Rattle.gkr_prove.proofs.HonestSteps.{honest_layer, layer_point, state-more}
 use Rattle.gkr_prove.proofs.layer.prove_layer.Goals as goal
 use Rattle.gkr_layers.specs.Places.Place.{At}
@@ -54,21 +56,22 @@ returns-clause-honest g c =
     let is : c.in_ok-tables.tables ≡ sum = λ i. record { k = started.k i; gates = started.gates i; values = started.values i; place = started.place i; bound = started.bound i } in
     let honest : AreHonestRounds c.args.values.now.k c.args.gates.now c.args.values.now.items (At c.args.point.now) (c.args.values.now.k + c.args.values.now.k) qs rs =
     subst (λ (t : LayerSum). AreHonestRounds t.k t.gates t.values t.place (t.k + t.k) qs rs) is rounds.honest in
+    coe 0 1 (j. IsHonestLayer Line k c.args.gates.now c.args.values.now.items (At c.args.point.now) (round_messages (sym c.of.ensures j) ++ sym c.of-2.ensures j ∷ []) (draws source s (round_messages (sym c.of.ensures j) ++ sym c.of-2.ensures j ∷ []))) (
     honest_layer k c.args.gates.now c.args.values.now.items (At c.args.point.now) source s qs rs c.in_ok-line.line.items
     (length-map messages.items coefficients_of ∙ sym messages.ok.0 ∙ rounds.count ∙ (λ i. started.k i + started.k i))
     (sym drawn.ok.0 ∙ rounds.challenges ∙ (λ i. started.k i + started.k i))
     rounds.drawn honest
     (c.in_ok-line.ensures.items ∙ c.coefficients.ensures ∙ c.in_ok-polynomial.ensures
     ∙ (λ i. coefficients k_ops (k + 1) (line_polynomial k_ops c.args.values.now.items (c.split_at.ensures.front i) (c.split_at.ensures.back i)))
-    ∙ (λ i. coefficients k_ops (k + 1) (line_polynomial k_ops c.args.values.now.items (take (c.k-k.ensures i) (c.as_slice.ensures.value i)) (drop (c.k-k.ensures i) (c.as_slice.ensures.value i)))))
+    ∙ (λ i. coefficients k_ops (k + 1) (line_polynomial k_ops c.args.values.now.items (take (c.k-k.ensures i) (c.as_slice.ensures.value i)) (drop (c.k-k.ensures i) (c.as_slice.ensures.value i))))))
 
 pub returns-clause-shape : goal.returns-clause-shape
 returns-clause-shape g c =
     let k = c.args.values.now.k in
     let line = c.in_ok-line.ensures.items ∙ c.coefficients.ensures ∙ c.in_ok-polynomial.ensures in
     record {
-      rounds = sym c.in_ok-messages.field-0.messages.ok.0 ∙ c.in_ok-messages.ensures.count ∙ (λ i. c.in_ok-tables.ensures.k i + c.in_ok-tables.ensures.k i);
-      line = ap length line ∙ length-coefficients k_ops (k + 1) _;
+      rounds = ap length c.of.ensures ∙ sym c.in_ok-messages.field-0.messages.ok.0 ∙ c.in_ok-messages.ensures.count ∙ (λ i. c.in_ok-tables.ensures.k i + c.in_ok-tables.ensures.k i);
+      line = ap length (c.of-2.ensures ∙ line) ∙ length-coefficients k_ops (k + 1) _;
     }
 
 pub returns-clause-point : goal.returns-clause-point
@@ -92,6 +95,7 @@ returns-clause-point g c =
     ∙ (λ i. point_between k_ops (c.split_at.ensures.front i) (c.split_at.ensures.back i) (last i))
     ∙ (λ i. point_between k_ops (take (c.k-k.ensures i) (c.as_slice.ensures.value i)) (drop (c.k-k.ensures i) (c.as_slice.ensures.value i)) (source.draw (source.absorb (state_after source s qs) line))))
     ∙ layer_point k c.args.gates.now c.args.values.now.items (At c.args.point.now) source s qs rs line (sym drawn.ok.0 ∙ rounds.challenges ∙ (λ i. started.k i + started.k i)) rounds.drawn
+    ∙ (λ j. next_place k_ops Line k (draws source s (round_messages (sym c.of.ensures j) ++ sym c.of-2.ensures j ∷ [])))
 
 pub returns-clause-state : goal.returns-clause-state
 returns-clause-state g c =
@@ -101,3 +105,4 @@ returns-clause-state g c =
     let line : List K = c.in_ok-line.line.items in
     c.challenge-challenge.ensures.state ∙ ap source.after (c.absorb.ensures ∙ (λ i. source.absorb (c.in_ok-messages.ensures.state i) (c.deref.ensures.value i)))
     ∙ sym (state-more source s qs line)
+    ∙ (λ j. state_after source s (round_messages (sym c.of.ensures j) ++ sym c.of-2.ensures j ∷ []))

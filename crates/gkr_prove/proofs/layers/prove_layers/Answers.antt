@@ -4,11 +4,10 @@ use Rattle.field_ext.specs.Field.{K, k_ops}
 use Rattle.circuit_core.specs.Parts.{Parts, height}
 use Rattle.circuit_core.specs.Sound.{exponent_at}
 use Rattle.mle_table.specs.Shape.{TableValues}
-use Rattle.gkr_layers.specs.Layers.{GateLayer, layers_of, message_count, layers_below, layer_at, next_place}
+use Rattle.gkr_layers.specs.Layers.{GateLayer, layers_of, lower_exponents, message_count, layers_below, layer_at, next_place}
 use Rattle.transcript_fs.specs.Source.{Source, draws, state_after}
 use Rattle.proof_wire.specs.declared.messages.LayerMessages.{LayerMessages}
-use Rattle.proof_wire.specs.Lists.{messages_of, all_messages, HasShape}
-use Rattle.gkr_layers.specs.Shapes.{HaveShape}
+use Rattle.proof_wire.specs.Lists.{messages_of, all_messages, HasShape, HaveShape}
 use Rattle.transcript_fs.proofs.Draws.{length-draws, state-append}
 use Rattle.gkr_layers.proofs.Circuits.{below_more, below_none}
 use Rattle.gkr_layers.proofs.Shapes.{length-messages, has_layer, has_below}
@@ -78,7 +77,7 @@ loop-layer-preserved g c =
           (has_below source now (layer_at p i) (layers_below p (i + 1)) (has_here p source now i u before.has) m shape);
       state = proved.state ∙ (λ j. state_after source (before.state j) M) ∙ sym (state-append source s (all_messages ms) M) ∙ (λ j. state_after source s (sym joined j));
       shape = λ rest h.
-          subst (λ (xs : List LayerMessages). HaveShape (layers_of p) xs) (sym (append_assoc ms (m ∷ []) rest) ∙ ap (λ (xs : List LayerMessages). xs ++ rest) (sym noted))
+          subst (λ (xs : List LayerMessages). HaveShape (lower_exponents (layers_of p)) xs) (sym (append_assoc ms (m ∷ []) rest) ∙ ap (λ (xs : List LayerMessages). xs ++ rest) (sym noted))
           (before.shape (m ∷ rest) (shape_more p i m rest u shape h));
       whole = λ inputs tables qs rs rest.
           coe 0 1 (j. AreHonest Line (layers_of p) (input_table p inputs) (At first) (all_messages (sym noted j) ++ qs) (draws source s (all_messages (sym noted j)) ++ rs))
@@ -103,5 +102,5 @@ returns-clause-shape g c =
     let p : Parts = c.args.circuit.now.parts in
     let ms : List LayerMessages = c.loop-layer.messages.items in
     let u : height c.args.circuit.now.parts ≤ c.loop-layer.layer = omega (arith, c.loop-layer-test.false, c.height-layer-end.ensures) in
-    let nothing : HaveShape (layers_below p c.loop-layer.layer) [] = subst (λ (layers : List GateLayer). HaveShape layers []) (sym (below_none p c.loop-layer.layer u)) tt in
-    subst (λ (xs : List LayerMessages). HaveShape (layers_of p) xs) (append-nil ms) (c.loop-layer.invariant.shape [] nothing)
+    let nothing : HaveShape (lower_exponents (layers_below p c.loop-layer.layer)) [] = subst (λ (layers : List GateLayer). HaveShape (lower_exponents layers) []) (sym (below_none p c.loop-layer.layer u)) tt in
+    subst (λ (xs : List LayerMessages). HaveShape (lower_exponents (layers_of p)) xs) (append-nil ms) (c.loop-layer.invariant.shape [] nothing)

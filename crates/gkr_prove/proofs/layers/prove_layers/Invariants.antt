@@ -3,11 +3,10 @@ use Rattle.std.proofs.Common.{◌≡◌, List, ◌++◌, length, IsTrue}
 use Rattle.field_ext.specs.Field.{F, K}
 use Rattle.circuit_core.specs.Sound.{exponent_at}
 use Rattle.circuit_eval.specs.Tables.{AreTables}
-use Rattle.gkr_layers.specs.Layers.{layers_of, message_count, layers_below}
+use Rattle.gkr_layers.specs.Layers.{layers_of, lower_exponents, message_count, layers_below}
 use Rattle.transcript_fs.specs.Source.{draws, state_after}
 use Rattle.proof_wire.specs.declared.messages.LayerMessages.{LayerMessages}
-use Rattle.proof_wire.specs.Lists.{all_messages}
-use Rattle.gkr_layers.specs.Shapes.{HaveShape}
+use Rattle.proof_wire.specs.Lists.{all_messages, HaveShape}
 use Rattle.gkr_layers.specs.Honest.{AreHonest}
 use Rattle.gkr_layers.specs.Acceptance.{input_table}
 use Rattle.gkr_prove.proofs.layers.prove_layers.Given as goal
@@ -19,7 +18,7 @@ invariant-loop-layer g l = record {
   position : length l.point.items ≡ exponent_at l.circuit.parts l.layer;
   has : IsTrue (g.C.Challenges.source.has (g.C.Challenges.state l.challenges) (message_count (layers_below l.circuit.parts l.layer)));
   state : g.C.Challenges.state l.challenges ≡ state_after g.C.Challenges.source (g.C.Challenges.state l.fn.challenges) (all_messages l.messages.items);
-  shape : (ms : List LayerMessages) → HaveShape (layers_below l.circuit.parts l.layer) ms → HaveShape (layers_of l.circuit.parts) (l.messages.items ++ ms);
+  shape : (ms : List LayerMessages) → HaveShape (lower_exponents (layers_below l.circuit.parts l.layer)) ms → HaveShape (lower_exponents (layers_of l.circuit.parts)) (l.messages.items ++ ms);
   whole : (inputs : List F) → AreTables l.circuit.parts inputs l.values → (qs : List (List K)) (rs : List K) → AreHonest Line (layers_below l.circuit.parts l.layer) (input_table l.circuit.parts inputs) (At l.point.items) qs rs →
       AreHonest Line (layers_of l.circuit.parts) (input_table l.circuit.parts inputs) (At l.fn.point.items) (all_messages l.messages.items ++ qs) (draws g.C.Challenges.source (g.C.Challenges.state l.fn.challenges) (all_messages l.messages.items) ++ rs);
 }

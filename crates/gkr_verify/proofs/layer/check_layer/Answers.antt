@@ -9,19 +9,20 @@ use Rattle.gkr_layers.specs.Sumcheck.{point_between}
 use Rattle.circuit_core.proofs.Sizes.{size_of}
 use Rattle.transcript_fs.specs.Source.{Source, draws, state_after}
 use Rattle.proof_wire.specs.Spelling.{coefficients_of}
-use Rattle.gkr_layers.specs.Equations.{sum_equations, claim_after, first_failure}
+use Rattle.gkr_layers.specs.Equations.{sum_equations, claim_after, answer}
 use Rattle.gkr_verify.specs.Rounds.{sum_failure}
 use Rattle.proof_wire.specs.Lists.{round_messages}
 use Rattle.gkr_verify.proofs.LayerSteps.{round_fails, end_fails, end_holds}
 use Rattle.transcript_fs.proofs.Draws.{state-append, has_behind}
 use Rattle.gkr_verify.proofs.layer.check_layer.Goals as goal
+use Rattle.gkr_layers.specs.declared.verdict.Verdict.TheVariants.{End}
 use Rattle.gkr_layers.specs.Places.Place.{At}
 use Rattle.gkr_layers.specs.Forms.Form.{Line}
 
 pub check_rounds-requires-clause-few : goal.check_rounds-requires-clause-few
 check_rounds-requires-clause-few g c =
     let most = (size_of c.args.circuit.now (c.args.layer + 1) (omega (arith, c.requires.layer))).2 in
-    let count = ap length c.deref.ensures.value ∙ c.requires.shape.rounds in
+    let count = ap length c.as_slice.ensures ∙ c.requires.shape.rounds in
     omega (arith, most, count)
 
 pub returns-in-Err-clause-fails : goal.returns-in-Err-clause-fails
@@ -31,12 +32,12 @@ returns-in-Err-clause-fails g c below input qs =
     let m = c.args.messages.now in
     let k : ℕ = exponent_at c.args.circuit.now.parts (c.args.layer + 1) in
     let gates : List CircuitGate = get_or c.args.circuit.now.parts.layers c.args.layer [] in
-    let rounds : List (List K) = round_messages m.rounds.items in
-    let size = length-map m.rounds.items coefficients_of ∙ c.requires.shape.rounds in
-    let same = ap round_messages c.deref.ensures.value in
-    round_fails Line source s c.args.layer k gates below input (At c.args.point.now) c.args.claim rounds m.line.items qs size
-    (sum_failure c.args.layer c.in-Err.fault)
-    (λ rest. coe 0 1 (j. first_failure (sum_equations c.args.layer 1 c.args.claim (same j) (draws source s (same j)) ++ rest) ≡ sum_failure c.args.layer c.in-Err.fault) (c.in-Err.ensures.fails c.args.layer rest))
+    let rounds : List (List K) = round_messages m.rounds in
+    let size = length-map m.rounds coefficients_of ∙ c.requires.shape.rounds in
+    let same = ap round_messages c.as_slice.ensures in
+    round_fails Line source s c.args.layer k gates below input (At c.args.point.now) c.args.claim rounds m.line qs size
+    (record { verdict = sum_failure c.args.layer c.in-Err.fault; state = g.C.Challenges.state c.check_rounds.new.challenges })
+    (λ rest more. coe 0 1 (j. answer source s (sum_equations c.args.layer 1 c.args.claim (same j) (draws source s (same j)) ++ rest) (same j ++ more) ≡ record { verdict = sum_failure c.args.layer c.in-Err.fault; state = g.C.Challenges.state c.check_rounds.new.challenges }) (c.in-Err.ensures.fails c.args.layer rest more))
 
 pub returns-then-not-equals-clause-fails : goal.returns-then-not-equals-clause-fails
 returns-then-not-equals-clause-fails g c below input qs =
@@ -45,19 +46,20 @@ returns-then-not-equals-clause-fails g c below input qs =
     let m = c.args.messages.now in
     let k : ℕ = exponent_at c.args.circuit.now.parts (c.args.layer + 1) in
     let gates : List CircuitGate = get_or c.args.circuit.now.parts.layers c.args.layer [] in
-    let rounds : List (List K) = round_messages m.rounds.items in
-    let size = length-map m.rounds.items coefficients_of ∙ c.requires.shape.rounds in
-    let same = ap round_messages c.deref.ensures.value in
-    end_fails Line source s c.args.layer k gates below input (At c.args.point.now) c.args.claim rounds m.line.items qs size
-    (λ rest. coe 0 1 (j. first_failure (sum_equations c.args.layer 1 c.args.claim (same j) (draws source s (same j)) ++ rest) ≡ first_failure rest) (c.in-Ok.ensures.holds c.args.layer rest))
+    let rounds : List (List K) = round_messages m.rounds in
+    let size = length-map m.rounds coefficients_of ∙ c.requires.shape.rounds in
+    let same = ap round_messages c.as_slice.ensures in
+    end_fails Line source s c.args.layer k gates below input (At c.args.point.now) c.args.claim rounds m.line qs size
+    (λ rest more. coe 0 1 (j. answer source s (sum_equations c.args.layer 1 c.args.claim (same j) (draws source s (same j)) ++ rest) (same j ++ more) ≡ answer source (state_after source s (same j)) rest more) (c.in-Ok.ensures.holds c.args.layer rest more))
     c.in-Ok.claim c.end_value-want.result
     (c.in-Ok.ensures.claim ∙ (λ j. claim_after c.args.claim (same j) (draws source s (same j))))
     (c.end_value-want.ensures
-    ∙ (λ i. summand_from k_ops gates c.args.point.now (c.split_at.ensures.front i) (c.split_at.ensures.back i) (value_at k_ops (c.deref-2.ensures.value i) zero_k) (value_at k_ops (c.deref-2.ensures.value i) one_k))
-    ∙ (λ i. summand_from k_ops gates c.args.point.now (take (c.requires.next i) c.check_rounds.new.drawn) (drop (c.requires.next i) c.check_rounds.new.drawn) (value_at k_ops m.line.items zero_k) (value_at k_ops m.line.items one_k))
-    ∙ (λ i. summand_from k_ops gates c.args.point.now (take k (c.in-Ok.ensures.drawn i)) (drop k (c.in-Ok.ensures.drawn i)) (value_at k_ops m.line.items zero_k) (value_at k_ops m.line.items one_k))
-    ∙ (λ i. summand_from k_ops gates c.args.point.now (take k (draws source s (same i))) (drop k (draws source s (same i))) (value_at k_ops m.line.items zero_k) (value_at k_ops m.line.items one_k)))
+    ∙ (λ i. summand_from k_ops gates c.args.point.now (c.split_at.ensures.front i) (c.split_at.ensures.back i) (value_at k_ops (c.as_slice-2.ensures i) zero_k) (value_at k_ops (c.as_slice-2.ensures i) one_k))
+    ∙ (λ i. summand_from k_ops gates c.args.point.now (take (c.requires.next i) c.check_rounds.new.drawn) (drop (c.requires.next i) c.check_rounds.new.drawn) (value_at k_ops m.line zero_k) (value_at k_ops m.line one_k))
+    ∙ (λ i. summand_from k_ops gates c.args.point.now (take k (c.in-Ok.ensures.drawn i)) (drop k (c.in-Ok.ensures.drawn i)) (value_at k_ops m.line zero_k) (value_at k_ops m.line one_k))
+    ∙ (λ i. summand_from k_ops gates c.args.point.now (take k (draws source s (same i))) (drop k (draws source s (same i))) (value_at k_ops m.line zero_k) (value_at k_ops m.line one_k)))
     (sym c.equals.ensures.computed ∙ c.if-not-equals.true)
+    ∙ (λ i. record { verdict = End c.args.layer c.in-Ok.claim c.end_value-want.result; state = sym (c.in-Ok.ensures.state ∙ (λ j. state_after source s (same j))) i })
 
 pub challenge-challenge-requires : goal.challenge-challenge-requires
 challenge-challenge-requires g c =
@@ -66,14 +68,14 @@ challenge-challenge-requires g c =
     let m = c.args.messages.now in
     let k : ℕ = exponent_at c.args.circuit.now.parts (c.args.layer + 1) in
     let gates : List CircuitGate = get_or c.args.circuit.now.parts.layers c.args.layer [] in
-    let rounds : List (List K) = round_messages m.rounds.items in
-    let size = length-map m.rounds.items coefficients_of ∙ c.requires.shape.rounds in
-    let same = ap round_messages c.deref.ensures.value in
+    let rounds : List (List K) = round_messages m.rounds in
+    let size = length-map m.rounds coefficients_of ∙ c.requires.shape.rounds in
+    let same = ap round_messages c.as_slice.ensures in
     let count : k + k + 1 ≡ length rounds + 1 = ap (λ n. n + 1) (sym size) in
     let left : IsTrue (source.has (state_after source s rounds) 1) = has_behind source s rounds 1 (subst (λ n. IsTrue (source.has s n)) count c.requires.has) in
     let there : IsTrue (source.has (g.C.Challenges.state c.check_rounds.new.challenges) 1) =
     subst (λ t. IsTrue (source.has t 1)) (sym (c.in-Ok.ensures.state ∙ (λ j. state_after source s (same j)))) left in
-    subst (λ t. IsTrue (source.has t 1)) (sym c.absorb.ensures) (source.has_absorbed (g.C.Challenges.state c.check_rounds.new.challenges) c.deref-3.result.now 1 there)
+    subst (λ t. IsTrue (source.has t 1)) (sym c.absorb.ensures) (source.has_absorbed (g.C.Challenges.state c.check_rounds.new.challenges) c.as_slice-3.result.now 1 there)
 
 pub returns-clause-holds : goal.returns-clause-holds
 returns-clause-holds g c below input qs =
@@ -82,20 +84,20 @@ returns-clause-holds g c below input qs =
     let m = c.args.messages.now in
     let k : ℕ = exponent_at c.args.circuit.now.parts (c.args.layer + 1) in
     let gates : List CircuitGate = get_or c.args.circuit.now.parts.layers c.args.layer [] in
-    let rounds : List (List K) = round_messages m.rounds.items in
-    let size = length-map m.rounds.items coefficients_of ∙ c.requires.shape.rounds in
-    let same = ap round_messages c.deref.ensures.value in
-    let state : g.C.Challenges.state c.absorb.new.self ≡ source.absorb (state_after source s rounds) m.line.items =
-    c.absorb.ensures ∙ (λ j. source.absorb ((c.in-Ok.ensures.state ∙ (λ j. state_after source s (same j))) j) (c.deref-3.ensures.value j)) in
-    end_holds Line source s c.args.layer k gates below input (At c.args.point.now) c.args.claim rounds m.line.items qs size
-    (λ rest. coe 0 1 (j. first_failure (sum_equations c.args.layer 1 c.args.claim (same j) (draws source s (same j)) ++ rest) ≡ first_failure rest) (c.in-Ok.ensures.holds c.args.layer rest))
+    let rounds : List (List K) = round_messages m.rounds in
+    let size = length-map m.rounds coefficients_of ∙ c.requires.shape.rounds in
+    let same = ap round_messages c.as_slice.ensures in
+    let state : g.C.Challenges.state c.absorb.new.self ≡ source.absorb (state_after source s rounds) m.line =
+    c.absorb.ensures ∙ (λ j. source.absorb ((c.in-Ok.ensures.state ∙ (λ j. state_after source s (same j))) j) (c.as_slice-3.ensures j)) in
+    end_holds Line source s c.args.layer k gates below input (At c.args.point.now) c.args.claim rounds m.line qs size
+    (λ rest more. coe 0 1 (j. answer source s (sum_equations c.args.layer 1 c.args.claim (same j) (draws source s (same j)) ++ rest) (same j ++ more) ≡ answer source (state_after source s (same j)) rest more) (c.in-Ok.ensures.holds c.args.layer rest more))
     c.in-Ok.claim c.end_value-want.result
     (c.in-Ok.ensures.claim ∙ (λ j. claim_after c.args.claim (same j) (draws source s (same j))))
     (c.end_value-want.ensures
-    ∙ (λ i. summand_from k_ops gates c.args.point.now (c.split_at.ensures.front i) (c.split_at.ensures.back i) (value_at k_ops (c.deref-2.ensures.value i) zero_k) (value_at k_ops (c.deref-2.ensures.value i) one_k))
-    ∙ (λ i. summand_from k_ops gates c.args.point.now (take (c.requires.next i) c.check_rounds.new.drawn) (drop (c.requires.next i) c.check_rounds.new.drawn) (value_at k_ops m.line.items zero_k) (value_at k_ops m.line.items one_k))
-    ∙ (λ i. summand_from k_ops gates c.args.point.now (take k (c.in-Ok.ensures.drawn i)) (drop k (c.in-Ok.ensures.drawn i)) (value_at k_ops m.line.items zero_k) (value_at k_ops m.line.items one_k))
-    ∙ (λ i. summand_from k_ops gates c.args.point.now (take k (draws source s (same i))) (drop k (draws source s (same i))) (value_at k_ops m.line.items zero_k) (value_at k_ops m.line.items one_k)))
+    ∙ (λ i. summand_from k_ops gates c.args.point.now (c.split_at.ensures.front i) (c.split_at.ensures.back i) (value_at k_ops (c.as_slice-2.ensures i) zero_k) (value_at k_ops (c.as_slice-2.ensures i) one_k))
+    ∙ (λ i. summand_from k_ops gates c.args.point.now (take (c.requires.next i) c.check_rounds.new.drawn) (drop (c.requires.next i) c.check_rounds.new.drawn) (value_at k_ops m.line zero_k) (value_at k_ops m.line one_k))
+    ∙ (λ i. summand_from k_ops gates c.args.point.now (take k (c.in-Ok.ensures.drawn i)) (drop k (c.in-Ok.ensures.drawn i)) (value_at k_ops m.line zero_k) (value_at k_ops m.line one_k))
+    ∙ (λ i. summand_from k_ops gates c.args.point.now (take k (draws source s (same i))) (drop k (draws source s (same i))) (value_at k_ops m.line zero_k) (value_at k_ops m.line one_k)))
     (sym c.equals.ensures.computed ∙ c.if-not-equals.false)
     (At c.point_at.new.point) c.value_at.result (g.C.Challenges.state c.challenge-challenge.new.self) c.challenge-challenge.result
     (c.challenge-challenge.ensures.value ∙ ap source.draw state)
@@ -104,7 +106,7 @@ returns-clause-holds g c below input qs =
     ∙ (λ i. point_between k_ops (take (c.requires.next i) c.check_rounds.new.drawn) (drop (c.requires.next i) c.check_rounds.new.drawn) c.challenge-challenge.result)
     ∙ (λ i. point_between k_ops (take k (c.in-Ok.ensures.drawn i)) (drop k (c.in-Ok.ensures.drawn i)) c.challenge-challenge.result)
     ∙ (λ i. point_between k_ops (take k (draws source s (same i))) (drop k (draws source s (same i))) c.challenge-challenge.result)))
-    (c.value_at.ensures ∙ (λ i. value_at k_ops (c.deref-4.ensures.value i) c.challenge-challenge.result))
+    (c.value_at.ensures ∙ (λ i. value_at k_ops (c.as_slice-4.ensures i) c.challenge-challenge.result))
     (c.challenge-challenge.ensures.state ∙ ap source.after state)
 
 pub returns-clause-state : goal.returns-clause-state
@@ -114,9 +116,9 @@ returns-clause-state g c =
     let m = c.args.messages.now in
     let k : ℕ = exponent_at c.args.circuit.now.parts (c.args.layer + 1) in
     let gates : List CircuitGate = get_or c.args.circuit.now.parts.layers c.args.layer [] in
-    let rounds : List (List K) = round_messages m.rounds.items in
-    let size = length-map m.rounds.items coefficients_of ∙ c.requires.shape.rounds in
-    let same = ap round_messages c.deref.ensures.value in
+    let rounds : List (List K) = round_messages m.rounds in
+    let size = length-map m.rounds coefficients_of ∙ c.requires.shape.rounds in
+    let same = ap round_messages c.as_slice.ensures in
     c.challenge-challenge.ensures.state
-    ∙ ap source.after (c.absorb.ensures ∙ (λ j. source.absorb ((c.in-Ok.ensures.state ∙ (λ j. state_after source s (same j))) j) (c.deref-3.ensures.value j)))
-    ∙ sym (state-append source s rounds (m.line.items ∷ []))
+    ∙ ap source.after (c.absorb.ensures ∙ (λ j. source.absorb ((c.in-Ok.ensures.state ∙ (λ j. state_after source s (same j))) j) (c.as_slice-3.ensures j)))
+    ∙ sym (state-append source s rounds (m.line ∷ []))

@@ -1,10 +1,11 @@
-use Rattle.std.proofs.Common.{◌+◌, List, arith, ◌∙◌, ap, sym, subst, IsTrue}
+use Rattle.std.proofs.Common.{◌≡◌, ◌+◌, List, arith, ◌∙◌, ap, sym, subst, IsTrue}
 use Rattle.std.proofs.lemmas.List.{length-map}
 use Rattle.std.proofs.lemmas.Result.{err_from_is_err_and}
 use Rattle.gkr_layers.specs.declared.verdict.Verdict.TheVariants.{Sum}
 use Rattle.field_ext.specs.Field.{K, k_ops}
 use Rattle.field_ext.specs.Polynomial.{value_at}
 use Rattle.transcript_fs.specs.Source.{Source}
+use Rattle.sumcheck_verify.specs.Sumcheck.{counted}
 use Rattle.proof_wire.specs.Spelling.{coefficients_of}
 use Rattle.proof_wire.specs.Lists.{round_messages}
 use Rattle.gkr_verify.proofs.RoundSteps.{has_now, stepped, failed, message_read}
@@ -28,7 +29,7 @@ loop-j-preserved g c =
     let size = length-map c.args.messages.now coefficients_of in
     record {
       ready = c.bind.ensures.waiting;
-      taken = c.bind.ensures.taken ∙ c.in_ok-take.ensures.taken ∙ ap (λ n. n + 1) before.taken;
+      taken = let few = c.requires.few in omega (arith, few, c.loop-j-test.true, c.bind.ensures.taken, c.in_ok-take.ensures.taken, before.taken);
       progress = stepped source (g.C.Challenges.state c.args.challenges.now) c.args.claim (round_messages c.args.messages.now) c.loop-j.j (g.C.Challenges.state c.loop-j.challenges) c.loop-j.rounds.claim c.loop-j.drawn before.progress
           q is.0 is.1 (omega (arith, size, c.loop-j.auto.drawn, c.requires.room)) c.in_ok-take.ensures.holds _ c.challenge-challenge.result _
           (c.challenge-challenge.ensures.value ∙ ap source.draw c.absorb.ensures)
@@ -44,7 +45,9 @@ returns-in_err-take-clause-fails g c =
     let is = message_read c.args.messages.now c.loop-j.j c.index-messages-j.result q c.loop-j-test.true c.index-messages-j.is c.coefficients-coefficients.ensures in
     let e = c.in_err-take.ensures in
     let p = err_from_is_err_and c.from_residual.result c.from_residual.ensures.1 in
-    rw (p.1, p.2) (λ number rest.
+    let few = c.requires.few in
+    let count : counted c.loop-j.rounds.taken ≡ c.loop-j.j + 1 = omega (arith, few, c.loop-j-test.true, before.taken) in
+    rw (p.1, p.2) (λ number rest more.
     failed source (g.C.Challenges.state c.args.challenges.now) c.args.claim (round_messages c.args.messages.now) c.loop-j.j (g.C.Challenges.state c.loop-j.challenges) c.loop-j.rounds.claim c.loop-j.drawn before.progress
-    q is.0 is.1 e.fails number rest
-    ∙ (λ i. Sum number (sym (e.round ∙ ap (λ n. n + 1) before.taken) i) (sym e.had i) (sym e.claim i)))
+    q is.0 is.1 e.fails number rest more
+    ∙ (λ i. record { verdict = Sum number (sym (e.round ∙ count) i) (sym e.had i) (sym e.claim i); state = g.C.Challenges.state c.loop-j.challenges }))

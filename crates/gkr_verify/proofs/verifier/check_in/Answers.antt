@@ -3,15 +3,14 @@ use Rattle.field_ext.specs.Field.{k_ops, embed_k}
 use Rattle.field_ext.specs.Multilinear.{extension_at}
 use Rattle.circuit_core.specs.Parts.{padded_values}
 use Rattle.circuit_core.specs.Sound.{exponent_at}
-use Rattle.gkr_layers.specs.Layers.{layers_of, message_count}
+use Rattle.gkr_layers.specs.Layers.{layers_of, lower_exponents, message_count}
 use Rattle.circuit_core.proofs.Sizes.{size_of}
 use Rattle.transcript_fs.specs.Source.{Source, coordinates, state_after_coordinates, draws}
 use Rattle.proof_wire.specs.declared.messages.LayerMessages.{LayerMessages}
-use Rattle.gkr_layers.specs.Equations.{equations, first_failure}
+use Rattle.gkr_layers.specs.Equations.{equations, answer}
 use Rattle.gkr_layers.specs.Acceptance.{CircuitClaim, claim_of}
-use Rattle.proof_wire.specs.Lists.{all_messages}
-use Rattle.gkr_layers.specs.Shapes.{HaveShape}
-use Rattle.transcript_fs.proofs.Draws.{has_front, has_after_point, point_front, point_rest}
+use Rattle.proof_wire.specs.Lists.{all_messages, HaveShape}
+use Rattle.transcript_fs.proofs.Draws.{has_front, has_after_point}
 use Rattle.gkr_layers.proofs.Shapes.{have_shape, messages_height, outputs_room}
 use Rattle.gkr_verify.proofs.verifier.check_in.Goals as goal
 use Rattle.gkr_layers.specs.Places.Place.{At}
@@ -33,11 +32,11 @@ values_extension-claim-requires-clause-fits g c =
 pub check_layers-requires-clause-layer : goal.check_layers-requires-clause-layer
 check_layers-requires-clause-layer g c =
     let count = messages_height c.args.circuit.now.parts c.args.messages.now c.requires.shape in
-    omega (arith, count, ap length c.deref.ensures.value)
+    omega (arith, count, ap length c.as_slice.ensures)
 
 pub check_layers-requires-clause-shape : goal.check_layers-requires-clause-shape
 check_layers-requires-clause-shape g c =
-    subst (λ (ms : List LayerMessages). HaveShape (layers_of c.args.circuit.now.parts) ms) (sym c.deref.ensures.value) (have_shape c.args.circuit.now.parts c.args.messages.now c.requires.shape)
+    subst (λ (ms : List LayerMessages). HaveShape (lower_exponents (layers_of c.args.circuit.now.parts)) ms) (sym c.as_slice.ensures) (have_shape c.args.circuit.now.parts c.args.messages.now c.requires.shape)
 
 pub check_layers-requires-clause-has : goal.check_layers-requires-clause-has
 check_layers-requires-clause-has g c =
@@ -53,14 +52,12 @@ returns g c =
     let s = g.C.Challenges.state c.args.challenges.now in
     let circuit = c.args.circuit.now in
     let k : ℕ = exponent_at circuit.parts 0 in
-    let qs = all_messages c.args.messages.now.layers.items in
+    let qs = all_messages c.args.messages.now.layers in
     let stated : CircuitClaim = claim_of circuit.parts c.args.inputs.now c.args.outputs.now in
     let count = c.split_at_mut-point.ensures.front_len ∙ c.coordinates.ensures.value in
     let z : c.draw_point.new.point ≡ coordinates source s k = c.draw_point.ensures.point ∙ ap (coordinates source s) count in
     let after : g.C.Challenges.state c.draw_point.new.challenges ≡ state_after_coordinates source s k = c.draw_point.ensures.state ∙ ap (state_after_coordinates source s) count in
     let width = ap (λ (n : ℕ). 2 ^ n) (c.draw_point.auto.point ∙ count) ∙ sym (size_of circuit 0 (omega arith)).0 in
-    let rest = draws source (state_after_coordinates source s k) qs in
     c.check_layers.ensures
-    ∙ (λ i. first_failure (equations Line 0 stated.layers stated.input_table (At c.draw_point.new.point) (c.values_extension-claim.ensures i) (all_messages (c.deref.ensures.value i)) (draws source (after i) (all_messages (c.deref.ensures.value i)))))
-    ∙ (λ i. first_failure (equations Line 0 stated.layers stated.input_table (At (z i)) (extension_at k_ops k_ops (λ x. x) (map embed_k (padded_values (width i) c.args.outputs.now)) (z i)) qs rest))
-    ∙ (λ i. first_failure (equations Line 0 stated.layers stated.input_table (At (sym (point_front source s k rest) i)) (extension_at k_ops k_ops (λ x. x) stated.claimed_table (sym (point_front source s k rest) i)) qs (sym (point_rest source s k rest) i)))
+    ∙ (λ i. answer source (after i) (equations Line 0 stated.layers stated.input_table (At c.draw_point.new.point) (c.values_extension-claim.ensures i) (all_messages (c.as_slice.ensures i)) (draws source (after i) (all_messages (c.as_slice.ensures i)))) (all_messages (c.as_slice.ensures i)))
+    ∙ (λ i. answer source (state_after_coordinates source s k) (equations Line 0 stated.layers stated.input_table (At (z i)) (extension_at k_ops k_ops (λ x. x) (map embed_k (padded_values (width i) c.args.outputs.now)) (z i)) qs (draws source (state_after_coordinates source s k) qs)) qs)

@@ -1,7 +1,7 @@
-use Rattle.std.specs.Prelude.{map}
-use Rattle.std.proofs.Common.{◌≡◌, ◌<◌, length, ◌*◌, ◌+◌, ◌-◌, ◌∙◌, arith, ap, take, drop}
+use Rattle.std.proofs.Common.{◌≡◌, ◌<◌, length, ◌*◌, ◌+◌, ◌-◌, ◌∙◌, arith, ap, sym, subst, take, drop}
 use Rattle.proof_wire.specs.Spelling.{all_coefficients, layer_coefficients}
-use Rattle.proof_wire.proofs.Cuts.{next_count, next_within, next_map, next_part}
+use Rattle.proof_wire.specs.Lists.{HaveShape}
+use Rattle.proof_wire.proofs.Cuts.{next_count, next_within, next_shape, next_part}
 use Rattle.proof_wire.proofs.cutting.cut.Goals as goal
 
 pub slice_bounds-cut_layer-end : goal.slice_bounds-cut_layer-end
@@ -20,6 +20,5 @@ loop-layer-preserved c =
     c.in_ok-cut_layer.ensures.all ∙ ap (λ n. take n (drop from c.args.elements.now)) (omega arith) in (
       next_count ks j k from h c.k-k.ensures here.0,
       ap all_coefficients grown ∙ next_part from (7 * k + 1) c.args.elements.now c.loop-layer.layers.items c.in_ok-cut_layer.field-0 cut_here here.1,
-      ap (map (λ layer. length layer.rounds.items)) grown ∙ next_map (λ k. 2 * k) (λ layer. length layer.rounds.items) ks j k c.loop-layer.layers.items c.in_ok-cut_layer.field-0 h c.k-k.ensures c.in_ok-cut_layer.ensures.rounds here.2,
-      ap (map (λ layer. length layer.line.items)) grown ∙ next_map (λ k. k + 1) (λ layer. length layer.line.items) ks j k c.loop-layer.layers.items c.in_ok-cut_layer.field-0 h c.k-k.ensures c.in_ok-cut_layer.ensures.line here.3,
+      subst (HaveShape (take (j + 1) (drop 1 ks))) (sym grown) (next_shape ks j k c.loop-layer.layers.items c.in_ok-cut_layer.field-0 h c.k-k.ensures c.in_ok-cut_layer.ensures.shape here.2),
     )

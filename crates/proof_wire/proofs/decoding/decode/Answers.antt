@@ -1,7 +1,7 @@
 use Rattle.std.proofs.Common.{◌≡◌, ◌++◌, sym, ◌∙◌, ap}
 use Rattle.std.specs.List.{flat_map}
 use Rattle.field_ext.specs.Bytes.{bytes_of}
-use Rattle.proof_wire.specs.Spelling.{SameMessages, magic, spelling}
+use Rattle.proof_wire.specs.Spelling.{magic, spelling}
 use Rattle.proof_wire.proofs.Apart.{one_reading}
 use Rattle.proof_wire.proofs.Troubles.{only_memory, stays_memory}
 use Rattle.proof_wire.proofs.decoding.decode.Goals as goal
@@ -9,7 +9,7 @@ use Rattle.proof_wire.proofs.decoding.decode.Goals as goal
 pub returns-in_err-elements-clause-only : goal.returns-in_err-elements-clause-only
 returns-in_err-elements-clause-only c = λ messages a s.
     let e = c.in_err-elements.field-0.0 in
-    stays_memory (λ read. SameMessages read messages) c.from_residual.result e (only_memory c.args.shape.now.ks messages c.args.bytes.now e a s c.in_err-elements.ensures.exact) c.from_residual.ensures.1
+    stays_memory (λ read. read ≡ messages) c.from_residual.result e (only_memory c.args.shape.now.ks messages c.args.bytes.now e a s c.in_err-elements.ensures.exact) c.from_residual.ensures.1
 
 pub returns-clause-only : goal.returns-clause-only
 returns-clause-only c = λ messages a s.

@@ -5,4 +5,4 @@ use Rattle.proof_wire.specs.Spelling.{layer_coefficients, magic}
 use Rattle.proof_wire.proofs.encoding.encode.Given as goal
 
 abbrev pub invariant-loop-layer : goal.invariant-loop-layer
-invariant-loop-layer l = l.bytes.items ≡ magic ++ flat_map bytes_of (flat_map layer_coefficients (take l.layer-index l.messages.layers.items))
+invariant-loop-layer l = l.bytes.items ≡ magic ++ flat_map bytes_of (flat_map layer_coefficients (take l.layer-index l.messages.layers))
