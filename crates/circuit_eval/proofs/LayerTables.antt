@@ -12,12 +12,6 @@ use Rattle.circuit_core.proofs.Faultless.{none_from_test, width_power, leaves_ro
 use Rattle.circuit_core.proofs.LayerValues.{layer_values_step, length-layer, length-input}
 use Rattle.circuit_eval.specs.Tables.{table_of, AreTables}
 
--- a list that was written element by element
-pub written : {X Y : Type 0} (f : X → Y) (xs : List X) (ys : List Y) (e : X) (d : Y) → length ys ≡ length xs → ((k : ℕ) → k < length xs → get_or ys k d ≡ f (get_or xs k e)) → ys ≡ map f xs
-written f xs ys e d long each =
-    same_lists ys (map f xs) (long ∙ sym (length-map xs f)) (λ k other l.
-    get_or_default ys k other d l ∙ each k (omega (arith, l, long)) ∙ sym (get_or-map f xs k e other (omega (arith, l, long))))
-
 pub map-reverse : {X Y : Type 0} (f : X → Y) (xs : List X) → map f (reverse xs) ≡ reverse (map f xs)
 map-reverse f [] = refl
 map-reverse f (x ∷ xs) =

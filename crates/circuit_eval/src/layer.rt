@@ -1,12 +1,10 @@
 //! The values of one layer.
 
 ghost use Rattle.std.specs.Prelude.{◌≡◌, ◌<◌, ◌+◌, ◌^◌, ℕ, length, slice_index_or, map, All, IfOk};
-ghost use Rattle.field_ext.specs.Field.{embed_k};
 ghost use Rattle.circuit_core.specs.Parts.{IsOver, zero_gate, gate_value, leaf_value, padded_values, width_of, height};
 
 use circuit_core::{Circuit, CircuitGate, gate_value, leaf_value};
-use field_ext::{Ext, Fp};
-use mle_table::Table;
+use field_ext::Fp;
 use rayon::prelude::*;
 use std::alloc::{AllocError, Global};
 use std::marker::Sync;
@@ -86,26 +84,4 @@ fn evaluate_side_by_side<R: Threads + Sync>(
             *value = gate_value(below, &gates[g]);
         },
     );
-}
-
-/// The table of a layer's values, of which there is a power of two.
-pub fn embedded(alloc: Global, values: &[Fp]) -> Result<Table, AllocError>
-    requires { (k : ℕ) × (length values.now ≡ 2 ^ k) }
-    ensures { IfOk result (λ t. t.items ≡ map embed_k values.now) }
-{
-    let mut items = vec![in alloc; Ext::zero(); values.len()]?;
-    embed(values, &mut items);
-    match Table::of_values(items) {
-        Ok(table) => Ok(table),
-        Err(_) => unreachable!(),
-    }
-}
-
-fn embed(values: &[Fp], items: &mut [Ext])
-    requires { length items.old ≡ length values.now }
-    ensures { items.new ≡ map embed_k values.now }
-{
-    for i in 0..values.len() {
-        items[i] = Ext::embed(values[i]);
-    }
 }

@@ -3,7 +3,7 @@
 ghost use Rattle.std.specs.Prelude.{◌≡◌, ◌<◌, length, slice_index_or, [], IfOk};
 ghost use Rattle.circuit_eval.specs.Tables.{AreTables};
 
-use crate::layer::{embedded, gate_values, input_values};
+use crate::layer::{gate_values, input_values};
 use circuit_core::Circuit;
 use field_ext::Fp;
 use mle_table::Table;
@@ -48,10 +48,10 @@ pub fn layer_values<R: Threads + Sync>(
 {
     let mut below = input_values(alloc, circuit, inputs)?;
     let mut tables: Vec<Table> = Vec::with_capacity(alloc, circuit.height() + 1)?;
-    tables.push(embedded(alloc, &below)?)?;
+    tables.push(Table::of_base(alloc, &below)?)?;
     for layer in (0..circuit.height()).rev() {
         let values = gate_values(rt, alloc, circuit.gates(layer), &below)?;
-        tables.push(embedded(alloc, &values)?)?;
+        tables.push(Table::of_base(alloc, &values)?)?;
         below = values;
     }
     tables.reverse();

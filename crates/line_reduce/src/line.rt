@@ -19,7 +19,7 @@ pub fn line_poly(alloc: Global, table: &Table, b: &[Ext], c: &[Ext]) -> Result<P
     requires end { length c.now ≡ table.now.k }
     ensures { IfOk result (λ line. line ≡ coefficients k_ops (table.now.k + 1) (line_polynomial k_ops table.now.items b.now c.now)) }
 {
-    let rows = values_of(alloc, table)?;
+    let rows = Vec::from_slice(alloc, table.values())?;
     Ok(Poly::of_coeffs(folded_rows(alloc, rows, b, c)?))
 }
 
@@ -28,18 +28,6 @@ pub fn claim_at(line: &Poly, t: Ext) -> Ext
     ensures { result ≡ value_at k_ops line.now t }
 {
     line.value_at(t)
-}
-
-// The values of a table.
-fn values_of(alloc: Global, table: &Table) -> Result<Vec<Ext>, AllocError>
-    requires { table.now.k ≤ 16 }
-    ensures { IfOk result (λ values. values.items ≡ table.now.items) }
-{
-    let mut values = Vec::new(alloc);
-    for i in 0..1 << table.k() {
-        values.push(table.at(i))?;
-    }
-    Ok(values)
 }
 
 // A table as rows of one coefficient, folded by the line's polynomials one after another to one row.

@@ -4,4 +4,5 @@ pub mod Points
 pub mod Steps
 pub mod EqualitySteps
 pub mod Powers
+pub mod Written
 pub mod AtField

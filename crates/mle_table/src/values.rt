@@ -1,10 +1,29 @@
-// Folding of lists of values.
+// Lists of values: as elements of K, and folded.
 
-ghost use Rattle.std.specs.Prelude.{◌≡◌, ◌≤◌, ◌*◌, ◌<◌, ◌^◌, ◌+◌, ℕ, length, vec_len};
-ghost use Rattle.field_ext.specs.Field.{k_ops};
+ghost use Rattle.std.specs.Prelude.{◌≡◌, ◌≤◌, ◌*◌, ◌<◌, ◌^◌, ◌+◌, ℕ, length, map, vec_len, IfOk};
+ghost use Rattle.field_ext.specs.Field.{k_ops, embed_k};
 ghost use Rattle.field_ext.specs.Multilinear.{folded, extension_at};
 
-use field_ext::Ext;
+use field_ext::{Ext, Fp};
+use std::alloc::{AllocError, Global};
+
+// Values of the base field as elements of K.
+pub(crate) fn embedded(alloc: Global, values: &[Fp]) -> Result<Vec<Ext>, AllocError>
+    ensures { IfOk result (λ v. v.items ≡ map embed_k values.now) }
+{
+    let mut items = vec![in alloc; Ext::zero(); values.len()]?;
+    embed(values, &mut items);
+    Ok(items)
+}
+
+fn embed(values: &[Fp], items: &mut [Ext])
+    requires { length items.old ≡ length values.now }
+    ensures { items.new ≡ map embed_k values.now }
+{
+    for i in 0..values.len() {
+        items[i] = Ext::embed(values[i]);
+    }
+}
 
 // Binds the first coordinate of a table to r.
 pub(crate) fn fold_values(values: &mut Vec<Ext>, r: Ext)

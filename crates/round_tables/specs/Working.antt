@@ -1,6 +1,7 @@
 -- What holds of the structures that keep a layer's tables
 use Rattle.std.specs.Prelude.{◌≡◌, ℕ, ◌+◌, ◌-◌, ◌^◌, ◌≤◌, ◌⊎◌, IsTrue, List, [], ◌∷◌, ◌++◌, length, take, vec_len, slice_index_or, if◌then◌else◌}
-use Rattle.field_ext.specs.Field.{K, k_ops, of, zero_k}
+use Rattle.field_ext.specs.Field.{K, k_ops}
+use Rattle.mle_table.specs.Shape.{AreBase}
 use Rattle.round_tables.specs.declared.layer_gates.LayerGates.{LayerGates}
 use Rattle.round_tables.specs.declared.working.Working.{Working}
 use Rattle.gkr_layers.specs.Places.{Place}
@@ -19,7 +20,7 @@ pub record IsLayerGates (layer : LayerGates) : Type 0 where
   pub layer_is : IsLayer K layer.k layer.gates.now layer.values.now.items (place_of layer)
   pub equality : HasWeights K k_ops (place_of layer) (length layer.gates.now) layer.point_equality.items
   pub equality_size : vec_len layer.point_equality ≡ length layer.gates.now
-  pub in_base : IsTrue layer.base → (i : ℕ) → (slice_index_or layer.values.now.items i zero_k).im ≡ of 0
+  pub in_base : IsTrue layer.base → AreBase layer.values.now.items
 
 -- the challenges bound so far
 abbrev pub bound_of : Working → List K

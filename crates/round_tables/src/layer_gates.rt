@@ -1,7 +1,7 @@
 // The gates of a layer, lent for the time of its sumcheck.
 
 ghost use Rattle.std.specs.Prelude.{◌≡◌, ◌≤◌, ◌<◌, ◌^◌, ℕ, IfOk, IsTrue, length, slice_index_or};
-ghost use Rattle.field_ext.specs.Field.{K, k_ops, of, zero_k};
+ghost use Rattle.field_ext.specs.Field.{K, k_ops};
 ghost use Rattle.gkr_layers.specs.Places.Place.{At, AtBoth};
 ghost use Rattle.round_tables.specs.Weights.{HasWeights};
 ghost use Rattle.round_tables.specs.Phase.{IsLayer};
@@ -24,7 +24,7 @@ pub(crate) struct LayerGates<'a> {
     pub(crate) weight: Ext,
     pub(crate) both: bool,
     pub(crate) point_equality: Vec<Ext>,
-    /// Whether all values lie in the base field.
+    /// Whether all values are known to lie in the base field.
     pub(crate) base: bool,
 }
 
@@ -34,19 +34,6 @@ pub(crate) fn power(k: usize) -> usize
     ensures { result ≡ 2 ^ k }
 {
     1 << k
-}
-
-/// Whether all values lie in the base field.
-fn are_base(values: &Table) -> bool
-    requires { values.now.k ≤ 16 }
-    ensures { IsTrue result → (i : ℕ) → (slice_index_or values.now.items i zero_k).im ≡ of 0 }
-{
-    for i in 0..power(values.k() as usize) {
-        if values.at(i).im().value() != 0 {
-            return false;
-        }
-    }
-    true
 }
 
 impl<'a> LayerGates<'a> {
@@ -75,7 +62,7 @@ impl<'a> LayerGates<'a> {
             weight: Ext::zero(),
             both: false,
             point_equality,
-            base: are_base(values),
+            base: values.is_base(),
         })
     }
 
@@ -107,7 +94,7 @@ impl<'a> LayerGates<'a> {
             weight,
             both: true,
             point_equality,
-            base: are_base(values),
+            base: values.is_base(),
         })
     }
 
@@ -116,9 +103,7 @@ impl<'a> LayerGates<'a> {
         requires { length room.old ≡ 2 ^ self.now.values.now.k }
         ensures { room.new ≡ self.now.values.now.items }
     {
-        for i in 0..room.len() {
-            room[i] = self.values.at(i);
-        }
+        room.copy_from_slice(self.values.values());
     }
 }
 

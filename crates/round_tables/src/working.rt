@@ -1,8 +1,9 @@
 // The working tables of a layer's sumcheck.
 
 ghost use Rattle.std.specs.Prelude.{◌≡◌, ℕ, ◌≤◌, ◌<◌, ◌+◌, ◌-◌, ◌*◌, ◌^◌, IfOk, IsTrue, [], ◌∷◌, ◌++◌, vec_len, slice_index_or, length, if◌then◌else◌, ◌==◌};
-ghost use Rattle.field_ext.specs.Field.{K, k_ops, of, zero_k};
+ghost use Rattle.field_ext.specs.Field.{K, k_ops, zero_k};
 ghost use Rattle.mle_table.specs.Equality.{IsEqTable};
+ghost use Rattle.mle_table.specs.Shape.{AreBase};
 ghost use Rattle.round_tables.specs.Tables.{IsFolded, GathersLeft, GathersRight, pair_at};
 ghost use Rattle.field_ext.specs.Polynomial.{coefficients, value_at};
 ghost use Rattle.field_ext.specs.Sums.{sum_below};
@@ -67,7 +68,7 @@ fn gather_first(layer: &LayerGates<'_>, values: &[Ext], scales: &mut [Ext], shif
 /// Folds a table of `half` pairs, whose values lie in the base field if `base` is true.
 fn fold_table<L: Ledger>(values: &mut [Ext], half: usize, r: Ext, base: bool, steps: &mut Steps<L>)
     requires pairs { 2 * half ≤ length values.old }
-    requires values { IsTrue base → (i : ℕ) → (slice_index_or values.old i zero_k).im ≡ of 0 }
+    requires values { IsTrue base → AreBase values.old }
     ensures folded { IsFolded k_ops half values.old r values.new }
     ensures steps { steps.new ≡ steps.old + half }
 {
@@ -93,7 +94,7 @@ fn sum_pairs<L: Ledger>(
     requires table { 2 * to ≤ length table.now }
     requires scales { 2 * to ≤ length scales.now }
     requires shifts { 2 * to ≤ length shifts.now }
-    requires values { IsTrue base → (i : ℕ) → (slice_index_or table.now i zero_k).im ≡ of 0 }
+    requires values { IsTrue base → AreBase table.now }
     ensures sum { (e : K) → value_at k_ops (result.constant ∷ result.linear ∷ result.square ∷ []) e ≡ sum_below k_ops (to - from) (λ j. pair_at k_ops table.now scales.now shifts.now e (from + j)) }
     ensures steps { steps.new ≡ steps.old + (to - from) }
 {
@@ -151,7 +152,7 @@ impl Working {
 
     /// Folds the three tables, of `half` pairs each.
     fn fold<L: Ledger>(&mut self, half: usize, r: Ext, base: bool, steps: &mut Steps<L>)
-        requires base { IsTrue base → (i : ℕ) → (slice_index_or self.old.table.items i zero_k).im ≡ of 0 }
+        requires base { IsTrue base → AreBase self.old.table.items }
         requires table { 2 * half ≤ vec_len self.old.table }
         requires scales { 2 * half ≤ vec_len self.old.scales }
         requires shifts { 2 * half ≤ vec_len self.old.shifts }
@@ -171,7 +172,7 @@ impl Working {
 
     /// Notes a challenge as bound, and folds the tables by it.
     fn advance<L: Ledger>(&mut self, k: usize, r: Ext, base: bool, steps: &mut Steps<L>)
-        requires base { IsTrue base → (i : ℕ) → (slice_index_or self.old.table.items i zero_k).im ≡ of 0 }
+        requires base { IsTrue base → AreBase self.old.table.items }
         requires least { 1 ≤ k }
         requires most { k ≤ 16 }
         requires rooms { HasRooms k self.old }
@@ -230,7 +231,7 @@ impl Working {
     fn is_base(&self, layer: &LayerGates<'_>) -> bool
         requires layer { IsLayerGates layer.now }
         requires works { WorksFor layer.now self.now }
-        ensures { IsTrue result → (i : ℕ) → (slice_index_or self.now.table.items i zero_k).im ≡ of 0 }
+        ensures { IsTrue result → AreBase self.now.table.items }
     {
         if self.count == 0 || self.count == layer.k {
             return layer.base;

@@ -8,8 +8,8 @@ use Rattle.circuit_eval.specs.Tables.{AreTables}
 use Rattle.circuit_eval.proofs.LayerTables.{length-values, values_power, made, AreTold, told_push, turned, map-reverse}
 use Rattle.circuit_eval.proofs.values.layer_values.Goals as goal
 
-pub embedded-requires : goal.embedded-requires
-embedded-requires g c =
+pub of_base-requires : goal.of_base-requires
+of_base-requires g c =
     let circuit = c.args.circuit.now in
     let inputs = c.args.inputs.now in
     let power = values_power circuit inputs (height circuit.parts) (omega arith) in
@@ -26,8 +26,8 @@ gate_values-requires g c =
     ap length (c.deref-in-loop-layer.ensures.value ∙ c.loop-layer.invariant.below) ∙ length-values circuit inputs layer within ∙ ap (λ (i : ℕ). width_of circuit.parts i) up in
     (search rules, subst (λ (width : ℕ). All (IsOver width) c.gates.result.now) (sym many) c.gates.ensures.operands)
 
-pub embedded-requires-in-loop-layer : goal.embedded-requires-in-loop-layer
-embedded-requires-in-loop-layer g c =
+pub of_base-requires-in-loop-layer : goal.of_base-requires-in-loop-layer
+of_base-requires-in-loop-layer g c =
     let circuit = c.args.circuit.now in
     let inputs = c.args.inputs.now in
     let layer = c.loop-layer.layer in
@@ -48,7 +48,7 @@ loop-layer-preserved g c =
     let inside : h < height circuit.parts = omega (arith, up, c.loop-layer.auto.layer, c.height-layer.ensures) in
     let values = made circuit inputs h layer c.deref-in-loop-layer.result.now c.in_ok-values.values.items c.gates.result.now inside up (c.deref-in-loop-layer.ensures.value ∙ c.loop-layer.invariant.below) c.gates.ensures.value c.in_ok-values.ensures in
     let tables = c.loop-layer.tables.items in
-    let table = c.in_ok-embedded-2.field-0 in
+    let table = c.in_ok-of_base-2.field-0 in
     let pushed : map (λ t. t.items) c.push-in-loop-layer.new.self.items ≡ map (λ t. t.items) tables ++ table.items ∷ [] =
     ap (map (λ t. t.items)) c.in_ok-push-2.ensures.items ∙ map-append (λ t. t.items) tables (table ∷ []) in
     record {
@@ -56,7 +56,7 @@ loop-layer-preserved g c =
       many = omega (arith, up, ap length c.in_ok-push-2.ensures.items, length_push tables table, c.loop-layer.invariant.many);
       told =
           subst (AreTold circuit inputs) (sym pushed)
-          (told_push circuit inputs (map (λ t. t.items) tables) table.items h (omega (arith, up, length-map tables (λ t. t.items), c.loop-layer.invariant.many)) c.loop-layer.invariant.told (c.in_ok-embedded-2.ensures ∙ ap (map embed_k) (c.deref-in-loop-layer-2.ensures.value ∙ values)));
+          (told_push circuit inputs (map (λ t. t.items) tables) table.items h (omega (arith, up, length-map tables (λ t. t.items), c.loop-layer.invariant.many)) c.loop-layer.invariant.told (c.in_ok-of_base-2.ensures ∙ ap (map embed_k) (c.deref-in-loop-layer-2.ensures.value ∙ values)));
     }
 
 pub returns : goal.returns

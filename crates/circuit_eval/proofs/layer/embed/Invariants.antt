@@ -1,8 +1,0 @@
--- The elements passed are written
-use Rattle.std.proofs.Common.{◌≡◌, ◌<◌, ℕ, get_or}
-use Rattle.field_ext.specs.Field.{embed_k, zero_k}
-use Rattle.circuit_core.specs.Parts.{zero_f}
-use Rattle.circuit_eval.proofs.layer.embed.Given as goal
-
-abbrev pub invariant-loop-i : goal.invariant-loop-i
-invariant-loop-i l = (k : ℕ) → k < l.i → get_or l.items k zero_k ≡ embed_k (get_or l.values k zero_f)
