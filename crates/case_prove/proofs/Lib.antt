@@ -8,3 +8,4 @@ mod ProvedText
 mod Statements
 mod TokensWithin
 mod WhiteSpace
+pub mod AcceptedProofs

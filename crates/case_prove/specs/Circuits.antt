@@ -1,12 +1,14 @@
 -- What the layout says of a case: the sizes of its program's circuit, or why there are none.
-use Rattle.std.specs.Prelude.{◌≡◌, ◌≢◌, ℕ, ◌+◌, ◌*◌, List, length, map, sum_by, slice_index_or, []}
+use Rattle.std.specs.Prelude.{◌≡◌, ◌≢◌, ℕ, ◌+◌, List, length, map, sum_by, slice_index_or, []}
 use Rattle.std.specs.List.{range_with_len}
 use Rattle.circuit_core.specs.declared.gate.Kind.TheVariants.{Add, Mul}
 use Rattle.circuit_core.specs.declared.gate.Kind.{Kind}
 use Rattle.circuit_core.specs.declared.gate.CircuitGate.{CircuitGate}
 use Rattle.circuit_core.specs.Parts.{Parts, height, width_of}
 use Rattle.circuit_core.specs.Sound.{exponent_at, exponents}
-use Rattle.gkr_layers.specs.Layers.{layers_of, message_count, total_exponent}
+use Rattle.gkr_layers.specs.Layers.{layers_of, challenges_of}
+use Rattle.gkr_layers.specs.Soundness.{sum_of_bounds}
+use Rattle.gkr_layers.specs.Forms.Form.{Line}
 use Rattle.proof_wire.specs.Spelling.{length_of}
 use Rattle.arr_compile.specs.Circuits.{IsCompiled, IsCircuitRefusal}
 use Rattle.case_text.specs.Content.{Content}
@@ -31,21 +33,12 @@ products p i = products_of (slice_index_or p.layers i [])
 abbrev pub layer_size : Parts → ℕ → LayerSize
 layer_size p i = record { positions = width_of p i; products = products p i }
 
--- one challenge for each coordinate of the output point, and one behind each message
-abbrev pub challenge_count : Parts → ℕ
-challenge_count p = exponent_at p 0 + message_count (layers_of p)
-
--- how many challenges are exceptional at most, each counted by its round's degree: 1 for a coordinate of the output point, 2 for each of
--- the rounds of a layer, and k for its line
-abbrev pub bound_sum : Parts → ℕ
-bound_sum p = exponent_at p 0 + 5 * total_exponent (layers_of p)
-
 abbrev pub sizes_of : Parts → Sizes
 sizes_of p = record {
   layers = map (layer_size p) (range_with_len 0 (height p + 1));
   proof = length_of (exponents p);
-  challenges = challenge_count p;
-  bound = bound_sum p;
+  challenges = challenges_of p;
+  bound = sum_of_bounds Line (exponent_at p 0) (layers_of p);
 }
 
 -- The case's program has a circuit of these sizes, and it has as many inputs as the case.

@@ -9,7 +9,7 @@ use Rattle.proof_wire.specs.Spelling.{spelling}
 use Rattle.proof_wire.specs.Trouble.{TroubleIs}
 use Rattle.transcript_fs.specs.Source.{all_draws}
 use Rattle.transcript_fs.specs.Transcript.{start_state, transcript}
-use Rattle.gkr_layers.specs.Acceptance.{claim_of, verdict_of}
+use Rattle.gkr_layers.specs.Acceptance.{Accepts, claim_of, verdict_of}
 use Rattle.proof_wire.specs.Lists.{all_messages, HaveShape}
 use Rattle.gkr_layers.specs.declared.verdict.Verdict.{Verdict}
 use Rattle.arr_compile.specs.Circuits.{IsCompiled, IsCircuitRefusal}
@@ -41,6 +41,21 @@ pub record IsVerdictOn (c : Content) (verdict : Verdict) : Type 0 where
   pub of_shape : HaveShape (drop 1 (exponents parts)) messages.layers
   pub spelled : c.proof ≡ Some (spelling messages)
   pub verdict_is : verdict ≡ transcript_verdict c parts outputs messages
+
+-- The case's proof spells messages of the circuit's shape, and every equation of acceptance holds for
+-- them and the challenges of the case's own transcript.
+pub record HasAcceptedProof (c : Content) : Type 0 where
+  pub parts : Parts
+  pub outputs : List F
+  pub claim : IsClaim c parts outputs
+  pub as_many : length outputs ≡ parts.outputs
+  pub messages : Messages
+  pub of_shape : HaveShape (drop 1 (exponents parts)) messages.layers
+  pub spelled : c.proof ≡ Some (spelling messages)
+  pub accepts :
+      let stated = claim_of parts c.inputs outputs in
+      let qs = all_messages messages.layers in
+      Accepts stated qs (all_draws transcript (start_state c.program c.inputs outputs) stated.k qs)
 
 -- The case has another number of outputs than its circuit.
 pub record IsOutputMiscounted (c : Content) (have need : ℕ) : Type 0 where

@@ -8,14 +8,14 @@ use Rattle.case_text.specs.declared.reply.Reply.{Reply}
 use Rattle.case_text.specs.declared.reply.Reply.TheVariants as replies
 use Rattle.arr_compile.specs.declared.refused.BadProgram.TheVariants.{At, Deep, Wide}
 use Rattle.case_prove.specs.Sound.{HasExceptionalChallenge, HasMeaning}
-use Rattle.case_prove.specs.Verified.{IsVerdictOn}
+use Rattle.case_prove.specs.Verified.{HasAcceptedProof, IsVerdictOn}
 use Rattle.gkr_layers.specs.declared.verdict.Verdict.TheVariants as verdicts
 use Rattle.gkr_cmd.specs.declared.status.Status.TheVariants.{Done}
 use Rattle.gkr_words.specs.declared.words.Command.{Command}
 use Rattle.gkr_words.specs.declared.words.CaseCommand.TheVariants.{Verify}
 use Rattle.gkr_words.specs.declared.words.Command.TheVariants.{OfCase}
 use Rattle.gkr_cmd.specs.Replies.{IsCommandReply, IsOfCase, IsVerifyAnswer, status_of}
-use Rattle.gkr_cmd.specs.Runs.{HasAcceptedProof}
+use Rattle.case_prove.proofs.AcceptedProofs.{meets, verdict_on}
 use Rattle.gkr_cmd.proofs.OneReply.{Found, found, long, no_case, of_case}
 use Rattle.gkr_cmd.proofs.VerifyAnswers.{Answer, answer, refused, miscounted, outputs_miscounted, bad_proof, verdict}
 
@@ -35,7 +35,7 @@ by_input : (input : List ℕ) {reply : Reply} → Found Full IsVerifyAnswer inpu
 by_input input (long limit is) e = absurd cc
 by_input input (no_case bad is) e = absurd cc
 by_input input {reply} (of_case c within read is) e =
-    let accepted = by_answer c (answer c reply is) e in (accepted.0, record { within = within; content = c; read = read; holds = accepted.1 })
+    let accepted = by_answer c (answer c reply is) e in (accepted.0, record { within = within; content = c; read = read; holds = meets c accepted.1 })
 
 -- the reply of `verify` with status 0
 pub accepted_of : (command : Option Command) (input : List ℕ) (reply : Reply) → command ≡ Some (OfCase Verify) → IsCommandReply command input reply → status_of reply ≡ Done →
@@ -50,4 +50,4 @@ one_case r c d is is' = cc
 pub sound_of : ((c : Content) → IsVerdictOn c verdicts.Accepted → ¬ HasMeaning c → (n : ℕ) × HasExceptionalChallenge c n)
     → (input : List ℕ) (content : Content) → IsOfCase Full input HasAcceptedProof → reading Full input ≡ Ok content → ¬ HasMeaning content → (n : ℕ) × HasExceptionalChallenge content n
 sound_of law input content case read wrong =
-    law content (subst HasAcceptedProof (one_case (reading Full input) case.content content case.read read) case.holds) wrong
+    law content (verdict_on content (subst HasAcceptedProof (one_case (reading Full input) case.content content case.read read) case.holds)) wrong

@@ -4,7 +4,7 @@ use Rattle.std.specs.Prelude.{IfOk, OnOk, IsErrOf}
 use Rattle.io_edge.specs.Causes.{Rose}
 use Rattle.case_prove.specs.Proved.{IsProved}
 use Rattle.case_prove.specs.Sound.{HasExceptionalChallenge, HasMeaning}
-use Rattle.case_prove.specs.Verified.{IsVerdictOn}
+use Rattle.case_prove.specs.Verified.{HasAcceptedProof, IsVerdictOn}
 use Rattle.case_text.specs.Content.{Content, Fits}
 use Rattle.case_text.specs.Reading.{reading}
 use Rattle.case_text.specs.Replies.{reply_text}
@@ -25,7 +25,7 @@ use Rattle.gkr_cmd.specs.Headline.{Asks, HasCauses, HasOneReply, Headline, Keeps
 use Rattle.gkr_cmd.specs.Reached.{IsReadUpTo, ReadsWithin}
 use Rattle.gkr_cmd.specs.Replies.{IsCommandReply, IsReply, status_of}
 use Rattle.case_prove.specs.Answers.{IsProveAnswer}
-use Rattle.gkr_cmd.specs.Runs.{EndsWithReply, HasAcceptedProof, HasCircuit, IsEvaluable, IsInput, IsReplied, WritesReplyFront}
+use Rattle.gkr_cmd.specs.Runs.{EndsWithReply, HasCircuit, IsEvaluable, IsInput, IsReplied, WritesReplyFront}
 use Rattle.gkr_cmd.specs.Finished.{Finishes, WritesSome}
 use Rattle.gkr_cmd.specs.RunLaws.{RunLaws}
 use Rattle.gkr_cmd.proofs.AcceptedCases.{accepted_of, sound_of}

@@ -10,7 +10,7 @@ use Rattle.case_text.specs.declared.reply.Reply.{Reply}
 use Rattle.case_text.specs.declared.reply.Reply.TheVariants as replies
 use Rattle.arr_compile.specs.declared.refused.BadProgram.TheVariants.{At, Deep, Wide}
 use Rattle.case_prove.specs.Proved.{IsProved}
-use Rattle.case_prove.specs.Verified.{IsVerdictOn}
+use Rattle.case_prove.specs.Verified.{HasAcceptedProof, IsVerdictOn}
 use Rattle.gkr_layers.specs.declared.verdict.Verdict.TheVariants as verdicts
 use Rattle.gkr_cmd.specs.declared.status.Status.TheVariants.{Done}
 use Rattle.gkr_words.specs.declared.words.CaseCommand.TheVariants.{Prove}
@@ -18,7 +18,7 @@ use Rattle.gkr_words.specs.declared.words.Command.{Command}
 use Rattle.gkr_words.specs.declared.words.Command.TheVariants.{OfCase}
 use Rattle.gkr_cmd.specs.Replies.{IsCommandReply, IsOfCase, status_of}
 use Rattle.case_prove.specs.Answers.{IsProveAnswer}
-use Rattle.gkr_cmd.specs.Runs.{HasAcceptedProof}
+use Rattle.case_prove.proofs.AcceptedProofs.{meets}
 use Rattle.gkr_cmd.proofs.OneReply.{Found, found, long, no_case, of_case}
 use Rattle.gkr_cmd.proofs.ProveAnswers.{Answer, answer, refused, miscounted, proved}
 
@@ -67,5 +67,5 @@ accepted_text accepted full short exactly input c p read is =
       within = omega (arith, few);
       content = p;
       read = (exactly Full (lower_case_text p) p).1 (full c p spelled.fits is);
-      holds = accepted c p is;
+      holds = meets p (accepted c p is);
     }

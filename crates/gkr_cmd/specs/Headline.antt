@@ -19,7 +19,8 @@ use Rattle.script_text.specs.Scripts.{script_reading}
 use Rattle.gkr_words.specs.Commands.{ReadsCase, command_of, input_limit, read_room, script_limit}
 use Rattle.gkr_cmd.specs.Reached.{IsReadUpTo, ReadsWithin}
 use Rattle.gkr_cmd.specs.Replies.{IsOfCase}
-use Rattle.gkr_cmd.specs.Runs.{EndsWithReply, HasAcceptedProof, HasCircuit, IsEvaluable, IsInput}
+use Rattle.case_prove.specs.Verified.{HasAcceptedProof}
+use Rattle.gkr_cmd.specs.Runs.{EndsWithReply, HasCircuit, IsEvaluable, IsInput}
 use Rattle.gkr_cmd.specs.Runs.{IsReplied, WritesHonestProof, WritesNoMore, WritesReplies}
 
 -- What the source and the sink of a run tell at one moment: the bytes that are left, the calls that
@@ -113,7 +114,7 @@ pub record HasCauses (run : Run) : Type 0 where
   -- with room for more than 4,096 bytes.
   pub read_within : ReadsCase (command_of run.words)
       → ReadsWithin (input_limit (command_of run.words) + 1) read_room run.before.left run.after.left
-        run.before.calls run.after.calls
+      run.before.calls run.after.calls
   -- A failure of the source, only where it failed and always there; then nothing is written.
   pub read_fault : run.ended ≡ statuses.ReadFault
       → Rose run.before.read_faults run.after.read_faults

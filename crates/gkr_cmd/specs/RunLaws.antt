@@ -3,7 +3,7 @@ use Rattle.std.specs.Prelude.{◌≡◌, ◌<◌, ◌↔◌, ℕ, List, Ok, leng
 use Rattle.case_prove.specs.Answers.{IsProveAnswer}
 use Rattle.case_prove.specs.Proved.{IsProved}
 use Rattle.case_prove.specs.Sound.{HasExceptionalChallenge, HasMeaning}
-use Rattle.case_prove.specs.Verified.{IsVerdictOn}
+use Rattle.case_prove.specs.Verified.{HasAcceptedProof, IsVerdictOn}
 use Rattle.case_text.specs.Content.{Content, Fits}
 use Rattle.case_text.specs.Reading.{reading}
 use Rattle.case_text.specs.Spelling.{Spells, lower_case_text}
@@ -14,7 +14,7 @@ use Rattle.gkr_layers.specs.declared.verdict.Verdict.TheVariants as verdicts
 use Rattle.gkr_cmd.specs.declared.status.Status.TheVariants as statuses
 use Rattle.gkr_cmd.specs.Replies.{IsCaseReply, IsCircuitAnswer, IsDemoAnswer, IsEvalAnswer, IsOfCase}
 use Rattle.gkr_cmd.specs.Replies.{IsVerifyAnswer, status_of}
-use Rattle.gkr_cmd.specs.Runs.{HasAcceptedProof, HasCircuit, IsEvaluable}
+use Rattle.gkr_cmd.specs.Runs.{HasCircuit, IsEvaluable}
 
 pub record RunLaws : Type 0 where
   pub evaluable : (input : List ℕ) (reply : Reply) → IsCaseReply Plain IsEvalAnswer input reply

@@ -7,8 +7,7 @@ use Rattle.arr_compile.specs.Programs.{IsAccepted}
 use Rattle.arr_compile.specs.Circuits.{IsCompiled}
 use Rattle.circuit_core.specs.Parts.{Parts}
 use Rattle.case_prove.specs.Proved.{IsProved}
-use Rattle.case_prove.specs.Verified.{IsVerdictOn}
-use Rattle.gkr_layers.specs.declared.verdict.Verdict.TheVariants.{Accepted}
+use Rattle.case_prove.specs.Verified.{HasAcceptedProof}
 use Rattle.case_text.specs.Content.{Content}
 use Rattle.case_text.specs.Replies.{reply_text, served_text}
 use Rattle.case_text.specs.Served.{Served}
@@ -73,10 +72,6 @@ pub record HasCircuit (c : Content) : Type 0 where
   pub parts : Parts
   pub compiled : IsCompiled c.program parts
   pub counted : length c.inputs ≡ parts.inputs
-
--- A case whose proof spells messages of its circuit's shape that meet every equation of acceptance.
-abbrev pub HasAcceptedProof : Content → Type 0
-HasAcceptedProof c = IsVerdictOn c Accepted
 
 -- The run wrote the text of this case with its program's meaning on its inputs as outputs and the
 -- one honest proof of them, and that text is one of an accepted case.

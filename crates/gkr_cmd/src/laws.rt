@@ -6,7 +6,8 @@ ghost use Rattle.case_text.specs.declared.reply.Reply.{Reply};
 ghost use Rattle.gkr_cmd.specs.declared.status.Status.TheVariants.{Done};
 ghost use Rattle.gkr_cmd.specs.Replies.{IsCaseReply, IsCircuitAnswer, IsDemoAnswer, IsEvalAnswer, IsVerifyAnswer, IsOfCase, IsReply, status_of};
 ghost use Rattle.case_prove.specs.Answers.{IsProveAnswer};
-ghost use Rattle.gkr_cmd.specs.Runs.{HasAcceptedProof, HasCircuit, IsEvaluable};
+ghost use Rattle.case_prove.specs.Verified.{HasAcceptedProof};
+ghost use Rattle.gkr_cmd.specs.Runs.{HasCircuit, IsEvaluable};
 ghost use Rattle.gkr_cmd.specs.Demo.{demo_case};
 
 use arr_compile::laws::{

@@ -1,6 +1,8 @@
 -- Few challenges are exceptional, and the bounds add up
-use Rattle.std.proofs.Common.{◌≡◌, ℕ, suc, ◌+◌, ◌-◌, ◌*◌, ◌<◌, ◌≤◌, ◌⊎◌, inl, inr, List, [], ◌∷◌, length, take, drop, get_or, nat_eq, MatchBool, refl, sym, ◌∙◌, ap, subst, arith, length-take, get_or-take, le-ltb, lt-ltb, ne_eqb, eq-eqb, All, replicate, Bool, zero, ◌++◌, true, false}
-use Rattle.std.proofs.lemmas.List.{get_or_past}
+use Rattle.std.proofs.Common.{◌≡◌, ℕ, suc, ◌+◌, ◌-◌, ◌*◌, ◌<◌, ◌≤◌, ◌⊎◌, inl, inr, List, [], ◌∷◌, length, take, drop, get_or, nat_eq, MatchBool, refl, sym, ◌∙◌, ap, subst, arith, length-take, get_or-take, le-ltb, lt-ltb, ne_eqb, eq-eqb, All, replicate, map, add-one, Bool, zero, ◌++◌, true, false}
+use Rattle.std.proofs.lemmas.List.{get_or_past, take_more, take_all}
+use Rattle.std.proofs.lemmas.List.FromFn.{map-range_with_len_more}
+use Rattle.std.specs.List.{range_with_len}
 use Rattle.std.proofs.lemmas.List.Sums.{sum_by-cons}
 use Rattle.std.proofs.lemmas.Bool.{cases_lt, cases_eq}
 use Rattle.std.specs.Prelude.{sum}
@@ -16,7 +18,7 @@ use Rattle.gkr_layers.proofs.Lists.{drop-take}
 use Rattle.gkr_layers.specs.Places.{Place}
 use Rattle.gkr_layers.specs.Forms.{Form, last_polynomial, last_degree}
 use Rattle.gkr_layers.specs.Forms.Form.{Line, Pair}
-use Rattle.gkr_layers.specs.Soundness.{IsExceptionalChallenge, layer_bounds, bounds, bound, HaveDegrees}
+use Rattle.gkr_layers.specs.Soundness.{IsExceptionalChallenge, layer_bounds, bounds_of, bounds, bound, sum_of_bounds, HaveDegrees}
 use Rattle.gkr_layers.proofs.Degree.{length-round_polynomial, length-last}
 
 few_none : (d : ℕ) → HasAtMost d (λ (v : K). ⊥)
@@ -151,18 +153,6 @@ pair_sum : (layers : List GateLayer) → sum (layer_bounds Pair layers) ≡ 4 * 
 pair_sum [] = refl
 pair_sum (layer ∷ layers) = omega (arith, bounds_front Pair layer layers, pair_sum layers)
 
--- of claims by lines
-pub line_bounds_add : (stated : CircuitClaim) → stated.form ≡ Line → sum (bounds stated) ≡ stated.k + 5 * total_exponent stated.layers
-line_bounds_add stated lines =
-    let all : sum (layer_bounds stated.form stated.layers) ≡ 5 * total_exponent stated.layers = ap (λ (form : Form). sum (layer_bounds form stated.layers)) lines ∙ line_sum stated.layers in
-    omega (arith, sum-front stated.k 1 (layer_bounds stated.form stated.layers), all)
-
--- of claims by pairs
-pub pair_bounds_add : (stated : CircuitClaim) → stated.form ≡ Pair → sum (bounds stated) ≡ stated.k + 4 * total_exponent stated.layers + length stated.layers
-pair_bounds_add stated pairs =
-    let all : sum (layer_bounds stated.form stated.layers) ≡ 4 * total_exponent stated.layers + length stated.layers = ap (λ (form : Form). sum (layer_bounds form stated.layers)) pairs ∙ pair_sum stated.layers in
-    omega (arith, sum-front stated.k 1 (layer_bounds stated.form stated.layers), all)
-
 -- there is one bound for each challenge
 length-front : (m x : ℕ) (rest : List ℕ) → length (replicate m x ++ rest) ≡ m + length rest
 length-front zero x rest = omega arith
@@ -174,3 +164,29 @@ length-bounds form (layer ∷ layers) = omega (arith, length-front (layer.k + la
 
 pub one_each : (stated : CircuitClaim) → length (bounds stated) ≡ challenge_count stated
 one_each stated = omega (arith, length-front stated.k 1 (layer_bounds stated.form stated.layers), length-bounds stated.form stated.layers)
+
+-- what is read at each of the first places is the front
+front_read : (xs : List ℕ) (n : ℕ) → n ≤ length xs → map (λ (i : ℕ). get_or xs i 0) (range_with_len 0 n) ≡ take n xs
+front_read xs zero u = refl
+front_read xs (suc n) u =
+    let f : ℕ → ℕ = λ i. get_or xs i 0 in
+    let here : n < length xs = omega (arith, u) in
+    ap (λ (m : ℕ). map f (range_with_len 0 m)) (sym (add-one n))
+    ∙ map-range_with_len_more f 0 n n (omega arith)
+    ∙ ap (λ (ys : List ℕ). ys ++ get_or xs n 0 ∷ []) (front_read xs n (omega (arith, u)))
+    ∙ sym (take_more xs n 0 here)
+    ∙ ap (λ (m : ℕ). take m xs) (add-one n)
+
+-- so that the bounds of all challenges add to the bounds
+summed : (form : Form) (k : ℕ) (layers : List GateLayer) → sum_of_bounds form k layers ≡ k + sum (layer_bounds form layers)
+summed form k layers =
+    let all : List ℕ = bounds_of form k layers in
+    let count : length (bounds_of form k layers) ≡ k + message_count layers = omega (arith, length-front k 1 (layer_bounds form layers), length-bounds form layers) in
+    ap sum (front_read all (k + message_count layers) (omega (arith, count)) ∙ take_all (k + message_count layers) all (omega (arith, count)))
+    ∙ omega (arith, sum-front k 1 (layer_bounds form layers))
+
+pub line_bounds_add : (k : ℕ) (layers : List GateLayer) → sum_of_bounds Line k layers ≡ k + 5 * total_exponent layers
+line_bounds_add k layers = omega (arith, summed Line k layers, line_sum layers)
+
+pub pair_bounds_add : (k : ℕ) (layers : List GateLayer) → sum_of_bounds Pair k layers ≡ k + 4 * total_exponent layers + length layers
+pair_bounds_add k layers = omega (arith, summed Pair k layers, pair_sum layers)

@@ -80,6 +80,10 @@ abbrev pub message_count : List GateLayer → ℕ
 message_count [] = 0
 message_count (layer ∷ layers) = (layer.k + layer.k + 1) + message_count layers
 
+-- how many challenges the proof of a circuit takes: the coordinates of the output point, and one behind each message
+abbrev pub challenges_of : Parts → ℕ
+challenges_of p = exponent_at p 0 + message_count (layers_of p)
+
 -- the coordinates of the layers below the outputs, together
 abbrev pub total_exponent : List GateLayer → ℕ
 total_exponent [] = 0

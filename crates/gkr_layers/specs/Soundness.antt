@@ -1,11 +1,12 @@
 -- Which challenges let a false claim pass, and how many they are
-use Rattle.std.specs.Prelude.{◌≡◌, ℕ, ◌+◌, ◌-◌, ◌<◌, ◌≤◌, List, [], ◌∷◌, ◌++◌, All, length, take, drop, replicate, slice_index, slice_index_or, nat_lt, MatchBool}
+use Rattle.std.specs.Prelude.{◌≡◌, ℕ, ◌+◌, ◌-◌, ◌<◌, ◌≤◌, List, [], ◌∷◌, ◌++◌, All, length, take, drop, replicate, slice_index, slice_index_or, map, sum, nat_lt, MatchBool}
+use Rattle.std.specs.List.{range_with_len}
 use Rattle.field_ext.specs.Field.{F, K, k_ops, zero_k}
 use Rattle.field_ext.specs.Polynomial.{HasAtMost}
 use Rattle.circuit_core.specs.Parts.{Parts, layer_values}
 use Rattle.gkr_layers.specs.Forms.{Form, last_degree}
 use Rattle.gkr_layers.specs.Sumcheck.{difference, IsExceptionalFold}
-use Rattle.gkr_layers.specs.Layers.{GateLayer, IsExceptional}
+use Rattle.gkr_layers.specs.Layers.{GateLayer, IsExceptional, message_count}
 use Rattle.gkr_layers.specs.Acceptance.{CircuitClaim, true_table, challenge_count, output_place}
 
 -- v is exceptional as challenge n, after these messages and challenges
@@ -22,8 +23,17 @@ abbrev pub layer_bounds : Form → List GateLayer → List ℕ
 layer_bounds form [] = []
 layer_bounds form (layer ∷ layers) = replicate (layer.k + layer.k) 2 ++ last_degree form layer.k ∷ layer_bounds form layers
 
+-- the bounds of all challenges in order, where the output layer has 2 ^ k positions
+abbrev pub bounds_of : Form → ℕ → List GateLayer → List ℕ
+bounds_of form k layers = replicate k 1 ++ layer_bounds form layers
+
+-- their sum over all challenges
+abbrev pub sum_of_bounds : Form → ℕ → List GateLayer → ℕ
+sum_of_bounds form k layers =
+    sum (map (slice_index (bounds_of form k layers)) (range_with_len 0 (k + message_count layers)))
+
 abbrev pub bounds : CircuitClaim → List ℕ
-bounds stated = replicate stated.k 1 ++ layer_bounds stated.form stated.layers
+bounds stated = bounds_of stated.form stated.k stated.layers
 
 abbrev pub bound : CircuitClaim → ℕ → ℕ
 bound stated n = slice_index (bounds stated) n

@@ -1,6 +1,6 @@
 // Laws of both forms of the protocol. Each function does nothing: its contract is a law that is proved.
 
-ghost use Rattle.std.specs.Prelude.{◌≡◌, ◌↔◌, ◌+◌, ◌*◌, ◌<◌, ◌≤◌, ◌^◌, ℕ, List, length, map, slice_index_or, sum, take, drop, All};
+ghost use Rattle.std.specs.Prelude.{◌≡◌, ◌↔◌, ◌+◌, ◌*◌, ◌<◌, ◌≤◌, ◌^◌, ℕ, List, length, map, slice_index_or, take, drop, All};
 ghost use Rattle.field_ext.specs.Field.{F, K, k_ops, zero_k, embed_k};
 ghost use Rattle.field_ext.specs.Polynomial.{HasAtMost};
 ghost use Rattle.field_ext.specs.Sums.{sum_cube};
@@ -19,7 +19,7 @@ ghost use Rattle.gkr_layers.specs.Forms.Form.{Line, Pair};
 ghost use Rattle.gkr_layers.specs.Sumcheck.{round_polynomial};
 ghost use Rattle.gkr_layers.specs.Layers.{GateLayer, LayersHold, IsExceptional, FitTogether, message_count, total_exponent, values_over, layers_below};
 ghost use Rattle.gkr_layers.specs.Acceptance.{CircuitClaim, Accepts, challenge_count, claim_in, claim_of, verdict_of, answer_from, input_table};
-ghost use Rattle.gkr_layers.specs.Soundness.{IsExceptionalChallenge, HaveDegrees, IsFalse, LetsPass, bound, bounds};
+ghost use Rattle.gkr_layers.specs.Soundness.{IsExceptionalChallenge, HaveDegrees, IsFalse, LetsPass, bound, bounds, sum_of_bounds};
 ghost use Rattle.gkr_layers.specs.Honest.{AreHonest, AreHonestMessages, IsHonestProof};
 
 /// The values that a circuit's layers have over F_p are those that the layers have as elements of K.
@@ -60,12 +60,12 @@ pub fn few_exceptional()
     ensures { (stated : CircuitClaim) (qs : List (List K)) (rs : List K) (n : ℕ) → HaveDegrees stated.form stated.layers qs → HasAtMost (bound stated n) (IsExceptionalChallenge stated qs rs n) }
 {}
 
-/// There is one bound for each challenge. By lines they add to the coordinates of the output point and five times those of
+/// There is one bound for each challenge. The bounds of all challenges add, by lines, to the coordinates of the output point and five times those of
 /// the layers below; by pairs to the coordinates of the output point, four times those of the layers below, and the layers.
 pub fn bounds_add()
     ensures one_each { (stated : CircuitClaim) → length (bounds stated) ≡ challenge_count stated }
-    ensures lines { (stated : CircuitClaim) → stated.form ≡ Line → sum (bounds stated) ≡ stated.k + 5 * total_exponent stated.layers }
-    ensures pairs { (stated : CircuitClaim) → stated.form ≡ Pair → sum (bounds stated) ≡ stated.k + 4 * total_exponent stated.layers + length stated.layers }
+    ensures lines { (k : ℕ) (layers : List GateLayer) → sum_of_bounds Line k layers ≡ k + 5 * total_exponent layers }
+    ensures pairs { (k : ℕ) (layers : List GateLayer) → sum_of_bounds Pair k layers ≡ k + 4 * total_exponent layers + length layers }
 {}
 
 /// A false claim on the first layer that passes every equation shows an exceptional challenge.

@@ -4,7 +4,7 @@ ghost use Rattle.std.specs.Prelude.{◌≡◌, ◌+◌, List, IfOk, IsTrue, drop
 ghost use Rattle.field_ext.specs.Field.{F};
 ghost use Rattle.circuit_core.specs.Sound.{exponent_at, exponents};
 ghost use Rattle.circuit_eval.specs.Tables.{AreTables};
-ghost use Rattle.gkr_layers.specs.Layers.{layers_of, message_count};
+ghost use Rattle.gkr_layers.specs.Layers.{challenges_of};
 ghost use Rattle.transcript_fs.specs.Source.{state_after, state_after_coordinates};
 ghost use Rattle.phase_run.specs.Work.{IsWorkerCount};
 ghost use Rattle.proof_wire.specs.Lists.{all_messages, HaveShape};
@@ -37,7 +37,7 @@ pub fn prove<R: Threads + Sync, C: Challenges, G: Gate>(
 ) -> Result<Messages, AllocError>
     requires workers { IsWorkerCount workers }
     requires values { (inputs : List F) × AreTables circuit.now.parts inputs values.now }
-    requires has { IsTrue (C.source.has (C.state challenges.old) (exponent_at circuit.now.parts 0 + message_count (layers_of circuit.now.parts))) }
+    requires has { IsTrue (C.source.has (C.state challenges.old) (challenges_of circuit.now.parts)) }
     ensures honest { IfOk result (λ messages. (inputs : List F) → AreTables circuit.now.parts inputs values.now →
         IsHonestProof circuit.now.parts inputs C.source (C.state challenges.old) (all_messages messages.layers)) }
     ensures state { IfOk result (λ messages. C.state challenges.new

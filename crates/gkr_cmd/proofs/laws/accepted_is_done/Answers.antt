@@ -1,6 +1,7 @@
 use Rattle.case_text.specs.declared.form.Form.TheVariants.{Full}
 use Rattle.gkr_cmd.specs.Replies.{IsVerifyAnswer}
-use Rattle.gkr_cmd.specs.Runs.{HasAcceptedProof}
+use Rattle.case_prove.specs.Verified.{HasAcceptedProof}
+use Rattle.case_prove.proofs.AcceptedProofs.{verdict_on}
 use Rattle.gkr_cmd.proofs.VerifyAnswers.{verify_done}
 use Rattle.gkr_cmd.proofs.OneReply.{done}
 use Rattle.gkr_cmd.proofs.laws.accepted_is_done.Goals as goal
@@ -8,5 +9,5 @@ use Rattle.gkr_cmd.proofs.laws.accepted_is_done.Goals as goal
 pub returns : goal.returns
 returns c =
     done Full IsVerifyAnswer HasAcceptedProof
-    (verify_done (record { circuit = c.one_circuit.ensures; refusal = c.one_circuit_refusal.ensures; either = c.compiled_or_refused.ensures })
-    (record { reading = c.one_reading.ensures; trouble = c.one_trouble.ensures; none = c.no_trouble.ensures }))
+    (λ content reply has. verify_done (record { circuit = c.one_circuit.ensures; refusal = c.one_circuit_refusal.ensures; either = c.compiled_or_refused.ensures })
+    (record { reading = c.one_reading.ensures; trouble = c.one_trouble.ensures; none = c.no_trouble.ensures }) content reply (verdict_on content has))

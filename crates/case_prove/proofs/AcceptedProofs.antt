@@ -1,0 +1,54 @@
+-- The verdict on a case is that it is accepted exactly where its proof meets every equation
+use Rattle.std.proofs.Common.{◌≡◌, ℕ, List, length, sym}
+use Rattle.field_ext.specs.Field.{F, K}
+use Rattle.circuit_core.specs.Parts.{Parts}
+use Rattle.circuit_core.specs.Sound.{exponent_at, exponents}
+use Rattle.proof_wire.specs.declared.messages.Messages.{Messages}
+use Rattle.proof_wire.specs.Lists.{all_messages}
+use Rattle.transcript_fs.specs.Source.{all_draws}
+use Rattle.transcript_fs.specs.Transcript.{start_state, transcript}
+use Rattle.gkr_layers.specs.declared.verdict.Verdict.TheVariants.{Accepted}
+use Rattle.gkr_layers.specs.Layers.{layers_of, message_count}
+use Rattle.gkr_layers.specs.Acceptance.{CircuitClaim, claim_of, challenge_count}
+use Rattle.gkr_layers.proofs.Accepted.{accepted_exactly}
+use Rattle.gkr_layers.proofs.Shapes.{have_shape, length-all, drawn}
+use Rattle.case_text.specs.Content.{Content}
+use Rattle.case_prove.specs.Verified.{HasAcceptedProof, IsVerdictOn}
+
+pub meets : (c : Content) → IsVerdictOn c Accepted → HasAcceptedProof c
+meets c is =
+    let stated : CircuitClaim = claim_of is.parts c.inputs is.outputs in
+    let qs : List (List K) = all_messages is.messages.layers in
+    let start : List ℕ = start_state c.program c.inputs is.outputs in
+    let rs : List K = all_draws transcript start (exponent_at is.parts 0) qs in
+    let size = length-all (layers_of is.parts) is.messages.layers (have_shape is.parts is.messages is.of_shape) in
+    let count = drawn is.parts c.inputs is.outputs transcript start is.messages is.of_shape in
+    record {
+      parts = is.parts;
+      outputs = is.outputs;
+      claim = is.claim;
+      as_many = is.as_many;
+      messages = is.messages;
+      of_shape = is.of_shape;
+      spelled = is.spelled;
+      accepts = (accepted_exactly stated qs rs size count).0 (sym is.verdict_is);
+    }
+
+pub verdict_on : (c : Content) → HasAcceptedProof c → IsVerdictOn c Accepted
+verdict_on c has =
+    let stated : CircuitClaim = claim_of has.parts c.inputs has.outputs in
+    let qs : List (List K) = all_messages has.messages.layers in
+    let start : List ℕ = start_state c.program c.inputs has.outputs in
+    let rs : List K = all_draws transcript start (exponent_at has.parts 0) qs in
+    let size = length-all (layers_of has.parts) has.messages.layers (have_shape has.parts has.messages has.of_shape) in
+    let count = drawn has.parts c.inputs has.outputs transcript start has.messages has.of_shape in
+    record {
+      parts = has.parts;
+      outputs = has.outputs;
+      claim = has.claim;
+      as_many = has.as_many;
+      messages = has.messages;
+      of_shape = has.of_shape;
+      spelled = has.spelled;
+      verdict_is = sym ((accepted_exactly stated qs rs size count).1 has.accepts);
+    }
