@@ -4,8 +4,13 @@
 //! pieces of the round give, which workers claim and sum in any order. Source: Thaler, "Proofs, Arguments, and
 //! Zero-Knowledge", 4.1 and 4.6.
 //!
+//! A round, with the verifier of `sumcheck_verify`:
+//!
 //! ```text
-//! let message = round(rt, alloc, &tables, 4, &OpenGate)?;     // the coefficients of 1, X and X²
+//! let mut rounds = Rounds::start(claim);                     // the verifier begins with the claim
+//! let message = round(rt, alloc, &tables, 4, &OpenGate)?;    // the prover: coefficients of 1, X and X²
+//! rounds.take(message)?;                                     // the verifier: a SumFault where the sum is wrong
+//! rounds.bind(challenge);                                    // both bind the round's coordinate
 //! tables.bind(challenge);
 //! ```
 #![tactic(auto)]
