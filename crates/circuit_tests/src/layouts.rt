@@ -92,7 +92,12 @@ fn lays_out_by_position(rt: HostRuntime) -> Result<(), Fail> {
     let product = program(alloc, 2, &[A, B, mul_node(0, 1)], &[2])?;
     shows(&rt, &product, "0+0 1+0 / 0+0 1*2 / 4: in0 in1")?;
     let minus_one = Node::Constant(-Fp::one());
-    let difference = program(alloc, 2, &[A, B, minus_one, mul_node(1, 2), add_node(0, 3)], &[4])?;
+    let difference = program(
+        alloc,
+        2,
+        &[A, B, minus_one, mul_node(1, 2), add_node(0, 3)],
+        &[4],
+    )?;
     shows(
         &rt,
         &difference,
@@ -103,6 +108,35 @@ fn lays_out_by_position(rt: HostRuntime) -> Result<(), Fail> {
         &rt,
         &sum,
         "0+0 1+0 / 0+0 2+1 / 0+0 3+0 1+2 0+0 / 4: in0 in1 in2",
+    )
+}
+
+/// The sum of the product of two matrices of two rows and two columns: eight products, four sums of two, and their sum.
+#[test]
+fn lays_a_matrix_product_out_by_position(rt: HostRuntime) -> Result<(), Fail> {
+    let alloc = rt.alloc();
+    let mut nodes = Vec::new(alloc);
+    for j in 0..8 {
+        nodes.push(Node::Input(j))?;
+    }
+    for (first, left, right) in [(8, 0, 4), (11, 0, 5), (14, 2, 4), (17, 2, 5)] {
+        nodes.push(mul_node(left, right))?;
+        nodes.push(mul_node(left + 1, right + 2))?;
+        nodes.push(add_node(first, first + 1))?;
+    }
+    nodes.push(add_node(10, 13))?;
+    nodes.push(add_node(16, 19))?;
+    nodes.push(add_node(20, 21))?;
+    if nodes.len() >= 1 << 20 {
+        return Err(Fail::new("too many nodes"));
+    }
+    let list = program(alloc, 8, &nodes, &[22])?;
+    shows(
+        &rt,
+        &list,
+        "0+0 1+0 / 0+0 1+2 / 0+0 1+2 3+4 0+0 / 0+0 1+2 3+4 5+6 7+8 0+0 0+0 0+0 / \
+0+0 1*5 2*7 1*6 2*8 3*5 4*7 3*6 4*8 0+0 0+0 0+0 0+0 0+0 0+0 0+0 / \
+16: in0 in1 in2 in3 in4 in5 in6 in7",
     )
 }
 
@@ -119,7 +153,15 @@ fn refuses_by_limits(rt: HostRuntime) -> Result<(), Fail> {
     let many = program(
         alloc,
         3,
-        &[A, B, C, mul_node(0, 1), mul_node(0, 2), mul_node(1, 2), add_node(0, 1)],
+        &[
+            A,
+            B,
+            C,
+            mul_node(0, 1),
+            mul_node(0, 2),
+            mul_node(1, 2),
+            add_node(0, 1),
+        ],
         &[3, 4, 5, 6],
     )?;
     for (height, exponent, want) in [

@@ -3,7 +3,7 @@
 use crate::numbers::number;
 use circuit_core::Shape;
 use proof_wire::{
-    BadProof, LayerMessages, Messages, ProofRefused, Round, decode, encode, proof_len,
+    BadProof, LayerMessages, Listed, Messages, ProofRefused, Round, decode, encode, proof_len,
 };
 use std::alloc::{AllocError, Global};
 use std::test::Fail;

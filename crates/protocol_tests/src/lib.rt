@@ -16,4 +16,6 @@ mod proofs;
 #[cfg(test)]
 mod rounds;
 #[cfg(test)]
+mod tables;
+#[cfg(test)]
 mod verdicts;

@@ -1,6 +1,8 @@
 //! A claim bound by rounds, by hand.
 
 use crate::numbers::number;
+use line_reduce::point_at;
+use poly_roots::value_at;
 use sumcheck_verify::{Rounds, SumFault};
 
 #[test]
@@ -20,4 +22,28 @@ fn binds_a_claim_by_rounds(rt: HostRuntime) {
     };
     assert_eq!(rt; rounds.take(message), Err(fault));
     assert_eq!(rt; rounds.claim(), -number(66));
+}
+
+/// The copy of 5: the claim 10 at the output point 2, bound at 3 and at 4, and the line between these two at 6.
+#[test]
+fn leads_a_copy_to_its_last_claim(rt: HostRuntime) {
+    let mut rounds = Rounds::start(number(10));
+    let mut claims = [number(0); 2];
+    for (i, (message, challenge)) in [([0, -5, 15], 3), ([120, -80, -40], 4)]
+        .into_iter()
+        .enumerate()
+    {
+        if !rounds.waiting() {
+            assert_eq!(rt; rounds.take(message.map(number)), Ok(()));
+        }
+        if rounds.waiting() {
+            rounds.bind(number(challenge));
+        }
+        claims[i] = rounds.claim();
+    }
+    assert_eq!(rt; claims, [number(120), number(-840)]);
+    let mut point = [number(0)];
+    point_at(&[number(3)], &[number(4)], number(6), &mut point);
+    assert_eq!(rt; point, [number(9)]);
+    assert_eq!(rt; value_at(&[number(15), number(5)], number(6)), number(45));
 }

@@ -90,6 +90,36 @@ fn verifies_proofs_of_zeros(rt: HostRuntime) -> Result<(), Fail> {
     verifies(&rt, deep, Status::BadProgram, b"refused program deep 301\n")
 }
 
+/// The sum of so many terms, added one after another.
+fn sum_of_terms(alloc: Global, terms: usize) -> Result<Vec<u8>, AllocError> {
+    let mut program = Vec::from_slice(alloc, b"input a; output a")?;
+    for _ in 1..terms {
+        program.extend_from_slice(b"+a")?;
+    }
+    program.push(b';')?;
+    Ok(program)
+}
+
+#[test]
+fn verifies_up_to_the_greatest_height(rt: HostRuntime) -> Result<(), Fail> {
+    let alloc = rt.alloc();
+    let greatest = sum_of_terms(alloc, 256)?;
+    let too_deep = sum_of_terms(alloc, 301)?;
+    let proof = zeros(alloc, 30_608)?;
+    let claim = Claim {
+        program: &greatest,
+        inputs: b"1 0",
+        outputs: b"1 0",
+        proof: &proof,
+    };
+    verifies(&rt, claim, Status::Done, b"accepted\n")?;
+    let deep = Claim {
+        program: &too_deep,
+        ..claim
+    };
+    verifies(&rt, deep, Status::BadProgram, b"refused program deep 301\n")
+}
+
 #[test]
 fn refuses_bytes_that_are_no_proof(rt: HostRuntime) -> Result<(), Fail> {
     let alloc = rt.alloc();
