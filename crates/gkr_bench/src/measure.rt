@@ -84,7 +84,7 @@ pub fn plain_products(rt: &HostRuntime, n: u32) -> io::Result<()> {
 fn folded(first: u64, left: &[Fp], right: &[Fp]) -> Fp {
     let mut total = Fp::reduce(first);
     for (x, y) in left.iter().zip(right) {
-        total = total + x * *y;
+        total = total + *x * *y;
     }
     total
 }
