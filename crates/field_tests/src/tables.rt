@@ -1,7 +1,7 @@
 //! Tables and their extensions by hand.
 
 use crate::numbers::{P, number};
-use field_ext::Ext;
+use field_ext::{Ext, Fp};
 use mle_table::Table;
 use std::alloc::{AllocError, Global};
 
@@ -29,6 +29,19 @@ fn folds_and_evaluates_by_hand(rt: HostRuntime) -> Result<(), AllocError> {
             }
         }
         Err(_) => assert!(rt; false, "four values are a table"),
+    }
+    Ok(())
+}
+
+#[test]
+fn knows_values_of_the_base_field(rt: HostRuntime) -> Result<(), AllocError> {
+    let mut table = Table::of_base(rt.alloc(), &[Fp::reduce(5), Fp::reduce(P + 2)])?;
+    assert!(rt; table.is_base());
+    assert!(rt; table.values() == [number(5), number(2)].as_slice());
+    if table.k() == 1 {
+        table.fold(Ext::of(Fp::zero(), Fp::one()));
+        assert!(rt; !table.is_base());
+        assert!(rt; table.values() == [Ext::of(Fp::reduce(5), Fp::reduce(P - 3))].as_slice());
     }
     Ok(())
 }

@@ -89,12 +89,12 @@ fn circuit_of(alloc: Global, random: &mut Random, k: u32) -> Result<Option<Circu
     Ok(Circuit::of(alloc, layers, width, leaves, 1, outputs).ok())
 }
 
-fn table_of(alloc: Global, random: &mut Random, k: u32) -> Result<Option<Table>, AllocError> {
-    let mut values = Vec::new(alloc);
-    for _ in 0..1u64 << k.min(16) {
-        values.push(Ext::embed(Fp::reduce(random.next())))?;
+fn table_of(alloc: Global, random: &mut Random, k: u32) -> Result<Table, AllocError> {
+    let mut values = vec![in alloc; Fp::zero(); 1usize << k.min(16)]?;
+    for i in 0..values.len() {
+        values[i] = Fp::reduce(random.next());
     }
-    Ok(Table::of_values(values).ok())
+    Table::of_base(alloc, &values)
 }
 
 pub(crate) fn case_of(alloc: Global, k: u32) -> Result<Option<LayerCase>, AllocError> {
@@ -102,9 +102,7 @@ pub(crate) fn case_of(alloc: Global, k: u32) -> Result<Option<LayerCase>, AllocE
     let Some(circuit) = circuit_of(alloc, &mut random, k)? else {
         return Ok(None);
     };
-    let Some(values) = table_of(alloc, &mut random, k)? else {
-        return Ok(None);
-    };
+    let values = table_of(alloc, &mut random, k)?;
     Ok(Some(LayerCase {
         circuit,
         values,
@@ -201,20 +199,6 @@ fn plain(alloc: Global, elements: &[Ext]) -> Result<Vec<Plain>, AllocError> {
     Ok(found)
 }
 
-fn plain_table(alloc: Global, table: &Table) -> Result<Vec<Plain>, AllocError> {
-    let mut found = Vec::new(alloc);
-    for i in 0..1usize << table.k().min(16) {
-        if table.k() <= 16 {
-            let element = table.at(i);
-            found.push(Plain {
-                re: element.re().value(),
-                im: element.im().value(),
-            })?;
-        }
-    }
-    Ok(found)
-}
-
 fn plain_room(alloc: Global, size: usize) -> Result<PlainRoom, AllocError> {
     Ok(PlainRoom {
         point_equality: vec![in alloc; ZERO; size]?,
@@ -228,7 +212,7 @@ fn plain_room(alloc: Global, size: usize) -> Result<PlainRoom, AllocError> {
 /// The best of twenty times of the plain loops.
 fn time_plain(rt: &HostRuntime, case: &LayerCase) -> io::Result<(u64, u32)> {
     let alloc = rt.alloc();
-    let values = plain_table(alloc, &case.values)?;
+    let values = plain(alloc, case.values.values())?;
     let (point, left) = (plain(alloc, &case.point)?, plain(alloc, &case.left)?);
     let right = plain(alloc, &case.right)?;
     let mut room = plain_room(alloc, values.len())?;

@@ -65,7 +65,8 @@ impl Table {
         }
     }
 
-    /// The table of these values of the base field, of which there is a power of two. Err only where no memory is found.
+    /// The table of these values of the base field, of which there is a power of two, as elements of K.
+    /// Err only where no memory is found.
     pub fn of_base(alloc: Global, values: &[Fp]) -> Result<Table, AllocError>
         requires { (k : ℕ) × (length values.now ≡ 2 ^ k) }
         ensures { IfOk result (λ t. t.items ≡ map embed_k values.now) }

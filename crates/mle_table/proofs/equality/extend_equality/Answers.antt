@@ -1,5 +1,5 @@
 -- Each value is split into its two halves
-use Rattle.std.proofs.Common.{◌≡◌, ◌≢◌, ℕ, List, ◌<◌, ◌+◌, ◌*◌, arith, ◌∙◌, ap, length, get_or, set, below_more, get_or-set_same, get_or-set_other}
+use Rattle.std.proofs.Common.{◌≡◌, ◌≢◌, ℕ, List, ◌<◌, ◌+◌, arith, ◌∙◌, ap, length, get_or, set, below_more, get_or-set_same, get_or-set_other}
 use Rattle.std.proofs.lemmas.List.{get_or_read, length-set}
 use Rattle.field_ext.specs.Field.{K, k_ops, add_k, mul_k, neg_k, zero_k}
 use Rattle.field_ext.proofs.KLaws.{k_laws}
