@@ -12,7 +12,7 @@ use poly_roots::Poly;
 use std::alloc::{AllocError, Global};
 
 /// The restriction of a table's extension to the line from `b`, at 0, to `c`, at 1: one coefficient more than the table
-/// has coordinates, constant first. The time is linear in the table. Err only where no memory is found.
+/// has coordinates, constant first. Err only where no memory is found.
 pub fn line_poly(alloc: Global, table: &Table, b: &[Ext], c: &[Ext]) -> Result<Poly, AllocError>
     requires most { table.now.k ≤ 16 }
     requires start { length b.now ≡ table.now.k }

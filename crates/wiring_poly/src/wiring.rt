@@ -11,8 +11,7 @@ use field_ext::Ext;
 use mle_table::SplitEquality;
 
 /// The wiring polynomials of a layer, that of the add gates and that of the multiply gates, at the point `z` of the
-/// layer's positions and the points `b` and `c` of the operands' positions in the layer below. The time is linear in the
-/// gates, and no memory is taken.
+/// layer's positions and the points `b` and `c` of the operands' positions in the layer below. No memory is taken.
 pub fn wiring_at(circuit: &Circuit, layer: u32, z: &[Ext], b: &[Ext], c: &[Ext]) -> (Ext, Ext)
     requires layer { layer < height circuit.now.parts }
     requires position { length z.now ≡ exponent_at circuit.now.parts layer }
