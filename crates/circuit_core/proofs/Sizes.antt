@@ -1,8 +1,7 @@
 -- The sizes of a circuit's layers
-use Rattle.std.proofs.Common.{◌≡◌, ℕ, ◌+◌, ◌^◌, ◌<◌, ◌≤◌, List, [], length, get_or, All, map, sym, ◌∙◌, arith, subst}
+use Rattle.std.proofs.Common.{◌≡◌, ℕ, ◌+◌, ◌^◌, ◌<◌, ◌≤◌, [], length, get_or, All, sym, ◌∙◌, arith, subst}
 use Rattle.std.proofs.lemmas.List.FromFn.{get_or-map-range_with_len, length-map-range_with_len}
 use Rattle.std.proofs.lemmas.Bool.{cond-true, lt-ltb}
-use Rattle.circuit_core.specs.declared.gate.CircuitGate.{CircuitGate}
 use Rattle.circuit_core.specs.Parts.{Parts, height, width_of, IsOver}
 use Rattle.circuit_core.specs.Sound.{SoundCircuit, exponent_at, exponents}
 use Rattle.circuit_core.proofs.Faultless.{none_from_test, width_power, layer_over}

@@ -2,7 +2,7 @@
 use Rattle.std.proofs.Common.{◌≡◌, ℕ, ◌+◌, ◌-◌, ◌^◌, ◌<◌, ◌≤◌, List, [], ◌∷◌, ◌++◌, None, length, map, reverse, get_or, refl, sym, ap, ap₂, ◌∙◌, subst, inl, inr, arith}
 use Rattle.std.proofs.Math.Pow.{pow-lt}
 use Rattle.std.proofs.lemmas.Bool.{cases_lt, cond-false, le-ltb}
-use Rattle.std.proofs.lemmas.List.{get_or_default, get_or-map, get_or-reverse, get_or_append_left, get_or_push, length_push, length-map, length-reverse, map-append, reverse-append, same_lists}
+use Rattle.std.proofs.lemmas.List.{get_or-reverse, get_or_append_left, get_or_push, length_push, length-map, length-reverse, map-append, reverse-append}
 use Rattle.field_ext.specs.Field.{F, K, embed_k}
 use Rattle.circuit_core.specs.declared.gate.CircuitGate.{CircuitGate}
 use Rattle.circuit_core.specs.Parts.{height, width_of, gate_value, layer_values}
