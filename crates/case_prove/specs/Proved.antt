@@ -21,5 +21,11 @@ pub record IsProved (c proved : Content) : Type 0 where
   pub evaluated : IsEvaluated c outputs
   pub messages : Messages
   pub of_shape : HaveShape (drop 1 (exponents parts)) messages.layers
-  pub honest : IsHonestProof parts c.inputs transcript (start_state c.program c.inputs outputs) (all_messages messages.layers)
-  pub proved_is : proved ≡ record { program = c.program; inputs = c.inputs; outputs = Some outputs; proof = Some (spelling messages) }
+  pub honest : IsHonestProof parts c.inputs transcript (start_state c.program c.inputs outputs)
+      (all_messages messages.layers)
+  pub proved_is : proved ≡ record {
+    program = c.program;
+    inputs = c.inputs;
+    outputs = Some outputs;
+    proof = Some (spelling messages);
+  }

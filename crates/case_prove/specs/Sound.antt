@@ -31,4 +31,5 @@ pub record HasExceptionalChallenge (c : Content) (n : ℕ) : Type 0 where
   pub passes :
       let stated = claim_of parts c.inputs outputs in
       let qs = all_messages messages.layers in
-      LetsPass stated qs (all_draws transcript (start_state c.program c.inputs outputs) stated.k qs) n
+      LetsPass stated qs (all_draws transcript (start_state c.program c.inputs outputs) stated.k qs)
+      n

@@ -101,7 +101,8 @@ fn is_proved_case(reply: &Reply) -> bool
 
 /// The reply to a case that is refused.
 fn refused_reply(refused: Refused) -> Result<Reply, AllocError>
-    ensures { (c : Content) → RefusesCircuit c refused → IfOk result (λ reply. IsProveAnswer c reply) }
+    ensures { (c : Content) → RefusesCircuit c refused
+        → IfOk result (λ reply. IsProveAnswer c reply) }
 {
     match refused {
         Refused::Program(BadProgram::At { at, kind }) => Ok(Reply::Program { kind, at }),

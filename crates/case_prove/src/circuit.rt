@@ -50,7 +50,8 @@ fn circuit_sizes(alloc: Global, circuit: &Circuit) -> Result<CircuitSizes, Alloc
 
 /// The sizes of the layers, the output layer first.
 fn layer_sizes(alloc: Global, circuit: &Circuit) -> Result<Vec<LayerSize>, AllocError>
-    ensures { IfOk result (λ sizes. sizes.items ≡ map (layer_size circuit.now.parts) (range_with_len 0 (height circuit.now.parts + 1))) }
+    ensures { IfOk result (λ sizes. sizes.items ≡ map (layer_size circuit.now.parts)
+        (range_with_len 0 (height circuit.now.parts + 1))) }
 {
     let mut sizes = Vec::new(alloc);
     for layer in 0..circuit.height() + 1 {

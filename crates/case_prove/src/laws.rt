@@ -25,14 +25,17 @@ use proof_wire::laws::one_length;
 
 /// Programs that differ in no more than the places of their parts and the lengths of their texts mean the same.
 pub fn places_play_no_part()
-    ensures { (a b : ProgramTree) → unplaced a ≡ unplaced b → (inputs : List F) → meaning a inputs ≡ meaning b inputs }
+    ensures { (a b : ProgramTree) → unplaced a ≡ unplaced b → (inputs : List F)
+        → meaning a inputs ≡ meaning b inputs }
 {}
 
 /// White space between tokens changes no tree: texts that have other white space at one place behind whole tokens have the
 /// same tree, but for places.
 pub fn white_space()
-    ensures { (front back blanks others : List ℕ) (tokens : List Token) → tokens_from 0 0 front ≡ Ok tokens → IsWhiteSpace blanks → IsWhiteSpace others →
-        (a b : ProgramTree) → IsRead (front ++ (blanks ++ back)) a → IsRead (front ++ (others ++ back)) b → unplaced a ≡ unplaced b }
+    ensures { (front back blanks others : List ℕ) (tokens : List Token)
+        → tokens_from 0 0 front ≡ Ok tokens → IsWhiteSpace blanks → IsWhiteSpace others →
+        (a b : ProgramTree) → IsRead (front ++ (blanks ++ back)) a
+        → IsRead (front ++ (others ++ back)) b → unplaced a ≡ unplaced b }
 {
     same_anywhere();
     white_space_moves();
@@ -42,8 +45,11 @@ pub fn white_space()
 /// White space between tokens changes no meaning: texts that have other white space at one place behind whole tokens put out
 /// the same for the same inputs.
 pub fn white_space_means_nothing()
-    ensures { (front back blanks others : List ℕ) (tokens : List Token) → tokens_from 0 0 front ≡ Ok tokens → IsWhiteSpace blanks → IsWhiteSpace others →
-        (a b : ProgramTree) → IsRead (front ++ (blanks ++ back)) a → IsRead (front ++ (others ++ back)) b → (inputs : List F) → meaning a inputs ≡ meaning b inputs }
+    ensures { (front back blanks others : List ℕ) (tokens : List Token)
+        → tokens_from 0 0 front ≡ Ok tokens → IsWhiteSpace blanks → IsWhiteSpace others →
+        (a b : ProgramTree) → IsRead (front ++ (blanks ++ back)) a
+        → IsRead (front ++ (others ++ back)) b → (inputs : List F)
+        → meaning a inputs ≡ meaning b inputs }
 {
     places_play_no_part();
     white_space();
@@ -78,14 +84,16 @@ pub fn proved_fits()
 
 /// The text of what the prover gives is one of a case with outputs and a proof, and of this case.
 pub fn proved_is_full()
-    ensures { (c proved : Content) → Fits c → IsProved c proved → Spells Full (lower_case_text proved) proved }
+    ensures { (c proved : Content) → Fits c → IsProved c proved
+        → Spells Full (lower_case_text proved) proved }
 {
     proved_fits();
 }
 
 /// The text of what the prover gives is short enough to be read: it has fewer than 4,194,304 bytes.
 pub fn proved_is_short()
-    ensures { (c proved : Content) → Fits c → IsProved c proved → length (lower_case_text proved) < 4194304 }
+    ensures { (c proved : Content) → Fits c → IsProved c proved
+        → length (lower_case_text proved) < 4194304 }
 {
     one_tree();
     circuit_computes();
@@ -95,7 +103,8 @@ pub fn proved_is_short()
 /// Where a case is accepted whose outputs aren't its program's meaning on its inputs, some challenge of its own transcript is
 /// exceptional after the messages and challenges before it, and few are.
 pub fn sound()
-    ensures { (c : Content) → IsVerdictOn c Accepted → ¬ HasMeaning c → (n : ℕ) × HasExceptionalChallenge c n }
+    ensures { (c : Content) → IsVerdictOn c Accepted → ¬ HasMeaning c
+        → (n : ℕ) × HasExceptionalChallenge c n }
 {
     circuit_computes();
     circuit_is_sound();

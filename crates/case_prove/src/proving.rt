@@ -87,7 +87,8 @@ fn prove_claim<R: Threads + Sync, G: Gate>(
 /// The parts without `i` of so many values of a table, from position 1 on.
 fn real_parts(alloc: Global, table: &Table, count: usize) -> Result<Vec<Fp>, AllocError>
     requires { count < length table.now.items }
-    ensures { IfOk result (λ parts. parts.items ≡ map (λ x. x.re) (take count (drop 1 table.now.items))) }
+    ensures { IfOk result (λ parts. parts.items ≡ map
+        (λ x. x.re) (take count (drop 1 table.now.items))) }
 {
     let mut parts = Vec::with_capacity(alloc, count)?;
     for position in 0..count {
@@ -111,8 +112,11 @@ fn honest_messages<R: Threads + Sync, G: Gate>(
     requires workers { IsWorkerCount workers }
     requires tables { AreTables circuit.now.parts case.now.inputs values.now }
     requires few { length outputs.now < 2 ^ 32 }
-    ensures honest { IfOk result (λ messages. IsHonestProof circuit.now.parts case.now.inputs transcript (start_state case.now.program case.now.inputs outputs.now) (all_messages messages.layers)) }
-    ensures shape { IfOk result (λ messages. HaveShape (drop 1 (exponents circuit.now.parts)) messages.layers) }
+    ensures honest { IfOk result
+        (λ messages. IsHonestProof circuit.now.parts case.now.inputs transcript
+        (start_state case.now.program case.now.inputs outputs.now) (all_messages messages.layers)) }
+    ensures shape { IfOk result
+        (λ messages. HaveShape (drop 1 (exponents circuit.now.parts)) messages.layers) }
 {
     always_has();
     let statement = Statement::of(case.program(), case.inputs(), outputs);

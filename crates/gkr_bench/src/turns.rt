@@ -34,7 +34,8 @@ impl Storied<u32> for Count {
 /// A lock, and the one turn of it.
 fn locked(alloc: Global) -> Result<(TurnLock<Count, u32>, Turn<Count, u32>), AllocError>
     ensures lock { IfOk result (λ made. made.1.table ≡ made.0.table) }
-    ensures free { IfOk result (λ made. (made.1.holds ≡ false) × (made.1.seen ≡ []) × (made.1.fixed ≡ 0)) }
+    ensures free { IfOk result (λ made. (made.1.holds ≡ false) × (made.1.seen ≡ [])
+        × (made.1.fixed ≡ 0)) }
 {
     match TurnLock::new(alloc, Count { turns: 0 }, 1) {
         Ok(made) => Ok(made),

@@ -113,7 +113,8 @@ pub record HasCauses (run : Run) : Type 0 where
   -- However it ends, at most one byte more than the limit is read, in as many reads at most, none
   -- with room for more than 4,096 bytes.
   pub read_within : ReadsCase (command_of run.words)
-      → ReadsWithin (input_limit (command_of run.words) + 1) read_room run.before.left run.after.left
+      → ReadsWithin (input_limit (command_of run.words) + 1) read_room run.before.left
+      run.after.left
       run.before.calls run.after.calls
   -- A failure of the source, only where it failed and always there; then nothing is written.
   pub read_fault : run.ended ≡ statuses.ReadFault

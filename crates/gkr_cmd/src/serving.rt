@@ -33,14 +33,17 @@ pub fn serve<R: Threads + Wait + Sync, S: Source, G: Gate>(
     requires workers { IsWorkerCount threading.workers }
     requires provers { IsWorkerCount threading.provers }
     requires clients { IsWorkerCount threading.clients }
-    ensures reply { IfOk result (λ reply. (input : List ℕ) → S.left source.old ≡ Some input → IsScriptReply input reply) }
+    ensures reply { IfOk result (λ reply. (input : List ℕ) → S.left source.old ≡ Some input
+        → IsScriptReply input reply) }
     ensures named { IfOk result (λ reply. status_of reply ≢ Status.Usage) }
     ensures read { OnOk result (IsReadUpTo (script_limit + 1) (S.left source.old)
         (S.left source.new)) }
     ensures within { ReadsWithin (script_limit + 1) read_room (S.left source.old)
         (S.left source.new) (S.calls source.old) (S.calls source.new) }
-    ensures fault { IsErrOf result ReplyError.ReadFault → Rose (S.faults source.old) (S.faults source.new) }
-    ensures no_fault { result ≢ Err ReplyError.ReadFault → S.faults source.new ≡ S.faults source.old }
+    ensures fault { IsErrOf result ReplyError.ReadFault
+        → Rose (S.faults source.old) (S.faults source.new) }
+    ensures no_fault { result ≢ Err ReplyError.ReadFault
+        → S.faults source.new ≡ S.faults source.old }
 {
     let input = read_input(alloc, source, SCRIPT_LIMIT as usize)?;
     if input.len() > SCRIPT_LIMIT as usize {

@@ -56,13 +56,15 @@ output_place stated rs = At (take stated.k rs)
 abbrev pub Accepts : CircuitClaim → List (List K) → List K → Type 0
 Accepts stated qs rs =
     let place = output_place stated rs in
-    LayersHold k_ops stated.form stated.layers stated.input_table place (value_over k_ops stated.claimed_table place) qs (drop stated.k rs)
+    LayersHold k_ops stated.form stated.layers stated.input_table place
+    (value_over k_ops stated.claimed_table place) qs (drop stated.k rs)
 
 -- The answer for these messages and challenges: the first equation that fails, or none.
 abbrev pub verdict_of : CircuitClaim → List (List K) → List K → Verdict
 verdict_of stated qs rs =
     let place = output_place stated rs in
-    first_failure (equations stated.form 0 stated.layers stated.input_table place (value_over k_ops stated.claimed_table place) qs (drop stated.k rs))
+    first_failure (equations stated.form 0 stated.layers stated.input_table place
+    (value_over k_ops stated.claimed_table place) qs (drop stated.k rs))
 
 -- The same answer and the state in which it leaves the challenges, where these come from a source: first the coordinates of the output
 -- point are drawn, then each message is taken in once its equation holds.
@@ -70,4 +72,5 @@ abbrev pub answer_from : CircuitClaim → Source → List ℕ → List (List K) 
 answer_from stated source s qs =
     let place = At (coordinates source s stated.k) in
     let behind = state_after_coordinates source s stated.k in
-    answer source behind (equations stated.form 0 stated.layers stated.input_table place (value_over k_ops stated.claimed_table place) qs (draws source behind qs)) qs
+    answer source behind (equations stated.form 0 stated.layers stated.input_table place
+    (value_over k_ops stated.claimed_table place) qs (draws source behind qs)) qs

@@ -39,25 +39,33 @@ claim_after claim (q ∷ qs) (r ∷ rs) = claim_after (value_at k_ops q r) qs rs
 abbrev pub sum_equations : ℕ → ℕ → K → List (List K) → List K → List Equation
 sum_equations layer round claim [] rs = []
 sum_equations layer round claim (q ∷ qs) [] = []
-sum_equations layer round claim (q ∷ qs) (r ∷ rs) = sum_equation layer round q claim ∷ sum_equations layer (suc round) (value_at k_ops q r) qs rs
+sum_equations layer round claim (q ∷ qs) (r ∷ rs) =
+    sum_equation layer round q claim ∷ sum_equations layer (suc round) (value_at k_ops q r) qs rs
 
 -- The equations of all layers, the first of which has this number. Each layer takes 2 k messages of rounds and a last one, and a
 -- challenge after each.
-abbrev pub equations : Form → ℕ → List GateLayer → List K → Place K → K → List (List K) → List K → List Equation
-equations form number [] input place claim qs rs = input_equation claim (value_over k_ops input place) ∷ []
+abbrev pub equations : Form → ℕ → List GateLayer → List K → Place K → K → List (List K) → List K
+    → List Equation
+equations form number [] input place claim qs rs =
+    input_equation claim (value_over k_ops input place) ∷ []
 equations form number (layer ∷ layers) input place claim qs rs =
     let k = layer.k in
     let rounds = take (k + k) qs in
     let bound = take (k + k) rs in
     let q = slice_index_or qs (k + k) [] in
     sum_equations number 1 claim rounds bound
-    ++ end_equation number (claim_after claim rounds bound) (weighted_summand_from k_ops layer.gates place (take k bound) (drop k bound) (said_left k_ops form q) (said_right k_ops form q))
-    ∷ equations form (suc number) layers input (next_place k_ops form k rs) (value_at k_ops q (slice_index_or rs (k + k) zero_k)) (drop (k + k + 1) qs) (drop (k + k + 1) rs)
+    ++ end_equation number (claim_after claim rounds bound)
+    (weighted_summand_from k_ops layer.gates place (take k bound) (drop k bound)
+    (said_left k_ops form q) (said_right k_ops form q))
+    ∷ equations form (suc number) layers input (next_place k_ops form k rs)
+    (value_at k_ops q (slice_index_or rs (k + k) zero_k)) (drop (k + k + 1) qs)
+    (drop (k + k + 1) rs)
 
 -- the answer of the first equation whose sides differ
 abbrev pub first_failure : List Equation → Verdict
 first_failure [] = Accepted
-first_failure (equation ∷ equations) = if same_k equation.had equation.want then first_failure equations else equation.failed
+first_failure (equation ∷ equations) =
+    if same_k equation.had equation.want then first_failure equations else equation.failed
 
 -- an answer, and the state of the challenges that is left with it
 pub record Answered : Type 0 where
@@ -69,5 +77,6 @@ pub record Answered : Type 0 where
 abbrev pub answer : Source → List ℕ → List Equation → List (List K) → Answered
 answer source s [] qs = record { verdict = Accepted; state = s }
 answer source s (equation ∷ equations) qs =
-    if same_k equation.had equation.want then answer source (state_after source s (take 1 qs)) equations (drop 1 qs)
+    if same_k equation.had equation.want then answer source (state_after source s (take 1 qs))
+    equations (drop 1 qs)
     else record { verdict = equation.failed; state = s }

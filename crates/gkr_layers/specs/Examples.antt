@@ -30,39 +30,64 @@ product = record { k = 2; gates = adds 0 0 ∷ multiplies 1 2 ∷ [] }
 
 -- "5 copied is 0", with a false message in the first round
 abbrev pub zero_for_five : CircuitClaim
-zero_for_five = record { form = Line; k = 1; layers = copy ∷ []; input_table = number 0 ∷ number 5 ∷ []; claimed_table = number 0 ∷ number 0 ∷ [] }
+zero_for_five = record {
+  form = Line;
+  k = 1;
+  layers = copy ∷ [];
+  input_table = number 0 ∷ number 5 ∷ [];
+  claimed_table = number 0 ∷ number 0 ∷ [];
+}
 
 abbrev pub false_round_messages : List (List K)
-false_round_messages = (number 0 ∷ minus 20 ∷ number 20 ∷ []) ∷ (number 120 ∷ minus 80 ∷ minus 40 ∷ []) ∷ (number 15 ∷ number 5 ∷ []) ∷ []
+false_round_messages = (number 0 ∷ minus 20 ∷ number 20 ∷ [])
+    ∷ (number 120 ∷ minus 80 ∷ minus 40 ∷ []) ∷ (number 15 ∷ number 5 ∷ []) ∷ []
 
 abbrev pub false_round_challenges : List K
 false_round_challenges = number 2 ∷ number 3 ∷ number 4 ∷ number 6 ∷ []
 
 -- the same, with a false message of the line
 abbrev pub false_line_messages : List (List K)
-false_line_messages = (number 0 ∷ number 0 ∷ number 0 ∷ []) ∷ (number 0 ∷ number 0 ∷ number 0 ∷ []) ∷ (minus 20 ∷ number 40 ∷ []) ∷ []
+false_line_messages = (number 0 ∷ number 0 ∷ number 0 ∷ []) ∷ (number 0 ∷ number 0 ∷ number 0 ∷ [])
+    ∷ (minus 20 ∷ number 40 ∷ []) ∷ []
 
 abbrev pub false_line_challenges : List K
 false_line_challenges = number 2 ∷ number 3 ∷ number 4 ∷ number 1 ∷ []
 
 -- "3 times 4 is 13", with the messages of the true product and challenges that are all 0
 abbrev pub thirteen_for_twelve : CircuitClaim
-thirteen_for_twelve = record { form = Line; k = 1; layers = copy ∷ product ∷ []; input_table = number 0 ∷ number 3 ∷ number 4 ∷ number 0 ∷ []; claimed_table = number 0 ∷ number 13 ∷ [] }
+thirteen_for_twelve = record {
+  form = Line;
+  k = 1;
+  layers = copy ∷ product ∷ [];
+  input_table = number 0 ∷ number 3 ∷ number 4 ∷ number 0 ∷ [];
+  claimed_table = number 0 ∷ number 13 ∷ [];
+}
 
 abbrev pub true_product_messages : List (List K)
 true_product_messages =
-    (number 0 ∷ number 12 ∷ minus 12 ∷ []) ∷ (number 0 ∷ number 12 ∷ minus 12 ∷ []) ∷ (number 0 ∷ number 0 ∷ [])
-    ∷ (number 0 ∷ number 3 ∷ minus 3 ∷ []) ∷ (number 0 ∷ number 4 ∷ minus 4 ∷ []) ∷ (number 0 ∷ number 3 ∷ minus 3 ∷ []) ∷ (number 0 ∷ number 4 ∷ minus 4 ∷ []) ∷ (number 0 ∷ number 0 ∷ number 0 ∷ []) ∷ []
+    (number 0 ∷ number 12 ∷ minus 12 ∷ []) ∷ (number 0 ∷ number 12 ∷ minus 12 ∷ [])
+    ∷ (number 0 ∷ number 0 ∷ [])
+    ∷ (number 0 ∷ number 3 ∷ minus 3 ∷ []) ∷ (number 0 ∷ number 4 ∷ minus 4 ∷ [])
+    ∷ (number 0 ∷ number 3 ∷ minus 3 ∷ []) ∷ (number 0 ∷ number 4 ∷ minus 4 ∷ [])
+    ∷ (number 0 ∷ number 0 ∷ number 0 ∷ []) ∷ []
 
 abbrev pub zero_challenges : List K
-zero_challenges = number 0 ∷ number 0 ∷ number 0 ∷ number 0 ∷ number 0 ∷ number 0 ∷ number 0 ∷ number 0 ∷ number 0 ∷ []
+zero_challenges = number 0 ∷ number 0 ∷ number 0 ∷ number 0 ∷ number 0 ∷ number 0 ∷ number 0
+    ∷ number 0 ∷ number 0 ∷ []
 
 -- "5 copied is 5", with the honest messages
 abbrev pub five_for_five : CircuitClaim
-five_for_five = record { form = Pair; k = 1; layers = copy ∷ []; input_table = number 0 ∷ number 5 ∷ []; claimed_table = number 0 ∷ number 5 ∷ [] }
+five_for_five = record {
+  form = Pair;
+  k = 1;
+  layers = copy ∷ [];
+  input_table = number 0 ∷ number 5 ∷ [];
+  claimed_table = number 0 ∷ number 5 ∷ [];
+}
 
 abbrev pub true_pair_messages : List (List K)
-true_pair_messages = (number 0 ∷ minus 5 ∷ number 15 ∷ []) ∷ (number 120 ∷ minus 80 ∷ minus 40 ∷ []) ∷ (number 15 ∷ number 20 ∷ []) ∷ []
+true_pair_messages = (number 0 ∷ minus 5 ∷ number 15 ∷ []) ∷ (number 120 ∷ minus 80 ∷ minus 40 ∷ [])
+    ∷ (number 15 ∷ number 20 ∷ []) ∷ []
 
 abbrev pub true_pair_challenges : List K
 true_pair_challenges = number 2 ∷ number 3 ∷ number 4 ∷ number 6 ∷ []
@@ -72,7 +97,8 @@ abbrev pub zero_for_five_by_pair : CircuitClaim
 zero_for_five_by_pair = record zero_for_five { form = Pair }
 
 abbrev pub false_pair_messages : List (List K)
-false_pair_messages = (number 0 ∷ number 0 ∷ number 0 ∷ []) ∷ (number 0 ∷ number 0 ∷ number 0 ∷ []) ∷ (minus 55 ∷ number 55 ∷ []) ∷ []
+false_pair_messages = (number 0 ∷ number 0 ∷ number 0 ∷ []) ∷ (number 0 ∷ number 0 ∷ number 0 ∷ [])
+    ∷ (minus 55 ∷ number 55 ∷ []) ∷ []
 
 abbrev pub false_pair_challenges : List K
 false_pair_challenges = number 2 ∷ number 3 ∷ number 4 ∷ number 2 ∷ []

@@ -28,7 +28,8 @@ module _ {A : Type 0} (o : Ops A) where
   -- the next claim.
   abbrev pub last_polynomial : Form → List A → List A → List A → List A
   last_polynomial Line values b c = line_polynomial o values b c
-  last_polynomial Pair values b c = extension_at o o (λ x. x) values b ∷ extension_at o o (λ x. x) values c ∷ []
+  last_polynomial Pair values b c =
+      extension_at o o (λ x. x) values b ∷ extension_at o o (λ x. x) values c ∷ []
 
   -- where the next claim stands
   abbrev pub place_between : Form → List A → List A → A → Place A

@@ -19,7 +19,8 @@ pub record GateLayer : Type 0 where
 -- these layers of a circuit, the first of which is layer i
 abbrev pub layers_from : Parts → ℕ → List (List CircuitGate) → List GateLayer
 layers_from p i [] = []
-layers_from p i (gates ∷ layers) = record { k = exponent_at p (i + 1); gates = gates } ∷ layers_from p (i + 1) layers
+layers_from p i (gates ∷ layers) =
+    record { k = exponent_at p (i + 1); gates = gates } ∷ layers_from p (i + 1) layers
 
 -- the layers of a circuit above the input, that of the outputs first
 abbrev pub layers_of : Parts → List GateLayer
@@ -42,7 +43,8 @@ module _ {A : Type 0} (o : Ops A) where
 module _ {A : Type 0} (o : Ops A) (form : Form) where
   -- where the next claim stands, for the layer's challenges
   abbrev pub next_place : ℕ → List A → Place A
-  next_place k rs = place_between o form (take k (take (k + k) rs)) (drop k (take (k + k) rs)) (slice_index_or rs (k + k) o.zero)
+  next_place k rs = place_between o form (take k (take (k + k) rs)) (drop k (take (k + k) rs))
+      (slice_index_or rs (k + k) o.zero)
 
   -- Every equation holds. Each layer takes 2 k messages of rounds and a last one, and a challenge after each.
   abbrev pub LayersHold : List GateLayer → List A → Place A → A → List (List A) → List A → Type 0
@@ -51,20 +53,26 @@ module _ {A : Type 0} (o : Ops A) (form : Form) where
       let k = layer.k in
       let q = slice_index_or qs (k + k) [] in
       RoundsHold o claim (take (k + k) qs) (take (k + k) rs)
-      (weighted_summand_from o layer.gates place (take k (take (k + k) rs)) (drop k (take (k + k) rs)) (said_left o form q) (said_right o form q))
-      × LayersHold layers input (next_place k rs) (value_at o q (slice_index_or rs (k + k) o.zero)) (drop (k + k + 1) qs) (drop (k + k + 1) rs)
+      (weighted_summand_from o layer.gates place (take k (take (k + k) rs))
+      (drop k (take (k + k) rs)) (said_left o form q) (said_right o form q))
+      × LayersHold layers input (next_place k rs) (value_at o q (slice_index_or rs (k + k) o.zero))
+      (drop (k + k + 1) qs) (drop (k + k + 1) rs)
 
   -- v is exceptional as challenge n
-  abbrev pub IsExceptional : List GateLayer → List A → Place A → List (List A) → List A → ℕ → A → Type 0
+  abbrev pub IsExceptional : List GateLayer → List A → Place A → List (List A) → List A → ℕ → A
+      → Type 0
   IsExceptional [] input place qs rs n v = ⊥
   IsExceptional (layer ∷ layers) input place qs rs n v =
       let k = layer.k in
       let t = values_over o layers input in
       MatchBool (nat_lt n (k + k))
-      (IsExceptionalFor o (slice_index_or qs n []) (round_polynomial o k layer.gates t place (take n rs) (k + k - 1 - n)) v)
+      (IsExceptionalFor o (slice_index_or qs n [])
+      (round_polynomial o k layer.gates t place (take n rs) (k + k - 1 - n)) v)
       (MatchBool (nat_eq n (k + k))
-      (IsExceptionalFor o (slice_index_or qs n []) (last_polynomial o form t (take k (take (k + k) rs)) (drop k (take (k + k) rs))) v)
-      (IsExceptional layers input (next_place k rs) (drop (k + k + 1) qs) (drop (k + k + 1) rs) (n - (k + k + 1)) v))
+      (IsExceptionalFor o (slice_index_or qs n [])
+      (last_polynomial o form t (take k (take (k + k) rs)) (drop k (take (k + k) rs))) v)
+      (IsExceptional layers input (next_place k rs) (drop (k + k + 1) qs) (drop (k + k + 1) rs)
+      (n - (k + k + 1)) v))
 
 -- the numbers of coordinates of the layers below, one for each layer
 abbrev pub lower_exponents : List GateLayer → List ℕ
@@ -73,7 +81,9 @@ lower_exponents layers = map (λ layer. layer.k) layers
 -- the layers' sizes fit together, from a first layer of 2 ^ j positions on
 abbrev pub FitTogether : ℕ → List GateLayer → Type 0
 FitTogether j [] = Unit {0}
-FitTogether j (layer ∷ layers) = (length layer.gates ≡ 2 ^ j) × All (parts.IsOver (2 ^ layer.k)) layer.gates × FitTogether layer.k layers
+FitTogether j (layer ∷ layers) =
+    (length layer.gates ≡ 2 ^ j) × All (parts.IsOver (2 ^ layer.k)) layer.gates
+    × FitTogether layer.k layers
 
 -- how many messages the layers take, and how many challenges after them
 abbrev pub message_count : List GateLayer → ℕ

@@ -37,13 +37,17 @@ module _ {A : Type 0} (o : Ops A) where
   -- what sumcheck sums for a layer, where x and y are the extension of the layer below at b and at c
   abbrev pub weighted_summand_from : List CircuitGate → Place A → List A → List A → A → A → A
   weighted_summand_from gates place b c x y =
-      weighted place (λ z. wiring_add o gates z b c) ⊗ (x ⊕ y) ⊕ weighted place (λ z. wiring_mul o gates z b c) ⊗ (x ⊗ y)
+      weighted place (λ z. wiring_add o gates z b c) ⊗ (x ⊕ y) ⊕ weighted place
+      (λ z. wiring_mul o gates z b c) ⊗ (x ⊗ y)
 
   module _ {C : Type 0} (base : Ops C) (embed : C → A) where
     -- the same over the values of the layer below
     abbrev pub weighted_summand : List CircuitGate → List C → Place A → List A → List A → A
-    weighted_summand gates values place b c = weighted_summand_from gates place b c (extension_at o base embed values b) (extension_at o base embed values c)
+    weighted_summand gates values place b c =
+        weighted_summand_from gates place b c (extension_at o base embed values b)
+        (extension_at o base embed values c)
 
     -- and at one list of 2 k coordinates, those of the left operand first
     abbrev pub weighted_summand_at : ℕ → List CircuitGate → List C → Place A → List A → A
-    weighted_summand_at k gates values place w = weighted_summand gates values place (take k w) (drop k w)
+    weighted_summand_at k gates values place w =
+        weighted_summand gates values place (take k w) (drop k w)

@@ -14,14 +14,17 @@ abbrev pub IsExceptionalChallenge : CircuitClaim → List (List K) → List K �
 IsExceptionalChallenge stated qs rs n v =
     let k = stated.k in
     MatchBool (nat_lt n k)
-    (IsExceptionalFold k_ops (difference k_ops stated.claimed_table (true_table stated)) (take n rs) v)
-    (IsExceptional k_ops stated.form stated.layers stated.input_table (output_place stated rs) qs (drop k rs) (n - k) v)
+    (IsExceptionalFold k_ops (difference k_ops stated.claimed_table (true_table stated)) (take n rs)
+    v)
+    (IsExceptional k_ops stated.form stated.layers stated.input_table (output_place stated rs) qs
+    (drop k rs) (n - k) v)
 
 -- how many exceptional challenges there are at most: one for a coordinate of the output point, two for a round, and for a layer's last
 -- message its degree
 abbrev pub layer_bounds : Form → List GateLayer → List ℕ
 layer_bounds form [] = []
-layer_bounds form (layer ∷ layers) = replicate (layer.k + layer.k) 2 ++ last_degree form layer.k ∷ layer_bounds form layers
+layer_bounds form (layer ∷ layers) =
+    replicate (layer.k + layer.k) 2 ++ last_degree form layer.k ∷ layer_bounds form layers
 
 -- the bounds of all challenges in order, where the output layer has 2 ^ k positions
 abbrev pub bounds_of : Form → ℕ → List GateLayer → List ℕ
@@ -43,13 +46,18 @@ abbrev pub HaveDegrees : Form → List GateLayer → List (List K) → Type 0
 HaveDegrees form [] qs = Unit {0}
 HaveDegrees form (layer ∷ layers) qs =
     let k = layer.k in
-    All (λ q. length q ≤ 3) (take (k + k) qs) × (length (slice_index_or qs (k + k) []) ≤ last_degree form k + 1) × HaveDegrees form layers (drop (k + k + 1) qs)
+    All (λ q. length q ≤ 3) (take (k + k) qs)
+    × (length (slice_index_or qs (k + k) []) ≤ last_degree form k + 1)
+    × HaveDegrees form layers (drop (k + k + 1) qs)
 
 -- challenge n is exceptional after the messages and challenges before it, and few are
-pub record LetsPass (stated : CircuitClaim) (qs : List (List K)) (rs : List K) (n : ℕ) : Type 0 where
+pub record LetsPass (stated : CircuitClaim) (qs : List (List K)) (rs : List K) (n : ℕ)
+    : Type 0 where
   pub drawn : n < challenge_count stated
-  pub exceptional : IsExceptionalChallenge stated (take (n + 1 - stated.k) qs) (take n rs) n (slice_index_or rs n zero_k)
-  pub few : HasAtMost (bound stated n) (IsExceptionalChallenge stated (take (n + 1 - stated.k) qs) (take n rs) n)
+  pub exceptional : IsExceptionalChallenge stated (take (n + 1 - stated.k) qs) (take n rs) n
+      (slice_index_or rs n zero_k)
+  pub few : HasAtMost (bound stated n)
+      (IsExceptionalChallenge stated (take (n + 1 - stated.k) qs) (take n rs) n)
 
 -- the outputs are not those that the circuit has on these inputs
 abbrev pub IsFalse : Parts → List F → List F → Type 0

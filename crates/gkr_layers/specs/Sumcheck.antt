@@ -17,7 +17,9 @@ module _ {A : Type 0} (o : Ops A) where
   -- the summand at the coordinates that are bound, the variable, and those n.
   abbrev pub round_polynomial : ℕ → List CircuitGate → List A → Place A → List A → ℕ → List A
   round_polynomial k gates values place bound n =
-      sum_cube (polynomial_ops o) n (λ w. weighted_summand_at (polynomial_ops o) o (constant o) k gates values (map_place (constant o) place) (map (constant o) bound ++ (o.zero ∷ o.one ∷ []) ∷ w))
+      sum_cube (polynomial_ops o) n
+      (λ w. weighted_summand_at (polynomial_ops o) o (constant o) k gates values
+      (map_place (constant o) place) (map (constant o) bound ++ (o.zero ∷ o.one ∷ []) ∷ w))
 
   -- the line from b, at 0, to c, at 1: a polynomial for each coordinate
   abbrev pub line_between : List A → List A → List (List A)
@@ -33,14 +35,16 @@ module _ {A : Type 0} (o : Ops A) where
 
   -- the true restriction of a table's extension to that line
   abbrev pub line_polynomial : List A → List A → List A → List A
-  line_polynomial values b c = extension_at (polynomial_ops o) o (constant o) values (line_between b c)
+  line_polynomial values b c =
+      extension_at (polynomial_ops o) o (constant o) values (line_between b c)
 
   -- each message's values at 0 and at 1 add to the claim before it, the next claim is its value at the challenge, and the last is `last`
   abbrev pub RoundsHold : A → List (List A) → List A → A → Type 0
   RoundsHold claim [] [] last = claim ≡ last
   RoundsHold claim [] (r ∷ rs) last = ⊥
   RoundsHold claim (q ∷ qs) [] last = ⊥
-  RoundsHold claim (q ∷ qs) (r ∷ rs) last = (value_at o q o.zero ⊕ value_at o q o.one ≡ claim) × RoundsHold (value_at o q r) qs rs last
+  RoundsHold claim (q ∷ qs) (r ∷ rs) last =
+      (value_at o q o.zero ⊕ value_at o q o.one ≡ claim) × RoundsHold (value_at o q r) qs rs last
 
   -- the message q differs from the true polynomial r, and has its value at v
   abbrev pub IsExceptionalFor : List A → List A → A → Type 0
@@ -54,4 +58,5 @@ module _ {A : Type 0} (o : Ops A) where
 
   -- the table d, folded by the challenges before, is not all zero, and its fold by v is
   abbrev pub IsExceptionalFold : List A → List A → A → Type 0
-  IsExceptionalFold d before v = (¬ IsZero o (folded_all o d before)) × IsZero o (folded o (folded_all o d before) v)
+  IsExceptionalFold d before v =
+      (¬ IsZero o (folded_all o d before)) × IsZero o (folded o (folded_all o d before) v)

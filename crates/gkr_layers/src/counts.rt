@@ -21,7 +21,8 @@ pub fn challenge_count(circuit: &Circuit) -> usize
 /// for each layer below 2 for each of its rounds and its number of coordinates for its line.
 #[tactic(auto, using(crate::proofs::Few::line_bounds_add))]
 pub fn bound_sum(circuit: &Circuit) -> usize
-    ensures { result ≡ sum_of_bounds Line (exponent_at circuit.now.parts 0) (layers_of circuit.now.parts) }
+    ensures { result ≡ sum_of_bounds Line (exponent_at circuit.now.parts 0)
+        (layers_of circuit.now.parts) }
 {
     circuit.coordinates(0) + 5 * width_below(circuit)
 }

@@ -24,86 +24,127 @@ ghost use Rattle.gkr_layers.specs.Honest.{AreHonest, AreHonestMessages, IsHonest
 
 /// The values that a circuit's layers have over F_p are those that the layers have as elements of K.
 pub fn one_value()
-    ensures { (p : Parts) (inputs : List F) (i : ℕ) → map embed_k (layer_values p inputs i) ≡ values_over k_ops (layers_below p i) (input_table p inputs) }
+    ensures { (p : Parts) (inputs : List F) (i : ℕ)
+        → map embed_k (layer_values p inputs i) ≡ values_over k_ops (layers_below p i)
+        (input_table p inputs) }
 {}
 
 /// The extension of a layer's values where a claim stands is the sum of the summand over all Boolean points of the two
 /// operands.
 pub fn layer_sum()
-    ensures { (k : ℕ) (gates : List CircuitGate) (below : List K) (j : ℕ) (place : Place K) → IsOver j place → length gates ≡ 2 ^ j → All (parts.IsOver (2 ^ k)) gates →
-        value_over k_ops (values_above k_ops gates below) place ≡ sum_cube k_ops (k + k) (weighted_summand_at k_ops k_ops (λ x. x) k gates below place) }
+    ensures { (k : ℕ) (gates : List CircuitGate) (below : List K) (j : ℕ) (place : Place K)
+        → IsOver j place → length gates ≡ 2 ^ j → All (parts.IsOver (2 ^ k)) gates →
+        value_over k_ops (values_above k_ops gates below) place ≡ sum_cube k_ops (k + k)
+        (weighted_summand_at k_ops k_ops (λ x. x) k gates below place) }
 {}
 
 /// The true polynomial of a round has at most three coefficients, and the true last message at most one more than its
 /// degree: two for a pair, and for a line one more than the layer below has coordinates.
 pub fn degrees()
-    ensures rounds { (k : ℕ) (gates : List CircuitGate) (values : List K) (place : Place K) (bound : List K) (n : ℕ) → length (round_polynomial k_ops k gates values place bound n) ≤ 3 }
-    ensures last { (form : Form) (values b c : List K) (k : ℕ) → length b ≤ k → length (last_polynomial k_ops form values b c) ≤ last_degree form k + 1 }
+    ensures rounds { (k : ℕ) (gates : List CircuitGate) (values : List K) (place : Place K)
+        (bound : List K) (n : ℕ)
+        → length (round_polynomial k_ops k gates values place bound n) ≤ 3 }
+    ensures last { (form : Form) (values b c : List K) (k : ℕ) → length b ≤ k
+        → length (last_polynomial k_ops form values b c) ≤ last_degree form k + 1 }
 {}
 
 /// The answer is `Accepted` exactly where every equation holds.
 #[tactic(auto, using(crate::proofs::Accepted::accepted_exactly))]
 pub fn accepted_exactly()
-    ensures { (stated : CircuitClaim) (qs : List (List K)) (rs : List K) → length qs ≡ message_count stated.layers → length rs ≡ challenge_count stated → (verdict_of stated qs rs ≡ Accepted) ↔ Accepts stated qs rs }
+    ensures { (stated : CircuitClaim) (qs : List (List K)) (rs : List K)
+        → length qs ≡ message_count stated.layers → length rs ≡ challenge_count stated
+        → (verdict_of stated qs rs ≡ Accepted) ↔ Accepts stated qs rs }
 {}
 
 /// The answer that a verifier gives with challenges from a source is the one for the challenges that the source gives. Where it is
 /// `Accepted`, every message has been taken in.
 pub fn answers()
-    ensures verdict { (stated : CircuitClaim) (source : Source) (s : List ℕ) (qs : List (List K)) → (answer_from stated source s qs).verdict ≡ verdict_of stated qs (all_draws source s stated.k qs) }
-    ensures accepted { (stated : CircuitClaim) (source : Source) (s : List ℕ) (qs : List (List K)) → length qs ≡ message_count stated.layers → (answer_from stated source s qs).verdict ≡ Accepted →
-        (answer_from stated source s qs).state ≡ state_after source (state_after_coordinates source s stated.k) qs }
+    ensures verdict { (stated : CircuitClaim) (source : Source) (s : List ℕ) (qs : List (List K))
+        → (answer_from stated source s qs).verdict ≡ verdict_of stated qs
+        (all_draws source s stated.k qs) }
+    ensures accepted { (stated : CircuitClaim) (source : Source) (s : List ℕ) (qs : List (List K))
+        → length qs ≡ message_count stated.layers
+        → (answer_from stated source s qs).verdict ≡ Accepted →
+        (answer_from stated source s qs).state ≡ state_after source
+        (state_after_coordinates source s stated.k) qs }
 {}
 
 /// At each place and after any messages and challenges, few challenges are exceptional, whatever the verdict is.
 pub fn few_exceptional()
-    ensures { (stated : CircuitClaim) (qs : List (List K)) (rs : List K) (n : ℕ) → HaveDegrees stated.form stated.layers qs → HasAtMost (bound stated n) (IsExceptionalChallenge stated qs rs n) }
+    ensures { (stated : CircuitClaim) (qs : List (List K)) (rs : List K) (n : ℕ)
+        → HaveDegrees stated.form stated.layers qs
+        → HasAtMost (bound stated n) (IsExceptionalChallenge stated qs rs n) }
 {}
 
 /// There is one bound for each challenge. The bounds of all challenges add, by lines, to the coordinates of the output point and five times those of
 /// the layers below; by pairs to the coordinates of the output point, four times those of the layers below, and the layers.
 pub fn bounds_add()
     ensures one_each { (stated : CircuitClaim) → length (bounds stated) ≡ challenge_count stated }
-    ensures lines { (k : ℕ) (layers : List GateLayer) → sum_of_bounds Line k layers ≡ k + 5 * total_exponent layers }
-    ensures pairs { (k : ℕ) (layers : List GateLayer) → sum_of_bounds Pair k layers ≡ k + 4 * total_exponent layers + length layers }
+    ensures lines { (k : ℕ) (layers : List GateLayer)
+        → sum_of_bounds Line k layers ≡ k + 5 * total_exponent layers }
+    ensures pairs { (k : ℕ) (layers : List GateLayer)
+        → sum_of_bounds Pair k layers ≡ k + 4 * total_exponent layers + length layers }
 {}
 
 /// A false claim on the first layer that passes every equation shows an exceptional challenge.
 pub fn sound_layers()
-    ensures { (form : Form) (j : ℕ) (layers : List GateLayer) (input : List K) (place : Place K) (claim : K) (qs : List (List K)) (rs : List K) → IsOver j place → FitTogether j layers →
+    ensures { (form : Form) (j : ℕ) (layers : List GateLayer) (input : List K) (place : Place K)
+        (claim : K) (qs : List (List K)) (rs : List K) → IsOver j place → FitTogether j layers →
         length qs ≡ message_count layers → length rs ≡ message_count layers →
-        LayersHold k_ops form layers input place claim qs rs → ((claim ≡ value_over k_ops (values_over k_ops layers input) place) → ⊥) →
-        (n : ℕ) × (n < message_count layers) × IsExceptional k_ops form layers input place qs rs n (slice_index_or rs n zero_k) }
+        LayersHold k_ops form layers input place claim qs rs
+        → ((claim ≡ value_over k_ops (values_over k_ops layers input) place) → ⊥) →
+        (n : ℕ) × (n < message_count layers)
+        × IsExceptional k_ops form layers input place qs rs n (slice_index_or rs n zero_k) }
 {}
 
 /// Where outputs that the circuit doesn't have are accepted, some challenge is exceptional after the messages and challenges
 /// before it, and few are: for every list of as many challenges as a check draws, as those are that a source gives.
 pub fn sound()
-    ensures forms { (form : Form) (circuit : SoundCircuit) (inputs outputs : List F) (qs : List (List K)) (rs : List K) → length outputs ≡ circuit.parts.outputs →
-        let stated = claim_in form circuit.parts inputs outputs in HaveDegrees form stated.layers qs →
-        length qs ≡ message_count stated.layers → length rs ≡ challenge_count stated → verdict_of stated qs rs ≡ Accepted → IsFalse circuit.parts inputs outputs → (n : ℕ) × LetsPass stated qs rs n }
-    ensures lists { (circuit : SoundCircuit) (inputs outputs : List F) (messages : Messages) (rs : List K) → length outputs ≡ circuit.parts.outputs → HaveShape (drop 1 (exponents circuit.parts)) messages.layers →
-        let stated = claim_of circuit.parts inputs outputs in let qs = all_messages messages.layers in
-        length rs ≡ challenge_count stated → verdict_of stated qs rs ≡ Accepted → IsFalse circuit.parts inputs outputs → (n : ℕ) × LetsPass stated qs rs n }
-    ensures draws { (circuit : SoundCircuit) (inputs outputs : List F) (messages : Messages) (source : Source) (state : List ℕ) → HaveShape (drop 1 (exponents circuit.parts)) messages.layers →
+    ensures forms { (form : Form) (circuit : SoundCircuit) (inputs outputs : List F)
+        (qs : List (List K)) (rs : List K) → length outputs ≡ circuit.parts.outputs →
+        let stated = claim_in form circuit.parts inputs outputs in
+        HaveDegrees form stated.layers qs →
+        length qs ≡ message_count stated.layers → length rs ≡ challenge_count stated
+        → verdict_of stated qs rs ≡ Accepted → IsFalse circuit.parts inputs outputs
+        → (n : ℕ) × LetsPass stated qs rs n }
+    ensures lists { (circuit : SoundCircuit) (inputs outputs : List F) (messages : Messages)
+        (rs : List K) → length outputs ≡ circuit.parts.outputs
+        → HaveShape (drop 1 (exponents circuit.parts)) messages.layers →
         let stated = claim_of circuit.parts inputs outputs in
-        length (all_draws source state stated.k (all_messages messages.layers)) ≡ challenge_count stated }
+        let qs = all_messages messages.layers in
+        length rs ≡ challenge_count stated → verdict_of stated qs rs ≡ Accepted
+        → IsFalse circuit.parts inputs outputs → (n : ℕ) × LetsPass stated qs rs n }
+    ensures draws { (circuit : SoundCircuit) (inputs outputs : List F) (messages : Messages)
+        (source : Source) (state : List ℕ)
+        → HaveShape (drop 1 (exponents circuit.parts)) messages.layers →
+        let stated = claim_of circuit.parts inputs outputs in
+        length (all_draws source state stated.k (all_messages messages.layers)) ≡ challenge_count
+        stated }
 {}
 
 /// Honest messages are accepted, where the claimed outputs are those that the circuit has on these inputs.
 pub fn honest_is_accepted()
-    ensures forms { (form : Form) (c : SoundCircuit) (inputs outputs : List F) (source : Source) (s : List ℕ) (qs : List (List K)) → length outputs ≡ c.parts.outputs →
-        outputs ≡ take (length outputs) (drop 1 (layer_values c.parts inputs 0)) → let stated = claim_in form c.parts inputs outputs in length qs ≡ message_count stated.layers →
-        AreHonestMessages form c.parts inputs source s qs → verdict_of stated qs (all_draws source s stated.k qs) ≡ Accepted }
-    ensures proofs { (c : SoundCircuit) (inputs outputs : List F) (source : Source) (s : List ℕ) (messages : Messages) → length outputs ≡ c.parts.outputs →
-        outputs ≡ take (length outputs) (drop 1 (layer_values c.parts inputs 0)) → HaveShape (drop 1 (exponents c.parts)) messages.layers →
+    ensures forms { (form : Form) (c : SoundCircuit) (inputs outputs : List F) (source : Source)
+        (s : List ℕ) (qs : List (List K)) → length outputs ≡ c.parts.outputs →
+        outputs ≡ take (length outputs) (drop 1 (layer_values c.parts inputs 0))
+        → let stated = claim_in form c.parts inputs outputs in
+        length qs ≡ message_count stated.layers →
+        AreHonestMessages form c.parts inputs source s qs
+        → verdict_of stated qs (all_draws source s stated.k qs) ≡ Accepted }
+    ensures proofs { (c : SoundCircuit) (inputs outputs : List F) (source : Source) (s : List ℕ)
+        (messages : Messages) → length outputs ≡ c.parts.outputs →
+        outputs ≡ take (length outputs) (drop 1 (layer_values c.parts inputs 0))
+        → HaveShape (drop 1 (exponents c.parts)) messages.layers →
         let stated = claim_of c.parts inputs outputs in let qs = all_messages messages.layers in
-        IsHonestProof c.parts inputs source s qs → verdict_of stated qs (all_draws source s stated.k qs) ≡ Accepted }
+        IsHonestProof c.parts inputs source s qs
+        → verdict_of stated qs (all_draws source s stated.k qs) ≡ Accepted }
 {}
 
 /// For a source of challenges there is one list of honest messages.
 pub fn honest_is_unique()
-    ensures { (form : Form) (layers : List GateLayer) (input : List K) (place : Place K) (source : Source) (s : List ℕ) (qs others : List (List K)) →
+    ensures { (form : Form) (layers : List GateLayer) (input : List K) (place : Place K)
+        (source : Source) (s : List ℕ) (qs others : List (List K)) →
         length qs ≡ message_count layers → length others ≡ message_count layers →
-        AreHonest form layers input place qs (draws source s qs) → AreHonest form layers input place others (draws source s others) → qs ≡ others }
+        AreHonest form layers input place qs (draws source s qs)
+        → AreHonest form layers input place others (draws source s others) → qs ≡ others }
 {}

@@ -47,10 +47,16 @@ pub(crate) fn prove_layer<R: Threads + Sync, C: Challenges, G: Gate>(
     requires workers { IsWorkerCount workers }
     requires layer { IsLayer K values.now.k gates.now values.now.items (At point.now) }
     requires has { IsTrue (C.source.has (C.state challenges.old) (values.now.k + values.now.k + 1)) }
-    ensures honest { IfOk result (λ proved. let qs = messages_of proved.messages in IsHonestLayer Line values.now.k gates.now values.now.items (At point.now) qs (draws C.source (C.state challenges.old) qs)) }
+    ensures honest { IfOk result (λ proved. let qs = messages_of proved.messages in
+        IsHonestLayer Line values.now.k gates.now values.now.items (At point.now) qs
+        (draws C.source (C.state challenges.old) qs)) }
     ensures shape { IfOk result (λ proved. HasShape values.now.k proved.messages) }
-    ensures point { IfOk result (λ proved. At proved.point.items ≡ next_place k_ops Line values.now.k (draws C.source (C.state challenges.old) (messages_of proved.messages))) }
-    ensures state { IfOk result (λ proved. C.state challenges.new ≡ state_after C.source (C.state challenges.old) (messages_of proved.messages)) }
+    ensures point { IfOk result
+        (λ proved. At proved.point.items ≡ next_place k_ops Line values.now.k
+        (draws C.source (C.state challenges.old) (messages_of proved.messages))) }
+    ensures state { IfOk result
+        (λ proved. C.state challenges.new ≡ state_after C.source (C.state challenges.old)
+        (messages_of proved.messages)) }
 {
     let k = values.k() as usize;
     let tables = GateTables::start_in(room, gates, values, point)?;

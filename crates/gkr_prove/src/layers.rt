@@ -40,11 +40,17 @@ pub(crate) fn prove_layers<R: Threads + Sync, C: Challenges, G: Gate>(
     requires workers { IsWorkerCount workers }
     requires values { (inputs : List F) × AreTables circuit.now.parts inputs values.now }
     requires position { length point.items ≡ exponent_at circuit.now.parts 0 }
-    requires has { IsTrue (C.source.has (C.state challenges.old) (message_count (layers_of circuit.now.parts))) }
-    ensures honest { IfOk result (λ messages. (inputs : List F) → AreTables circuit.now.parts inputs values.now → let qs = all_messages messages.items in
-        AreHonest Line (layers_of circuit.now.parts) (input_table circuit.now.parts inputs) (At point.items) qs (draws C.source (C.state challenges.old) qs)) }
-    ensures state { IfOk result (λ messages. C.state challenges.new ≡ state_after C.source (C.state challenges.old) (all_messages messages.items)) }
-    ensures shape { IfOk result (λ messages. HaveShape (lower_exponents (layers_of circuit.now.parts)) messages.items) }
+    requires has { IsTrue (C.source.has (C.state challenges.old)
+        (message_count (layers_of circuit.now.parts))) }
+    ensures honest { IfOk result (λ messages. (inputs : List F)
+        → AreTables circuit.now.parts inputs values.now → let qs = all_messages messages.items in
+        AreHonest Line (layers_of circuit.now.parts) (input_table circuit.now.parts inputs)
+        (At point.items) qs (draws C.source (C.state challenges.old) qs)) }
+    ensures state { IfOk result
+        (λ messages. C.state challenges.new ≡ state_after C.source (C.state challenges.old)
+        (all_messages messages.items)) }
+    ensures shape { IfOk result
+        (λ messages. HaveShape (lower_exponents (layers_of circuit.now.parts)) messages.items) }
 {
     let mut messages = Vec::new(alloc);
     for layer in 0..circuit.height() {

@@ -38,11 +38,15 @@ pub fn prove<R: Threads + Sync, C: Challenges, G: Gate>(
     requires workers { IsWorkerCount workers }
     requires values { (inputs : List F) × AreTables circuit.now.parts inputs values.now }
     requires has { IsTrue (C.source.has (C.state challenges.old) (challenges_of circuit.now.parts)) }
-    ensures honest { IfOk result (λ messages. (inputs : List F) → AreTables circuit.now.parts inputs values.now →
-        IsHonestProof circuit.now.parts inputs C.source (C.state challenges.old) (all_messages messages.layers)) }
+    ensures honest { IfOk result (λ messages. (inputs : List F)
+        → AreTables circuit.now.parts inputs values.now →
+        IsHonestProof circuit.now.parts inputs C.source (C.state challenges.old)
+        (all_messages messages.layers)) }
     ensures state { IfOk result (λ messages. C.state challenges.new
-        ≡ state_after C.source (state_after_coordinates C.source (C.state challenges.old) (exponent_at circuit.now.parts 0)) (all_messages messages.layers)) }
-    ensures shape { IfOk result (λ messages. HaveShape (drop 1 (exponents circuit.now.parts)) messages.layers) }
+        ≡ state_after C.source (state_after_coordinates C.source (C.state challenges.old)
+        (exponent_at circuit.now.parts 0)) (all_messages messages.layers)) }
+    ensures shape { IfOk result
+        (λ messages. HaveShape (drop 1 (exponents circuit.now.parts)) messages.layers) }
 {
     let mut point = vec![in alloc; Ext::zero(); circuit.coordinates(0)]?;
     draw_point(&mut point, challenges);

@@ -36,11 +36,20 @@ pub(crate) fn prove_rounds<R: Threads + Sync, C: Challenges, G: Gate>(
     requires workers { IsWorkerCount workers }
     requires begun { tables.bound ≡ [] }
     requires has { IsTrue (C.source.has (C.state challenges.old) (tables.k + tables.k)) }
-    ensures honest { IfOk result (λ rounds. AreHonestRounds tables.entry.k tables.entry.gates tables.entry.values tables.entry.place (tables.entry.k + tables.entry.k) (round_messages rounds.messages.items) rounds.drawn.items) }
-    ensures count { IfOk result (λ rounds. vec_len rounds.messages ≡ tables.entry.k + tables.entry.k) }
-    ensures challenges { IfOk result (λ rounds. vec_len rounds.drawn ≡ tables.entry.k + tables.entry.k) }
-    ensures drawn { IfOk result (λ rounds. rounds.drawn.items ≡ draws C.source (C.state challenges.old) (round_messages rounds.messages.items)) }
-    ensures state { IfOk result (λ rounds. C.state challenges.new ≡ state_after C.source (C.state challenges.old) (round_messages rounds.messages.items)) }
+    ensures honest { IfOk result
+        (λ rounds. AreHonestRounds tables.entry.k tables.entry.gates tables.entry.values
+        tables.entry.place (tables.entry.k + tables.entry.k) (round_messages rounds.messages.items)
+        rounds.drawn.items) }
+    ensures count { IfOk result
+        (λ rounds. vec_len rounds.messages ≡ tables.entry.k + tables.entry.k) }
+    ensures challenges { IfOk result
+        (λ rounds. vec_len rounds.drawn ≡ tables.entry.k + tables.entry.k) }
+    ensures drawn { IfOk result
+        (λ rounds. rounds.drawn.items ≡ draws C.source (C.state challenges.old)
+        (round_messages rounds.messages.items)) }
+    ensures state { IfOk result
+        (λ rounds. C.state challenges.new ≡ state_after C.source (C.state challenges.old)
+        (round_messages rounds.messages.items)) }
 {
     let mut messages = Vec::new(alloc);
     let mut drawn = Vec::new(alloc);

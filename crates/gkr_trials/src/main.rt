@@ -65,7 +65,12 @@ fn main(rt: HostRuntime) -> io::Result<ExitCode> {
     let counts = try_all(&rt, &rt, first, count)?;
     println!(&rt;
         "refused {} accepted {} (then spoiled: refused {} rejected {} harmless {}) broken {}",
-        counts.refused, counts.accepted(), counts.spoiled_refused, counts.spoiled_rejected, counts.harmless, counts.broken
+        counts.refused,
+        counts.accepted(),
+        counts.spoiled_refused,
+        counts.spoiled_rejected,
+        counts.harmless,
+        counts.broken
     )?;
     Ok(ExitCode::from(if counts.broken == 0 { 0 } else { 1 }))
 }

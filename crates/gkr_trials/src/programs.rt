@@ -190,7 +190,10 @@ pub struct MadeProgram {
 }
 
 /// A program of one of four kinds, and now and then with one byte changed.
-pub fn make_program(rng: &mut Xoshiro256PlusPlus, alloc: Global) -> Result<MadeProgram, AllocError> {
+pub fn make_program(
+    rng: &mut Xoshiro256PlusPlus,
+    alloc: Global,
+) -> Result<MadeProgram, AllocError> {
     let mut text = Vec::new(alloc);
     let inputs = match below(rng, 4) {
         0 => put_scalars(rng, alloc, &mut text)?,

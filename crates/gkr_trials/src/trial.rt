@@ -90,7 +90,9 @@ fn refused(evaluated: &Ran, proved: &Ran) -> Outcome {
             Outcome::Broken("prove refuses what eval evaluates")
         };
     }
-    if evaluated.status == proved.status && evaluated.written.as_slice() == proved.written.as_slice() {
+    if evaluated.status == proved.status
+        && evaluated.written.as_slice() == proved.written.as_slice()
+    {
         Outcome::Refused
     } else {
         Outcome::Broken("eval and prove refuse in other words")

@@ -26,7 +26,9 @@ pub(crate) fn end_value(
     requires position { length point.now ≡ exponent_at circuit.now.parts layer }
     requires left { length left.now ≡ exponent_at circuit.now.parts (layer + 1) }
     requires right { length right.now ≡ exponent_at circuit.now.parts (layer + 1) }
-    ensures { result ≡ summand_from k_ops (slice_index_or circuit.now.parts.layers layer []) point.now left.now right.now (value_at k_ops line.now zero_k) (value_at k_ops line.now one_k) }
+    ensures { result ≡ summand_from k_ops (slice_index_or circuit.now.parts.layers layer [])
+        point.now left.now right.now (value_at k_ops line.now zero_k)
+        (value_at k_ops line.now one_k) }
 {
     let (add, mul) = wiring_at(circuit, layer as u32, point, left, right);
     let low = value_at(line, Ext::zero());

@@ -14,7 +14,8 @@ use mle_table::SplitEquality;
 pub(crate) fn values_extension(values: &[Fp], point: &[Ext]) -> Ext
     requires few { length point.now ≤ 16 }
     requires fits { length values.now < 2 ^ length point.now }
-    ensures { result ≡ extension_at k_ops k_ops (λ x. x) (map embed_k (padded_values (2 ^ length point.now) values.now)) point.now }
+    ensures { result ≡ extension_at k_ops k_ops
+        (λ x. x) (map embed_k (padded_values (2 ^ length point.now) values.now)) point.now }
 {
     let equality = SplitEquality::at(point);
     let mut sum = Ext::zero();
@@ -29,7 +30,9 @@ pub(crate) fn leaves_extension(leaves: &[Leaf], inputs: &[Fp], point: &[Ext]) ->
     requires few { length point.now ≤ 16 }
     requires fits { length leaves.now < 2 ^ length point.now }
     requires within { All (IsLeafWithin (length inputs.now)) leaves.now }
-    ensures { result ≡ extension_at k_ops k_ops (λ x. x) (map embed_k (padded_values (2 ^ length point.now) (map (leaf_value inputs.now) leaves.now))) point.now }
+    ensures { result ≡ extension_at k_ops k_ops
+        (λ x. x) (map embed_k (padded_values (2 ^ length point.now)
+        (map (leaf_value inputs.now) leaves.now))) point.now }
 {
     let equality = SplitEquality::at(point);
     let mut sum = Ext::zero();

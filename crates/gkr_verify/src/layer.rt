@@ -36,15 +36,31 @@ pub(crate) fn check_layer<C: Challenges>(
     requires layer { layer < height circuit.now.parts }
     requires position { length point.now ≡ exponent_at circuit.now.parts layer }
     requires shape { HasShape (exponent_at circuit.now.parts (layer + 1)) messages.now }
-    requires drawn { length drawn.old ≡ exponent_at circuit.now.parts (layer + 1) + exponent_at circuit.now.parts (layer + 1) }
+    requires drawn { length drawn.old ≡ exponent_at circuit.now.parts (layer + 1) + exponent_at
+        circuit.now.parts (layer + 1) }
     requires next { length next.old ≡ exponent_at circuit.now.parts (layer + 1) }
-    requires has { IsTrue (C.source.has (C.state challenges.old) (exponent_at circuit.now.parts (layer + 1) + exponent_at circuit.now.parts (layer + 1) + 1)) }
-    ensures holds { IfOk result (λ value. (below : List GateLayer) (input : List K) (qs : List (List K)) →
-        answer C.source (C.state challenges.old) (equations Line layer (layer_at circuit.now.parts layer ∷ below) input (At point.now) claim (messages_of messages.now ++ qs) (draws C.source (C.state challenges.old) (messages_of messages.now ++ qs))) (messages_of messages.now ++ qs)
-        ≡ answer C.source (C.state challenges.new) (equations Line (suc layer) below input (At next.new) value qs (draws C.source (C.state challenges.new) qs)) qs) }
-    ensures state { IfOk result (λ value. C.state challenges.new ≡ state_after C.source (C.state challenges.old) (messages_of messages.now)) }
-    ensures fails { IfErr result (λ verdict. (below : List GateLayer) (input : List K) (qs : List (List K)) →
-        answer C.source (C.state challenges.old) (equations Line layer (layer_at circuit.now.parts layer ∷ below) input (At point.now) claim (messages_of messages.now ++ qs) (draws C.source (C.state challenges.old) (messages_of messages.now ++ qs))) (messages_of messages.now ++ qs)
+    requires has { IsTrue (C.source.has (C.state challenges.old)
+        (exponent_at circuit.now.parts (layer + 1) + exponent_at circuit.now.parts (layer + 1) + 1)) }
+    ensures holds { IfOk result
+        (λ value. (below : List GateLayer) (input : List K) (qs : List (List K)) →
+        answer C.source (C.state challenges.old)
+        (equations Line layer (layer_at circuit.now.parts layer ∷ below) input (At point.now)
+        claim (messages_of messages.now ++ qs)
+        (draws C.source (C.state challenges.old) (messages_of messages.now ++ qs)))
+        (messages_of messages.now ++ qs)
+        ≡ answer C.source (C.state challenges.new)
+        (equations Line (suc layer) below input (At next.new) value qs
+        (draws C.source (C.state challenges.new) qs)) qs) }
+    ensures state { IfOk result
+        (λ value. C.state challenges.new ≡ state_after C.source (C.state challenges.old)
+        (messages_of messages.now)) }
+    ensures fails { IfErr result
+        (λ verdict. (below : List GateLayer) (input : List K) (qs : List (List K)) →
+        answer C.source (C.state challenges.old)
+        (equations Line layer (layer_at circuit.now.parts layer ∷ below) input (At point.now)
+        claim (messages_of messages.now ++ qs)
+        (draws C.source (C.state challenges.old) (messages_of messages.now ++ qs)))
+        (messages_of messages.now ++ qs)
         ≡ record { verdict = verdict; state = C.state challenges.new }) }
 {
     let claim = match check_rounds(messages.rounds.as_slice(), claim, drawn, challenges) {

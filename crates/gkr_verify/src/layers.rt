@@ -36,9 +36,15 @@ pub(crate) fn check_layers<C: Challenges>(
     requires position { length point.now ≡ exponent_at circuit.now.parts layer }
     requires shape { HaveShape (lower_exponents (layers_below circuit.now.parts layer)) messages.now }
     requires room { length room.old ≡ 3 * total_exponent (layers_below circuit.now.parts layer) }
-    requires has { IsTrue (C.source.has (C.state challenges.old) (message_count (layers_below circuit.now.parts layer))) }
+    requires has { IsTrue (C.source.has (C.state challenges.old)
+        (message_count (layers_below circuit.now.parts layer))) }
     ensures { record { verdict = result; state = C.state challenges.new }
-        ≡ answer C.source (C.state challenges.old) (equations Line layer (layers_below circuit.now.parts layer) (input_table circuit.now.parts inputs.now) (At point.now) claim (all_messages messages.now) (draws C.source (C.state challenges.old) (all_messages messages.now))) (all_messages messages.now) }
+        ≡ answer C.source (C.state challenges.old)
+        (equations Line layer (layers_below circuit.now.parts layer)
+        (input_table circuit.now.parts inputs.now) (At point.now) claim
+        (all_messages messages.now)
+        (draws C.source (C.state challenges.old) (all_messages messages.now)))
+        (all_messages messages.now) }
 {
     let Some((first, later)) = messages.split_first() else {
         return check_inputs(circuit, inputs, claim, point);
@@ -65,7 +71,8 @@ pub(crate) fn check_layers<C: Challenges>(
 fn check_inputs(circuit: &Circuit, inputs: &[Fp], claim: Ext, point: &[Ext]) -> Verdict
     requires inputs { length inputs.now ≡ circuit.now.parts.inputs }
     requires position { length point.now ≡ exponent_at circuit.now.parts (height circuit.now.parts) }
-    ensures { result ≡ first_failure (equations Line 0 [] (input_table circuit.now.parts inputs.now) (At point.now) claim [] []) }
+    ensures { result ≡ first_failure
+        (equations Line 0 [] (input_table circuit.now.parts inputs.now) (At point.now) claim [] []) }
 {
     let want = leaves_extension(circuit.leaves(), inputs, point);
     if claim.equals(want) {

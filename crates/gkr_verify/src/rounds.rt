@@ -23,14 +23,28 @@ pub(crate) fn check_rounds<C: Challenges>(
     requires few { length messages.now ≤ 65536 }
     requires room { length drawn.old ≡ length messages.now }
     requires has { IsTrue (C.source.has (C.state challenges.old) (length messages.now)) }
-    ensures holds { IfOk result (λ last. (number : ℕ) (rest : List Equation) (more : List (List K)) →
-        answer C.source (C.state challenges.old) (sum_equations number 1 claim (round_messages messages.now) (draws C.source (C.state challenges.old) (round_messages messages.now)) ++ rest) (round_messages messages.now ++ more)
-        ≡ answer C.source (state_after C.source (C.state challenges.old) (round_messages messages.now)) rest more) }
-    ensures claim { IfOk result (λ last. last ≡ claim_after claim (round_messages messages.now) (draws C.source (C.state challenges.old) (round_messages messages.now))) }
-    ensures drawn { IfOk result (λ last. drawn.new ≡ draws C.source (C.state challenges.old) (round_messages messages.now)) }
-    ensures state { IfOk result (λ last. C.state challenges.new ≡ state_after C.source (C.state challenges.old) (round_messages messages.now)) }
-    ensures fails { IfErr result (λ fault. (number : ℕ) (rest : List Equation) (more : List (List K)) →
-        answer C.source (C.state challenges.old) (sum_equations number 1 claim (round_messages messages.now) (draws C.source (C.state challenges.old) (round_messages messages.now)) ++ rest) (round_messages messages.now ++ more)
+    ensures holds { IfOk result (λ last. (number : ℕ) (rest : List Equation) (more : List (List K))
+        →
+        answer C.source (C.state challenges.old)
+        (sum_equations number 1 claim (round_messages messages.now)
+        (draws C.source (C.state challenges.old) (round_messages messages.now)) ++ rest)
+        (round_messages messages.now ++ more)
+        ≡ answer C.source (state_after C.source (C.state challenges.old)
+        (round_messages messages.now)) rest more) }
+    ensures claim { IfOk result
+        (λ last. last ≡ claim_after claim (round_messages messages.now)
+        (draws C.source (C.state challenges.old) (round_messages messages.now))) }
+    ensures drawn { IfOk result
+        (λ last. drawn.new ≡ draws C.source (C.state challenges.old) (round_messages messages.now)) }
+    ensures state { IfOk result
+        (λ last. C.state challenges.new ≡ state_after C.source (C.state challenges.old)
+        (round_messages messages.now)) }
+    ensures fails { IfErr result
+        (λ fault. (number : ℕ) (rest : List Equation) (more : List (List K)) →
+        answer C.source (C.state challenges.old)
+        (sum_equations number 1 claim (round_messages messages.now)
+        (draws C.source (C.state challenges.old) (round_messages messages.now)) ++ rest)
+        (round_messages messages.now ++ more)
         ≡ record { verdict = sum_failure number fault; state = C.state challenges.new }) }
 {
     let mut rounds = Rounds::start(claim);

@@ -32,12 +32,21 @@ pub fn check<C: Challenges>(
     requires inputs { length inputs.now ≡ circuit.now.parts.inputs }
     requires outputs { length outputs.now ≡ circuit.now.parts.outputs }
     requires shape { HaveShape (drop 1 (exponents circuit.now.parts)) messages.now.layers }
-    requires has { IsTrue (C.source.has (C.state challenges.old) (challenge_count (claim_of circuit.now.parts inputs.now outputs.now))) }
-    ensures verdict { IfOk result (λ verdict. let stated = claim_of circuit.now.parts inputs.now outputs.now in let qs = all_messages messages.now.layers in
+    requires has { IsTrue (C.source.has (C.state challenges.old)
+        (challenge_count (claim_of circuit.now.parts inputs.now outputs.now))) }
+    ensures verdict { IfOk result (λ verdict.
+        let stated = claim_of circuit.now.parts inputs.now outputs.now in
+        let qs = all_messages messages.now.layers in
         verdict ≡ verdict_of stated qs (all_draws C.source (C.state challenges.old) stated.k qs)) }
-    ensures sound { IfOk result (λ verdict. let stated = claim_of circuit.now.parts inputs.now outputs.now in let qs = all_messages messages.now.layers in
-        verdict ≡ Verdict.Accepted → IsFalse circuit.now.parts inputs.now outputs.now → (n : ℕ) × LetsPass stated qs (all_draws C.source (C.state challenges.old) stated.k qs) n) }
-    ensures state { IfOk result (λ verdict. let stated = claim_of circuit.now.parts inputs.now outputs.now in let qs = all_messages messages.now.layers in
+    ensures sound { IfOk result (λ verdict.
+        let stated = claim_of circuit.now.parts inputs.now outputs.now in
+        let qs = all_messages messages.now.layers in
+        verdict ≡ Verdict.Accepted → IsFalse circuit.now.parts inputs.now outputs.now
+        → (n : ℕ) × LetsPass stated qs (all_draws C.source (C.state challenges.old) stated.k qs)
+        n) }
+    ensures state { IfOk result (λ verdict.
+        let stated = claim_of circuit.now.parts inputs.now outputs.now in
+        let qs = all_messages messages.now.layers in
         C.state challenges.new ≡ (answer_from stated C.source (C.state challenges.old) qs).state) }
     ensures memory { IfErr result (λ _. C.state challenges.new ≡ C.state challenges.old) }
 {
@@ -58,10 +67,13 @@ fn check_in<C: Challenges>(
     requires inputs { length inputs.now ≡ circuit.now.parts.inputs }
     requires outputs { length outputs.now ≡ circuit.now.parts.outputs }
     requires shape { HaveShape (drop 1 (exponents circuit.now.parts)) messages.now.layers }
-    requires has { IsTrue (C.source.has (C.state challenges.old) (challenge_count (claim_of circuit.now.parts inputs.now outputs.now))) }
-    requires room { length room.old ≡ exponent_at circuit.now.parts 0 + 3 * total_exponent (layers_of circuit.now.parts) }
+    requires has { IsTrue (C.source.has (C.state challenges.old)
+        (challenge_count (claim_of circuit.now.parts inputs.now outputs.now))) }
+    requires room { length room.old ≡ exponent_at circuit.now.parts 0 + 3 * total_exponent
+        (layers_of circuit.now.parts) }
     ensures { record { verdict = result; state = C.state challenges.new }
-        ≡ answer_from (claim_of circuit.now.parts inputs.now outputs.now) C.source (C.state challenges.old) (all_messages messages.now.layers) }
+        ≡ answer_from (claim_of circuit.now.parts inputs.now outputs.now) C.source
+        (C.state challenges.old) (all_messages messages.now.layers) }
 {
     let (point, room) = room.split_at_mut(circuit.coordinates(0));
     draw_point(point, challenges);

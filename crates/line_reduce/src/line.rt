@@ -17,7 +17,8 @@ pub fn line_poly(alloc: Global, table: &Table, b: &[Ext], c: &[Ext]) -> Result<P
     requires most { table.now.k ≤ 16 }
     requires start { length b.now ≡ table.now.k }
     requires end { length c.now ≡ table.now.k }
-    ensures { IfOk result (λ line. line ≡ coefficients k_ops (table.now.k + 1) (line_polynomial k_ops table.now.items b.now c.now)) }
+    ensures { IfOk result (λ line. line ≡ coefficients k_ops (table.now.k + 1)
+        (line_polynomial k_ops table.now.items b.now c.now)) }
 {
     let rows = Vec::from_slice(alloc, table.values())?;
     Ok(Poly::of_coeffs(folded_rows(alloc, rows, b, c)?))
@@ -40,7 +41,8 @@ fn folded_rows(
     requires most { length b.now ≤ 16 }
     requires end { length c.now ≡ length b.now }
     requires size { length rows.items ≡ 2 ^ length b.now }
-    ensures { IfOk result (λ line. line.items ≡ coefficients k_ops (length b.now + 1) (line_polynomial k_ops rows.items b.now c.now)) }
+    ensures { IfOk result (λ line. line.items ≡ coefficients k_ops (length b.now + 1)
+        (line_polynomial k_ops rows.items b.now c.now)) }
 {
     let mut count = rows.len();
     for j in 0..b.len() {

@@ -11,8 +11,11 @@ use std::alloc::{AllocError, Global};
 fn fold_row(old: &[Ext], at: usize, n: usize, start: Ext, step: Ext, new: &mut [Ext], to: usize)
     requires old { at + 2 * n ≤ length old.now }
     requires new { to + n < length new.old }
-    ensures row { (e : K) → row_value k_ops new.new to (n + 1) e ≡ between k_ops (row_value k_ops old.now at n e) (row_value k_ops old.now (at + n) n e) (add_k start (mul_k e step)) }
-    ensures before { (x : ℕ) → x < to → slice_index_or new.new x zero_k ≡ slice_index_or new.old x zero_k }
+    ensures row { (e : K) → row_value k_ops new.new to (n + 1) e
+        ≡ between k_ops (row_value k_ops old.now at n e) (row_value k_ops old.now (at + n) n e)
+        (add_k start (mul_k e step)) }
+    ensures before { (x : ℕ) → x < to
+        → slice_index_or new.new x zero_k ≡ slice_index_or new.old x zero_k }
 {
     new[to + n] = Ext::zero();
     for done in 0..n {

@@ -20,7 +20,8 @@ use std::alloc::Global;
 pub fn decode(alloc: Global, bytes: &[u8], shape: &Shape) -> Result<Messages, ProofRefused>
     ensures of { IfOk result (λ messages. HaveShape (drop 1 shape.now.ks) messages.layers) }
     ensures found { IfOk result (λ messages. spelling messages ≡ bytes.now) }
-    ensures only { (messages : Messages) → HaveShape (drop 1 shape.now.ks) messages.layers → bytes.now ≡ spelling messages →
+    ensures only { (messages : Messages) → HaveShape (drop 1 shape.now.ks) messages.layers
+        → bytes.now ≡ spelling messages →
         MatchResult result (λ read. read ≡ messages) (λ e. e ≡ Memory) }
     ensures exact { IfErr result (λ e. RefusedFor shape.now.ks bytes.now e) }
 {
@@ -30,7 +31,8 @@ pub fn decode(alloc: Global, bytes: &[u8], shape: &Shape) -> Result<Messages, Pr
 
 /// The coefficients of a proof of this shape.
 fn read_all(alloc: Global, bytes: &[u8], shape: &Shape) -> Result<Vec<Ext>, ProofRefused>
-    ensures count { IfOk result (λ elements. length elements.items ≡ coefficient_count (drop 1 shape.now.ks)) }
+    ensures count { IfOk result
+        (λ elements. length elements.items ≡ coefficient_count (drop 1 shape.now.ks)) }
     ensures found { IfOk result (λ elements. bytes.now ≡ magic ++ flat_map bytes_of elements.items) }
     ensures exact { IfErr result (λ e. RefusedFor shape.now.ks bytes.now e) }
 {
@@ -72,8 +74,11 @@ fn foreign_byte(bytes: &[u8]) -> Option<usize>
 fn read_elements(alloc: Global, bytes: &[u8], shape: &Shape) -> Result<Vec<Ext>, ProofRefused>
     requires room { 4 ≤ length bytes.now }
     requires opens { Opens bytes.now }
-    ensures few { IfOk result (λ elements. length elements.items ≤ coefficient_count (drop 1 shape.now.ks)) }
-    ensures whole { IfOk result (λ elements. (length elements.items < coefficient_count (drop 1 shape.now.ks)) → length bytes.now < 12 + 8 * length elements.items) }
+    ensures few { IfOk result
+        (λ elements. length elements.items ≤ coefficient_count (drop 1 shape.now.ks)) }
+    ensures whole { IfOk result
+        (λ elements. (length elements.items < coefficient_count (drop 1 shape.now.ks))
+        → length bytes.now < 12 + 8 * length elements.items) }
     ensures front { IfOk result (λ elements. IsFront elements.items bytes.now) }
     ensures exact { IfErr result (λ e. RefusedFor shape.now.ks bytes.now e) }
 {

@@ -23,14 +23,16 @@ pub fn encode(alloc: Global, messages: &Messages) -> Result<Vec<u8>, AllocError>
 }
 
 fn push_layer(bytes: &mut Vec<u8>, layer: &LayerMessages) -> Result<(), AllocError>
-    ensures { OnOk result (bytes.new.items ≡ bytes.old.items ++ flat_map bytes_of (layer_coefficients layer.now)) }
+    ensures { OnOk result (bytes.new.items ≡ bytes.old.items ++ flat_map bytes_of
+        (layer_coefficients layer.now)) }
 {
     push_rounds(bytes, layer.rounds.as_slice())?;
     push_elements(bytes, layer.line.as_slice())
 }
 
 fn push_rounds(bytes: &mut Vec<u8>, rounds: &[Round]) -> Result<(), AllocError>
-    ensures { OnOk result (bytes.new.items ≡ bytes.old.items ++ flat_map bytes_of (flat_map coefficients_of rounds.now)) }
+    ensures { OnOk result (bytes.new.items ≡ bytes.old.items ++ flat_map bytes_of
+        (flat_map coefficients_of rounds.now)) }
 {
     for round in rounds {
         push_elements(bytes, &round.coefficients())?;

@@ -26,12 +26,16 @@ abbrev pub after_phase : ℕ → ℕ → ℕ
 after_phase k n = if nat_lt n k then k else 0
 
 -- the part of a round's true polynomial in which the other coordinates of the phase are the bits of a number from `from` to before `to`
-abbrev pub part_of_round : {A : Type 0} → Ops A → ℕ → List CircuitGate → List A → Place A → List A → ℕ → ℕ → List A
+abbrev pub part_of_round : {A : Type 0} → Ops A → ℕ → List CircuitGate → List A → Place A → List A
+    → ℕ → ℕ → List A
 part_of_round o k gates values place bound from to =
     let n = length bound in
     sum_below (polynomial_ops o) (to - from) (λ j.
     sum_cube (polynomial_ops o) (after_phase k n) (λ c.
-    weighted_summand_at (polynomial_ops o) o (constant o) k gates values (map_place (constant o) place) (map (constant o) bound ++ (o.zero ∷ o.one ∷ []) ∷ (bits_of (polynomial_ops o) (left_in_phase k n - 1) (from + j) ++ c))))
+    weighted_summand_at (polynomial_ops o) o (constant o) k gates values
+    (map_place (constant o) place)
+    (map (constant o) bound ++ (o.zero ∷ o.one ∷ [])
+    ∷ (bits_of (polynomial_ops o) (left_in_phase k n - 1) (from + j) ++ c))))
 
 -- how many numbers the other coordinates of the phase have
 abbrev pub pairs_of : LayerSum → ℕ
@@ -42,7 +46,8 @@ abbrev pub pieces_of : LayerSum → ℕ
 pieces_of s = (pairs_of s + 1023) / 1024
 
 abbrev pub piece_poly : LayerSum → ℕ → List K
-piece_poly s piece = part_of_round k_ops s.k s.gates s.values s.place s.bound (1024 * piece) (min (1024 * piece + 1024) (pairs_of s))
+piece_poly s piece = part_of_round k_ops s.k s.gates s.values s.place s.bound (1024 * piece)
+    (min (1024 * piece + 1024) (pairs_of s))
 
 -- how many pairs a piece has
 abbrev pub piece_pairs : LayerSum → ℕ → ℕ
@@ -54,4 +59,5 @@ bind_steps s = 3 * pairs_of s + (if length s.bound + 1 == s.k then length s.gate
 
 -- the true polynomial of the next round
 abbrev pub next_poly : LayerSum → List K
-next_poly s = round_polynomial k_ops s.k s.gates s.values s.place s.bound (s.k + s.k - length s.bound - 1)
+next_poly s = round_polynomial k_ops s.k s.gates s.values s.place s.bound
+    (s.k + s.k - length s.bound - 1)

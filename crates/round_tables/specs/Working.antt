@@ -13,12 +13,14 @@ use Rattle.round_tables.specs.Phase.{IsLayer, IsPhase}
 
 -- where the claim on the layer stands
 abbrev pub place_of : LayerGates → Place K
-place_of layer = if layer.both then AtBoth layer.first.now layer.second.now layer.weight else At layer.first.now
+place_of layer = if layer.both then AtBoth layer.first.now layer.second.now layer.weight
+    else At layer.first.now
 
 -- the layer is one, and the weights of its positions are kept with it
 pub record IsLayerGates (layer : LayerGates) : Type 0 where
   pub layer_is : IsLayer K layer.k layer.gates.now layer.values.now.items (place_of layer)
-  pub equality : HasWeights K k_ops (place_of layer) (length layer.gates.now) layer.point_equality.items
+  pub equality : HasWeights K k_ops (place_of layer) (length layer.gates.now)
+      layer.point_equality.items
   pub equality_size : vec_len layer.point_equality ≡ length layer.gates.now
   pub in_base : IsTrue layer.base → AreBase layer.values.now.items
 
@@ -39,7 +41,8 @@ pub record WorksFor (layer : LayerGates) (w : Working) : Type 0 where
   pub rooms : HasRooms layer.k w
   pub counted : w.count ≤ layer.k + layer.k
   pub fresh : (w.count ≡ 0) ⊎ (w.count ≡ layer.k) → w.table.items ≡ layer.values.now.items
-  pub phase : IsPhase K k_ops layer.k layer.gates.now layer.values.now.items (place_of layer) (bound_of w) w.table.items w.scales.items w.shifts.items
+  pub phase : IsPhase K k_ops layer.k layer.gates.now layer.values.now.items (place_of layer)
+      (bound_of w) w.table.items w.scales.items w.shifts.items
 
 -- r is noted, and the tables are folded by it
 pub record IsAdvanced (k : ℕ) (old : Working) (r : K) (new : Working) : Type 0 where
@@ -47,5 +50,7 @@ pub record IsAdvanced (k : ℕ) (old : Working) (r : K) (new : Working) : Type 0
   pub bound : bound_of new ≡ bound_of old ++ r ∷ []
   pub count : new.count ≡ old.count + 1
   pub table : IsFolded k_ops (2 ^ (left_in_phase k old.count - 1)) old.table.items r new.table.items
-  pub scales : IsFolded k_ops (2 ^ (left_in_phase k old.count - 1)) old.scales.items r new.scales.items
-  pub shifts : IsFolded k_ops (2 ^ (left_in_phase k old.count - 1)) old.shifts.items r new.shifts.items
+  pub scales : IsFolded k_ops (2 ^ (left_in_phase k old.count - 1)) old.scales.items r
+      new.scales.items
+  pub shifts : IsFolded k_ops (2 ^ (left_in_phase k old.count - 1)) old.shifts.items r
+      new.shifts.items

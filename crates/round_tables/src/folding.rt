@@ -52,9 +52,12 @@ fn fold_block<V: Operand, L: Ledger>(
     requires pairs { 2 * (from + count) ≤ length values.old }
     requires values { (i : ℕ) → from ≤ i → V.holds (slice_index_or values.old i zero_k) }
     requires room { count ≤ length block.old }
-    ensures before { (i : ℕ) → i < from → slice_index_or values.new i zero_k ≡ slice_index_or values.old i zero_k }
-    ensures within { (i : ℕ) → from ≤ i → i < from + count → slice_index_or values.new i zero_k ≡ slice_index_or (folded k_ops values.old r) i zero_k }
-    ensures behind { (i : ℕ) → from + count ≤ i → slice_index_or values.new i zero_k ≡ slice_index_or values.old i zero_k }
+    ensures before { (i : ℕ) → i < from
+        → slice_index_or values.new i zero_k ≡ slice_index_or values.old i zero_k }
+    ensures within { (i : ℕ) → from ≤ i → i < from + count
+        → slice_index_or values.new i zero_k ≡ slice_index_or (folded k_ops values.old r) i zero_k }
+    ensures behind { (i : ℕ) → from + count ≤ i
+        → slice_index_or values.new i zero_k ≡ slice_index_or values.old i zero_k }
     ensures steps { steps.new ≡ steps.old + count }
 {
     fold_into::<V, L>(values, from, count, r, block, steps);
@@ -73,7 +76,9 @@ fn fold_into<V: Operand, L: Ledger>(
     requires pairs { 2 * (from + count) ≤ length values.now }
     requires values { (i : ℕ) → from ≤ i → V.holds (slice_index_or values.now i zero_k) }
     requires room { count ≤ length block.old }
-    ensures folds { (i : ℕ) → i < count → slice_index_or block.new i zero_k ≡ slice_index_or (folded k_ops values.now r) (from + i) zero_k }
+    ensures folds { (i : ℕ) → i < count
+        → slice_index_or block.new i zero_k ≡ slice_index_or (folded k_ops values.now r) (from + i)
+        zero_k }
     ensures steps { steps.new ≡ steps.old + count }
 {
     for i in 0..count {
@@ -88,9 +93,12 @@ fn fold_into<V: Operand, L: Ledger>(
 fn write_block(values: &mut [Ext], from: usize, count: usize, block: &[Ext])
     requires table { from + count ≤ length values.old }
     requires block { count ≤ length block.now }
-    ensures before { (i : ℕ) → i < from → slice_index_or values.new i zero_k ≡ slice_index_or values.old i zero_k }
-    ensures within { (i : ℕ) → i < count → slice_index_or values.new (from + i) zero_k ≡ slice_index_or block.now i zero_k }
-    ensures behind { (i : ℕ) → from + count ≤ i → slice_index_or values.new i zero_k ≡ slice_index_or values.old i zero_k }
+    ensures before { (i : ℕ) → i < from
+        → slice_index_or values.new i zero_k ≡ slice_index_or values.old i zero_k }
+    ensures within { (i : ℕ) → i < count
+        → slice_index_or values.new (from + i) zero_k ≡ slice_index_or block.now i zero_k }
+    ensures behind { (i : ℕ) → from + count ≤ i
+        → slice_index_or values.new i zero_k ≡ slice_index_or values.old i zero_k }
 {
     for i in 0..count {
         values[from + i] = block[i];

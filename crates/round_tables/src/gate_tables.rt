@@ -34,7 +34,13 @@ impl<'a> Model for GateTables<'a> {
 
     ghost Value = { LayerSum };
 
-    ghost view = { λ a. record { k = a.layer.k; gates = a.layer.gates.now; values = a.layer.values.now.items; place = place_of a.layer; bound = bound_of a.working } };
+    ghost view = { λ a. record {
+      k = a.layer.k;
+      gates = a.layer.gates.now;
+      values = a.layer.values.now.items;
+      place = place_of a.layer;
+      bound = bound_of a.working;
+    } };
 
     ghost invariant = { λ a. IsLayerGates a.layer × WorksFor a.layer a.working };
 }

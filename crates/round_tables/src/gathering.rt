@@ -33,8 +33,12 @@ fn send<V: Operand>(
     requires scales { place < length scales.old }
     requires shifts { place < length shifts.old }
     requires other { V.holds other }
-    ensures scales { (x : ℕ) → slice_index_or scales.new x zero_k ≡ add_k (slice_index_or scales.old x zero_k) (if place == x then scale_of k_ops gate factor other else zero_k) }
-    ensures shifts { (x : ℕ) → slice_index_or shifts.new x zero_k ≡ add_k (slice_index_or shifts.old x zero_k) (if place == x then shift_of k_ops gate factor other else zero_k) }
+    ensures scales { (x : ℕ)
+        → slice_index_or scales.new x zero_k ≡ add_k (slice_index_or scales.old x zero_k)
+        (if place == x then scale_of k_ops gate factor other else zero_k) }
+    ensures shifts { (x : ℕ)
+        → slice_index_or shifts.new x zero_k ≡ add_k (slice_index_or shifts.old x zero_k)
+        (if place == x then shift_of k_ops gate factor other else zero_k) }
 {
     let product = V::times(factor, other);
     match gate.kind {
@@ -79,8 +83,12 @@ pub(crate) fn gather_left<V: Operand>(
 fn send_factor(adds: &mut [Ext], muls: &mut [Ext], place: usize, kind: Kind, factor: Ext)
     requires adds { place < length adds.old }
     requires muls { place < length muls.old }
-    ensures adds { (x : ℕ) → slice_index_or adds.new x zero_k ≡ add_k (slice_index_or adds.old x zero_k) (if place == x then by_kind kind factor zero_k else zero_k) }
-    ensures muls { (x : ℕ) → slice_index_or muls.new x zero_k ≡ add_k (slice_index_or muls.old x zero_k) (if place == x then by_kind kind zero_k factor else zero_k) }
+    ensures adds { (x : ℕ) → slice_index_or adds.new x zero_k
+        ≡ add_k (slice_index_or adds.old x zero_k) (if place == x then by_kind kind factor zero_k
+        else zero_k) }
+    ensures muls { (x : ℕ) → slice_index_or muls.new x zero_k
+        ≡ add_k (slice_index_or muls.old x zero_k) (if place == x then by_kind kind zero_k factor
+        else zero_k) }
 {
     match kind {
         Kind::Mul => muls[place] = muls[place] + factor,
@@ -102,7 +110,8 @@ fn gather_factors<L: Ledger>(
     requires in_range { All (IsOver (length left_equality.now)) gates.now }
     requires adds { length left_equality.now ≤ length adds.old }
     requires muls { length left_equality.now ≤ length muls.old }
-    ensures gathers { GathersFactors K k_ops gates.now point_equality.now left_equality.now adds.new muls.new }
+    ensures gathers { GathersFactors K k_ops gates.now point_equality.now left_equality.now adds.new
+        muls.new }
     ensures steps { steps.new ≡ steps.old + length gates.now }
 {
     clear(adds);
@@ -118,8 +127,11 @@ fn gather_factors<L: Ledger>(
 /// factor times the left operand's value to the shifts, and where it multiplies the product to the scales.
 fn scale_by(value: Ext, scales: &mut [Ext], shifts: &mut [Ext])
     requires { length scales.old ≡ length shifts.old }
-    ensures scales { (x : ℕ) → slice_index_or scales.new x zero_k ≡ add_k (slice_index_or shifts.old x zero_k) (mul_k value (slice_index_or scales.old x zero_k)) }
-    ensures shifts { (x : ℕ) → slice_index_or shifts.new x zero_k ≡ mul_k value (slice_index_or shifts.old x zero_k) }
+    ensures scales { (x : ℕ)
+        → slice_index_or scales.new x zero_k ≡ add_k (slice_index_or shifts.old x zero_k)
+        (mul_k value (slice_index_or scales.old x zero_k)) }
+    ensures shifts { (x : ℕ)
+        → slice_index_or shifts.new x zero_k ≡ mul_k value (slice_index_or shifts.old x zero_k) }
 {
     for i in 0..scales.len() {
         let add = shifts[i];
@@ -144,7 +156,8 @@ pub(crate) fn gather_right<L: Ledger>(
     requires in_range { All (IsOver (length left_equality.now)) gates.now }
     requires scales { length left_equality.now ≤ length scales.old }
     requires shifts { length shifts.old ≡ length scales.old }
-    ensures gathers { GathersRight K k_ops gates.now point_equality.now left_equality.now bound_value scales.new shifts.new }
+    ensures gathers { GathersRight K k_ops gates.now point_equality.now left_equality.now
+        bound_value scales.new shifts.new }
     ensures steps { steps.new ≡ steps.old + length gates.now }
 {
     gather_factors(gates, point_equality, left_equality, shifts, scales, steps);

@@ -9,5 +9,7 @@ ghost use Rattle.round_tables.specs.LayerSum.{LayerSum, pieces_of, piece_poly, n
 /// The sums of the pieces add to the coefficients of the round's true polynomial.
 pub fn pieces_add_to_round()
     ensures { (sum : LayerSum) → length sum.bound < sum.k + sum.k →
-        sum_below (polynomial_ops k_ops) (pieces_of sum) (λ piece. coefficients k_ops 3 (piece_poly sum piece)) ≡ coefficients k_ops 3 (next_poly sum) }
+        sum_below (polynomial_ops k_ops) (pieces_of sum)
+        (λ piece. coefficients k_ops 3 (piece_poly sum piece)) ≡ coefficients k_ops 3
+        (next_poly sum) }
 {}

@@ -76,7 +76,8 @@ impl<'a> LayerGates<'a> {
         weight: Ext,
     ) -> Result<LayerGates<'a>, AllocError>
         requires few { length second.now ≤ 16 }
-        requires layer { IsLayer K values.now.k gates.now values.now.items (AtBoth first.now second.now weight) }
+        requires layer { IsLayer K values.now.k gates.now values.now.items
+            (AtBoth first.now second.now weight) }
         ensures holds { IfOk result (λ layer. IsLayerGates layer) }
         ensures k { IfOk result (λ layer. layer.k ≡ values.now.k) }
         ensures gates { IfOk result (λ layer. layer.gates.now ≡ gates.now) }

@@ -36,7 +36,9 @@ fn pair<V: Operand>(table: &[Ext], scales: &[Ext], shifts: &[Ext], j: usize) -> 
     requires scales { 2 * j + 1 < length scales.now }
     requires shifts { 2 * j + 1 < length shifts.now }
     requires values { (i : ℕ) → V.holds (slice_index_or table.now i zero_k) }
-    ensures value { (e : K) → quadratic_at k_ops (element_of result.at_zero) (element_of result.at_one) (element_of result.square) e ≡ pair_at k_ops table.now scales.now shifts.now e j }
+    ensures value { (e : K) → quadratic_at k_ops (element_of result.at_zero)
+        (element_of result.at_one) (element_of result.square) e ≡ pair_at k_ops table.now scales.now
+        shifts.now e j }
     ensures at_zero { IsBelow (2 ^ 35) result.at_zero }
     ensures at_one { IsBelow (2 ^ 35) result.at_one }
     ensures square { IsBelow (2 ^ 35) result.square }
@@ -67,7 +69,9 @@ pub(crate) fn pair_sum<V: Operand, L: Ledger>(
     requires scales { 2 * to ≤ length scales.now }
     requires shifts { 2 * to ≤ length shifts.now }
     requires values { (i : ℕ) → V.holds (slice_index_or table.now i zero_k) }
-    ensures sum { (e : K) → value_at k_ops (result.constant ∷ result.linear ∷ result.square ∷ []) e ≡ sum_below k_ops (to - from) (λ j. pair_at k_ops table.now scales.now shifts.now e (from + j)) }
+    ensures sum { (e : K) → value_at k_ops (result.constant ∷ result.linear ∷ result.square ∷ []) e
+        ≡ sum_below k_ops (to - from)
+        (λ j. pair_at k_ops table.now scales.now shifts.now e (from + j)) }
     ensures steps { steps.new ≡ steps.old + (to - from) }
 {
     let mut at_zero = LazySum::zero();
@@ -85,7 +89,8 @@ pub(crate) fn pair_sum<V: Operand, L: Ledger>(
 
 /// The polynomial with these values at 0 and 1 and this last coefficient.
 fn through(at_zero: Ext, at_one: Ext, square: Ext) -> Quadratic
-    ensures { (e : K) → value_at k_ops (result.constant ∷ result.linear ∷ result.square ∷ []) e ≡ quadratic_at k_ops at_zero at_one square e }
+    ensures { (e : K) → value_at k_ops (result.constant ∷ result.linear ∷ result.square ∷ []) e
+        ≡ quadratic_at k_ops at_zero at_one square e }
 {
     Quadratic {
         constant: at_zero,

@@ -56,7 +56,8 @@ fn gather_first(layer: &LayerGates<'_>, values: &[Ext], scales: &mut [Ext], shif
     requires values { values.now ≡ layer.now.values.now.items }
     requires scales { length values.now ≤ length scales.old }
     requires shifts { length values.now ≤ length shifts.old }
-    ensures { GathersLeft K k_ops layer.now.gates.now layer.now.point_equality.items values.now scales.new shifts.new }
+    ensures { GathersLeft K k_ops layer.now.gates.now layer.now.point_equality.items values.now
+        scales.new shifts.new }
 {
     if layer.base {
         gather_left::<Base>(layer.gates, &layer.point_equality, values, scales, shifts);
@@ -95,7 +96,9 @@ fn sum_pairs<L: Ledger>(
     requires scales { 2 * to ≤ length scales.now }
     requires shifts { 2 * to ≤ length shifts.now }
     requires values { IsTrue base → AreBase table.now }
-    ensures sum { (e : K) → value_at k_ops (result.constant ∷ result.linear ∷ result.square ∷ []) e ≡ sum_below k_ops (to - from) (λ j. pair_at k_ops table.now scales.now shifts.now e (from + j)) }
+    ensures sum { (e : K) → value_at k_ops (result.constant ∷ result.linear ∷ result.square ∷ []) e
+        ≡ sum_below k_ops (to - from)
+        (λ j. pair_at k_ops table.now scales.now shifts.now e (from + j)) }
     ensures steps { steps.new ≡ steps.old + (to - from) }
 {
     if base {
@@ -207,7 +210,9 @@ impl Working {
         requires layer { IsLayerGates layer.now }
         requires rooms { HasRooms layer.now.k self.old }
         ensures table { self.new.table.items ≡ layer.now.values.now.items }
-        ensures gathers { GathersRight K k_ops layer.now.gates.now layer.now.point_equality.items self.old.left_equality.items (slice_index_or self.old.table.items 0 zero_k) self.new.scales.items self.new.shifts.items }
+        ensures gathers { GathersRight K k_ops layer.now.gates.now layer.now.point_equality.items
+            self.old.left_equality.items (slice_index_or self.old.table.items 0 zero_k)
+            self.new.scales.items self.new.shifts.items }
         ensures rooms { HasRooms layer.now.k self.new }
         ensures challenges { self.new.challenges ≡ self.old.challenges }
         ensures count { self.new.count ≡ self.old.count }
@@ -246,7 +251,8 @@ impl Working {
         requires left { self.old.count + 1 < layer.now.k }
         ensures works { WorksFor layer.now self.new }
         ensures bound { bound_of self.new ≡ bound_of self.old ++ r ∷ [] }
-        ensures steps { steps.new ≡ steps.old + 3 * 2 ^ (left_in_phase layer.now.k self.old.count - 1) }
+        ensures steps { steps.new ≡ steps.old + 3 * 2
+            ^ (left_in_phase layer.now.k self.old.count - 1) }
     {
         let base = self.is_base(layer);
         self.advance(layer.k, r, base, steps);
@@ -259,7 +265,8 @@ impl Working {
         requires left { self.old.count + 1 ≡ layer.now.k }
         ensures works { WorksFor layer.now self.new }
         ensures bound { bound_of self.new ≡ bound_of self.old ++ r ∷ [] }
-        ensures steps { steps.new ≡ steps.old + 3 * 2 ^ (left_in_phase layer.now.k self.old.count - 1) + length layer.now.gates.now }
+        ensures steps { steps.new ≡ steps.old + 3 * 2
+            ^ (left_in_phase layer.now.k self.old.count - 1) + length layer.now.gates.now }
     {
         let base = self.is_base(layer);
         self.advance(layer.k, r, base, steps);
@@ -275,7 +282,8 @@ impl Working {
         requires left { self.old.count < layer.now.k + layer.now.k }
         ensures works { WorksFor layer.now self.new }
         ensures bound { bound_of self.new ≡ bound_of self.old ++ r ∷ [] }
-        ensures steps { steps.new ≡ steps.old + 3 * 2 ^ (left_in_phase layer.now.k self.old.count - 1) }
+        ensures steps { steps.new ≡ steps.old + 3 * 2
+            ^ (left_in_phase layer.now.k self.old.count - 1) }
     {
         let base = self.is_base(layer);
         self.advance(layer.k, r, base, steps);
@@ -288,7 +296,9 @@ impl Working {
         requires left { self.old.count < layer.now.k + layer.now.k }
         ensures works { WorksFor layer.now self.new }
         ensures bound { bound_of self.new ≡ bound_of self.old ++ r ∷ [] }
-        ensures steps { steps.new ≡ steps.old + (3 * 2 ^ (left_in_phase layer.now.k self.old.count - 1) + (if self.old.count + 1 == layer.now.k then length layer.now.gates.now else 0)) }
+        ensures steps { steps.new
+            ≡ steps.old + (3 * 2 ^ (left_in_phase layer.now.k self.old.count - 1)
+            + (if self.old.count + 1 == layer.now.k then length layer.now.gates.now else 0)) }
     {
         if self.count + 1 < layer.k {
             self.bind_left(layer, r, steps);
@@ -314,7 +324,8 @@ impl Working {
         requires few { to ≤ from + 1024 }
         requires within { to ≤ 2 ^ (left_in_phase layer.now.k self.now.count - 1) }
         ensures part { (result.constant ∷ result.linear ∷ result.square ∷ []) ≡
-            coefficients k_ops 3 (part_of_round k_ops layer.now.k layer.now.gates.now layer.now.values.now.items (place_of layer.now) (bound_of self.now) from to) }
+            coefficients k_ops 3 (part_of_round k_ops layer.now.k layer.now.gates.now
+            layer.now.values.now.items (place_of layer.now) (bound_of self.now) from to) }
         ensures steps { steps.new ≡ steps.old + (to - from) }
     {
         let base = self.is_base(layer);

@@ -11,4 +11,5 @@ message_of s piece = coefficients k_ops 3 (piece_poly s piece)
 
 -- nothing is summed ahead, or each piece is, in order
 abbrev pub AreAhead : LayerSum → Option (Vec (List K)) → Type 0
-AreAhead s ahead = MatchOption ahead ⊤ (λ sums. sums.items ≡ map (message_of s) (range_with_len 0 (pieces_of s)))
+AreAhead s ahead = MatchOption ahead ⊤
+    (λ sums. sums.items ≡ map (message_of s) (range_with_len 0 (pieces_of s)))

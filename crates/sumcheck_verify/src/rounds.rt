@@ -35,7 +35,12 @@ impl Model for Rounds {
 
     ghost Value = { Sumcheck };
 
-    ghost view = { λ r. record { claim = r.claim; message = r.message; waiting = r.waiting; taken = r.taken } };
+    ghost view = { λ r. record {
+      claim = r.claim;
+      message = r.message;
+      waiting = r.waiting;
+      taken = r.taken;
+    } };
 }
 
 impl Rounds {
@@ -57,14 +62,20 @@ impl Rounds {
     /// value at 1 is not the claim, and then nothing changes.
     pub fn take(&mut self, message: [Ext; 3]) -> Result<(), SumFault>
         requires { self.old.waiting ≡ false }
-        ensures holds { IfOk result (λ _. same_k (add_k (value_at k_ops message zero_k) (value_at k_ops message one_k)) self.old.claim ≡ true) }
+        ensures holds { IfOk result
+            (λ _. same_k (add_k (value_at k_ops message zero_k) (value_at k_ops message one_k))
+            self.old.claim ≡ true) }
         ensures message { IfOk result (λ _. self.new.message ≡ message) }
         ensures kept { IfOk result (λ _. self.new.claim ≡ self.old.claim) }
         ensures waiting { IfOk result (λ _. self.new.waiting ≡ true) }
         ensures taken { IfOk result (λ _. self.new.taken ≡ counted self.old.taken) }
-        ensures fails { IfErr result (λ fault. same_k (add_k (value_at k_ops message zero_k) (value_at k_ops message one_k)) self.old.claim ≡ false) }
+        ensures fails { IfErr result
+            (λ fault. same_k (add_k (value_at k_ops message zero_k) (value_at k_ops message one_k))
+            self.old.claim ≡ false) }
         ensures round { IfErr result (λ fault. fault.round ≡ counted self.old.taken) }
-        ensures had { IfErr result (λ fault. fault.had ≡ add_k (value_at k_ops message zero_k) (value_at k_ops message one_k)) }
+        ensures had { IfErr result
+            (λ fault. fault.had ≡ add_k (value_at k_ops message zero_k)
+            (value_at k_ops message one_k)) }
         ensures claim { IfErr result (λ fault. fault.claim ≡ self.old.claim) }
         ensures unchanged { IfErr result (λ fault. self.new ≡ self.old) }
     {

@@ -11,7 +11,8 @@ pub record Source : Type 0 where
   pub has : List ℕ → ℕ → Bool
   pub has_fewer : (s : List ℕ) (n : ℕ) → IsTrue (has s (suc n)) → IsTrue (has s n)
   pub has_after : (s : List ℕ) (n : ℕ) → IsTrue (has s (suc n)) → IsTrue (has (after s) n)
-  pub has_absorbed : (s : List ℕ) (message : List K) (n : ℕ) → IsTrue (has s n) → IsTrue (has (absorb s message) n)
+  pub has_absorbed : (s : List ℕ) (message : List K) (n : ℕ) → IsTrue (has s n)
+      → IsTrue (has (absorb s message) n)
 
 -- so many challenges with no message between them
 abbrev pub coordinates : Source → List ℕ → ℕ → List K
@@ -26,7 +27,8 @@ state_after_coordinates source s (suc n) = state_after_coordinates source (sourc
 -- the challenges that follow the messages, one each
 abbrev pub draws : Source → List ℕ → List (List K) → List K
 draws source s [] = []
-draws source s (q ∷ qs) = source.draw (source.absorb s q) ∷ draws source (source.after (source.absorb s q)) qs
+draws source s (q ∷ qs) =
+    source.draw (source.absorb s q) ∷ draws source (source.after (source.absorb s q)) qs
 
 -- the state after them
 abbrev pub state_after : Source → List ℕ → List (List K) → List ℕ
@@ -36,4 +38,6 @@ state_after source s (q ∷ qs) = state_after source (source.after (source.absor
 -- Every challenge of a run in order: the coordinates of the output point, and one behind each message, where the messages
 -- of a layer are those of its rounds and then its line.
 abbrev pub all_draws : Source → List ℕ → ℕ → List (List K) → List K
-all_draws source s coordinate_count messages = coordinates source s coordinate_count ++ draws source (state_after_coordinates source s coordinate_count) messages
+all_draws source s coordinate_count messages =
+    coordinates source s coordinate_count ++ draws source
+    (state_after_coordinates source s coordinate_count) messages

@@ -32,7 +32,9 @@ statement_bytes text inputs outputs = concat
 
 -- the state before the first message: the hash of the transcript's name, a line feed and the statement
 abbrev pub start_state : List ℕ → List F → List F → List ℕ
-start_state text inputs outputs = sha256 (concat (codes "gkr-transcript-1" ∷ (10 ∷ []) ∷ statement_bytes text inputs outputs ∷ []))
+start_state text inputs outputs =
+    sha256 (concat (codes "gkr-transcript-1" ∷ (10 ∷ []) ∷ statement_bytes text inputs outputs
+    ∷ []))
 
 -- the state after a message: the hash of the state, the byte 1 and the elements
 abbrev pub absorbed_state : List ℕ → List K → List ℕ
@@ -44,7 +46,10 @@ drawn_state state = sha256 (concat (state ∷ (2 ∷ []) ∷ []))
 
 -- the element of the numbers that are read from the first 8 bytes and from the next 8, each modulo p
 abbrev pub element_in : List ℕ → K
-element_in state = record { re = of (from_le_bytes w64 state); im = of (from_le_bytes w64 (drop 8 state)) }
+element_in state = record {
+  re = of (from_le_bytes w64 state);
+  im = of (from_le_bytes w64 (drop 8 state));
+}
 
 -- the transcript as a source: a challenge comes from the state that drawing it leaves, and there is always one more
 abbrev pub transcript : Source

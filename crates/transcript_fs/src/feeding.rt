@@ -12,7 +12,8 @@ use sha2::{Digest, Sha256};
 
 /// Adds elements to a hasher's message.
 pub fn feed_elements(hasher: &mut Sha256, elements: &[Ext])
-    ensures { (m : List ℕ) → Holds256 hasher.old m → Holds256 hasher.new (m ++ flat_map bytes_of elements.now) }
+    ensures { (m : List ℕ) → Holds256 hasher.old m
+        → Holds256 hasher.new (m ++ flat_map bytes_of elements.now) }
 {
     for element in elements {
         hasher.update(element.to_bytes().as_slice());
@@ -21,7 +22,8 @@ pub fn feed_elements(hasher: &mut Sha256, elements: &[Ext])
 
 /// Adds a number's four bytes to a hasher's message, the lowest first.
 fn feed_number(hasher: &mut Sha256, number: u32)
-    ensures { (m : List ℕ) → Holds256 hasher.old m → Holds256 hasher.new (m ++ to_le_bytes w32 number) }
+    ensures { (m : List ℕ) → Holds256 hasher.old m
+        → Holds256 hasher.new (m ++ to_le_bytes w32 number) }
 {
     let mut bytes = [0u8; 4];
     LittleEndian::write_u32(&mut bytes, number);
@@ -31,7 +33,9 @@ fn feed_number(hasher: &mut Sha256, number: u32)
 /// Adds a count of numbers and the numbers to a hasher's message.
 pub fn feed_numbers(hasher: &mut Sha256, numbers: &[Fp])
     requires { length numbers.now < 2 ^ 32 }
-    ensures { (m : List ℕ) → Holds256 hasher.old m → Holds256 hasher.new (m ++ counted_bytes (length numbers.now) (flat_map number_bytes numbers.now)) }
+    ensures { (m : List ℕ) → Holds256 hasher.old m
+        → Holds256 hasher.new (m ++ counted_bytes (length numbers.now)
+        (flat_map number_bytes numbers.now)) }
 {
     feed_number(hasher, numbers.len() as u32);
     for number in numbers {
@@ -41,7 +45,9 @@ pub fn feed_numbers(hasher: &mut Sha256, numbers: &[Fp])
 
 /// Adds a statement's bytes to a hasher's message.
 pub fn feed_statement(hasher: &mut Sha256, statement: &Statement)
-    ensures { (m : List ℕ) → Holds256 hasher.old m → Holds256 hasher.new (m ++ statement_bytes statement.now.text statement.now.inputs statement.now.outputs) }
+    ensures { (m : List ℕ) → Holds256 hasher.old m
+        → Holds256 hasher.new (m ++ statement_bytes statement.now.text statement.now.inputs
+        statement.now.outputs) }
 {
     let text = statement.text();
     feed_number(hasher, text.len() as u32);

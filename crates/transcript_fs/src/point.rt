@@ -10,7 +10,8 @@ use field_ext::Ext;
 pub fn draw_point<C: Challenges>(point: &mut [Ext], challenges: &mut C)
     requires { IsTrue (C.source.has (C.state challenges.old) (length point.old)) }
     ensures point { point.new ≡ coordinates C.source (C.state challenges.old) (length point.old) }
-    ensures state { C.state challenges.new ≡ state_after_coordinates C.source (C.state challenges.old) (length point.old) }
+    ensures state { C.state challenges.new ≡ state_after_coordinates C.source
+        (C.state challenges.old) (length point.old) }
 {
     for coordinate in point.iter_mut() {
         *coordinate = challenges.challenge();

@@ -17,9 +17,14 @@ impl<'a> Model for Statement<'a> {
 
     ghost Value = { Stated };
 
-    ghost view = { λ s. record { text = s.text.now; inputs = s.inputs.now; outputs = s.outputs.now } };
+    ghost view = { λ s. record {
+      text = s.text.now;
+      inputs = s.inputs.now;
+      outputs = s.outputs.now;
+    } };
 
-    ghost invariant = { λ s. (length s.text.now < 2 ^ 32) × (length s.inputs.now < 2 ^ 32) × (length s.outputs.now < 2 ^ 32) };
+    ghost invariant = { λ s. (length s.text.now < 2 ^ 32) × (length s.inputs.now < 2 ^ 32)
+        × (length s.outputs.now < 2 ^ 32) };
 }
 
 impl<'a> Statement<'a> {
