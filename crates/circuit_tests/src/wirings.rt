@@ -6,7 +6,7 @@ use field_ext::{Ext, Fp};
 use std::alloc::Global;
 use std::process::Abort;
 use std::test::Fail;
-use wiring_poly::{coordinates, wiring_at};
+use wiring_poly::wiring_at;
 
 fn number(n: u64) -> Ext {
     Ext::embed(Fp::reduce(n))
