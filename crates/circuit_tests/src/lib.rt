@@ -6,8 +6,6 @@
 #[cfg(test)]
 mod circuits;
 #[cfg(test)]
-mod counts;
-#[cfg(test)]
 mod evaluation;
 #[cfg(test)]
 mod gates;
@@ -16,9 +14,9 @@ mod grammar;
 #[cfg(test)]
 mod layouts;
 #[cfg(test)]
-mod lowering;
-#[cfg(test)]
 mod nodes;
+#[cfg(test)]
+mod programs;
 #[cfg(test)]
 mod wirings;
 #[cfg(test)]
