@@ -1,4 +1,3 @@
-pub mod NamesAlone
 pub mod Goes
 pub mod InPlace
 pub mod Kept

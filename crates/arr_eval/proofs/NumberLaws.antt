@@ -1,15 +1,15 @@
 -- Laws of sums, products of matrices and transposes.
-use Rattle.std.proofs.Common.{◌≡◌, ℕ, zero, suc, ◌+◌, ◌*◌, ◌/◌, ◌%◌, ◌<◌, List, [], ◌∷◌, ◌++◌, map, length, fold, refl, ap, sym, ◌∙◌, arith}
+use Rattle.std.proofs.Common.{◌≡◌, ℕ, ◌+◌, ◌*◌, ◌/◌, ◌%◌, ◌<◌, List, [], ◌∷◌, ◌++◌, map, length, fold, refl, ap, sym, ◌∙◌, arith}
 use Rattle.std.specs.List.{zip, range_with_len}
-use Rattle.std.proofs.Math.Nat.{mul_comm, mul-zero, div-lt_iff_lt-mul, div-add-mod}
+use Rattle.std.proofs.Math.Nat.{mul_comm}
 use Rattle.std.proofs.lemmas.Nat.{mul-add-lt, div-mul-add, mod-mul-add}
-use Rattle.std.proofs.lemmas.List.{ext_get_or}
-use Rattle.std.proofs.lemmas.List.FromFn.{length-map-range_with_len, get_or-map-range_with_len}
+use Rattle.std.proofs.lemmas.List.FromFn.{get_or-map-range_with_len}
 use Rattle.std.proofs.lemmas.List.Sums.{fold-append}
 use Rattle.std.proofs.lemmas.List.Folds.{fold-map}
 use Rattle.field_ext.specs.Field.{F, of, add_f, mul_f}
 use Rattle.arr_eval.specs.Numbers.{element, element_wise, sum_of, dot_of, transpose_of, product_at, matmul_of, row, column}
 use Rattle.field_ext.proofs.Elements.{of-value, of_same, of_self}
+use Rattle.shared_list.proofs.Transposes.{turned-item, turned_twice}
 
 -- zero changes nothing
 pub zero-add_f : (x : F) → add_f (of 0) x ≡ x
@@ -58,28 +58,10 @@ matmul_element n m q left right i j row_in column_in =
 
 -- the element at a place of a transpose
 pub transpose_at : (n m : ℕ) (numbers : List F) (i j : ℕ) → i < n → j < m → element (transpose_of n m numbers) (j * n + i) ≡ element numbers (i * m + j)
-transpose_at n m numbers i j row_in column_in =
-    let inside : j * n + i < m * n = omega (arith, mul-add-lt j n i m column_in row_in, mul_comm m n) in
-    get_or-map-range_with_len (λ k. element numbers (k % n * m + k / n)) 0 (m * n) (j * n + i) (j * n + i) (of 0) inside (omega arith)
-    ∙ ap (λ a. element numbers (a * m + (j * n + i) / n)) (mod-mul-add j n i row_in)
-    ∙ ap (λ a. element numbers (i * m + a)) (div-mul-add j n i row_in)
-
-twice_at : (n m : ℕ) (numbers : List F) (k : ℕ) → k < n * m → element (transpose_of m n (transpose_of n m numbers)) k ≡ element numbers k
-twice_at n zero numbers k inside = absurd (omega (arith, mul-zero n))
-twice_at n (suc m) numbers k inside =
-    let column_in : k % suc m < suc m = omega arith in
-    let row_in : k / suc m < n = (div-lt_iff_lt-mul {k = suc m} {x = k} {y = n} (omega arith)).1 inside in
-    let whole : k / suc m * suc m + k % suc m ≡ k = omega (arith, div-add-mod k (suc m), mul_comm (suc m) (k / suc m)) in
-    ap (element (transpose_of (suc m) n (transpose_of n (suc m) numbers))) (sym whole)
-    ∙ transpose_at (suc m) n (transpose_of n (suc m) numbers) (k % suc m) (k / suc m) column_in row_in
-    ∙ transpose_at n (suc m) numbers (k / suc m) (k % suc m) row_in column_in
-    ∙ ap (element numbers) whole
+transpose_at n m numbers i j row_in column_in = turned-item (of 0) (of 0) n m numbers i j row_in column_in
 
 pub transposed_twice : (n m : ℕ) (numbers : List F) → length numbers ≡ n * m → transpose_of m n (transpose_of n m numbers) ≡ numbers
-transposed_twice n m numbers size =
-    let long : length (transpose_of m n (transpose_of n m numbers)) ≡ n * m = length-map-range_with_len _ 0 (n * m) in
-    ext_get_or (of 0) (transpose_of m n (transpose_of n m numbers)) numbers (long ∙ sym size)
-    (λ k inside. twice_at n m numbers k (omega (arith, long, inside)))
+transposed_twice n m numbers size = turned_twice (of 0) (of 0) n m numbers size
 
 pub dot_of-fold : (left right : List F) → dot_of left right ≡ fold (λ total pair. add_f total (mul_f pair.0 pair.1)) (of 0) (zip left right)
 dot_of-fold left right = fold-map add_f (λ (pair : F × F). mul_f pair.0 pair.1) (of 0) (zip left right)

@@ -1,10 +1,10 @@
 -- Lists made place by place.
-use Rattle.std.proofs.Common.{◌≡◌, ℕ, ◌+◌, ◌*◌, ◌/◌, ◌%◌, ◌<◌, List, [], ◌∷◌, ◌++◌, ap, sym, ◌∙◌, arith}
+use Rattle.std.proofs.Common.{◌≡◌, ℕ, ◌+◌, ◌*◌, ◌%◌, ◌<◌, List, [], ◌∷◌, ◌++◌, ap, sym, ◌∙◌, arith}
 use Rattle.std.proofs.lemmas.Nat.{div-mul-add, mod-mul-add}
 use Rattle.std.proofs.lemmas.List.FromFn.{map-range_with_len_more}
 use Rattle.std.proofs.lemmas.List.Sums.{fold_push}
 use Rattle.field_ext.specs.Field.{F, of, add_f}
-use Rattle.arr_eval.specs.Numbers.{element, sum_of, at_places, transposed_at, product_at, product_place}
+use Rattle.arr_eval.specs.Numbers.{sum_of, at_places, product_at, product_place}
 use Rattle.arr_eval.proofs.NumberLaws.{add-of}
 
 pub at_places-more : (f : ℕ → F) (count : ℕ) (x : F) (found more : List F) → found ≡ at_places count f → more ≡ found ++ (x ∷ []) → x ≡ f count → more ≡ at_places (count + 1) f
@@ -18,14 +18,6 @@ sum_of-more f count total part value so_far stands is_next =
     sym (add-of total part)
     ∙ (λ i. add_f (so_far i) ((stands ∙ is_next) i))
     ∙ sym (ap sum_of (map-range_with_len_more f 0 count count (omega arith)) ∙ fold_push add_f (of 0) (at_places count f) (f count))
-
--- the next element of row j of a transpose
-pub transposed-more : (n m : ℕ) (items : List F) (j i : ℕ) (x : F) (found more : List F) → i < n → found ≡ at_places (j * n + i) (transposed_at n m items) → more ≡ found ++ (x ∷ []) →
-    x ≡ element items (i * m + j) → more ≡ at_places (j * n + (i + 1)) (transposed_at n m items)
-transposed-more n m items j i x found more inside so_far pushed value =
-    at_places-more (transposed_at n m items) (j * n + i) x found more so_far pushed
-    (value ∙ sym (ap (λ a. element items (a * m + (j * n + i) / n)) (mod-mul-add j n i inside) ∙ ap (λ a. element items (i * m + a)) (div-mul-add j n i inside)))
-    ∙ ap (λ count. at_places count (transposed_at n m items)) (omega arith)
 
 -- the next element of row i of a product
 pub product-more : (m q : ℕ) (left right : List F) (i j : ℕ) (x : F) (found more : List F) → j < q → found ≡ at_places (i * q + j) (product_place m q left right) → more ≡ found ++ (x ∷ []) →

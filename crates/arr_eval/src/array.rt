@@ -2,13 +2,14 @@
 
 use arr_ast::ShapeOf;
 use field_ext::Fp;
+use shared_list::SharedList;
 use std::marker::Model;
 
-/// A shape and the elements of a value, row by row.
+/// A shape and the elements of a value, row by row, in a list that others may hold too.
 #[derive(Drop)]
 pub struct Array {
     pub shape: ShapeOf,
-    pub items: Vec<Fp>,
+    pub items: SharedList<Fp>,
 }
 
 impl Model for Array {
@@ -16,5 +17,5 @@ impl Model for Array {
 
     ghost Value = { Array };
 
-    ghost view = { λ a. record { shape = a.shape; items = a.items.items } };
+    ghost view = { λ a. record { shape = a.shape; items = a.items } };
 }

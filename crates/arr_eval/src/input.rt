@@ -12,6 +12,7 @@ use crate::store::Store;
 use arr_ast::{Dimensions, Input, ShapeOf};
 use arr_check::Binding;
 use field_ext::Fp;
+use shared_list::SharedList;
 use std::alloc::Global;
 
 /// Declares the inputs, which take the numbers in order.
@@ -42,7 +43,7 @@ fn store_input(
     ensures { Follows (λ _. store.new) result (Some (with_input (input_tree input.now) numbers.now store.old)) }
 {
     let shape = declared_shape(input.dimensions);
-    let numbers = Vec::from_slice(alloc, numbers)?;
+    let numbers = SharedList::new(alloc, Vec::from_slice(alloc, numbers)?)?;
     store.declare(
         alloc,
         input.name.text.as_slice(),

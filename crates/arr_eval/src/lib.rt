@@ -1,6 +1,7 @@
 //! The values that programs of the array language put out, over the field of 2^31 - 1 elements.
 //!
-//! An array is a shape and its elements, row by row. Addition, subtraction, multiplication and
+//! An array is a shape and its elements, row by row; names that stand for one array share its
+//! elements, and so does its transpose. Addition, subtraction, multiplication and
 //! negation work element by element, modulo p; `sum`, `dot`, `matmul` and `transpose` are those of
 //! linear algebra (Strang, "Introduction to Linear Algebra", ch. 1 and 2). A loop runs its body
 //! once for each number of its range. The definition is `meaning`, in `specs/Meaning.antt`, and
@@ -10,8 +11,8 @@
 //! gives `Ok` of a vector with that one element, for the `checked` that `arr_check::check` made.
 #![tactic(auto)]
 
-mod alone;
 mod array;
+mod combined;
 mod element;
 mod evaluation;
 mod expression;

@@ -2,46 +2,13 @@
 
 ghost use Rattle.std.specs.Prelude.{◌≡◌, ◌<◌, ◌^◌, ◌*◌, ◌+◌, IfOk, OnOk};
 ghost use Rattle.field_ext.specs.Field.{of, mul_f};
-ghost use Rattle.arr_eval.specs.Numbers.{at_places, transposed_at, transpose_of, product_at, product_place, matmul_of};
+ghost use Rattle.arr_eval.specs.Numbers.{at_places, product_at, product_place, matmul_of};
 
 use crate::numbers::element_at;
 use field_ext::Fp;
 use std::alloc::{AllocError, Global};
 
 const MASK: u64 = 2_147_483_647;
-
-/// n rows of m elements, as m rows of n.
-pub fn transposed(alloc: Global, n: usize, m: usize, items: &[Fp]) -> Result<Vec<Fp>, AllocError>
-    requires n { n < 2 ^ 32 }
-    requires m { m < 2 ^ 32 }
-    ensures { IfOk result (λ found. found.items ≡ transpose_of n m items.now) }
-{
-    let mut found = Vec::new(alloc);
-    'each: for j in 0..m {
-        add_column(&mut found, n, m, items, j)?;
-    }
-    Ok(found)
-}
-
-// Column j of n rows of m, behind the columns before it.
-fn add_column(
-    found: &mut Vec<Fp>,
-    n: usize,
-    m: usize,
-    items: &[Fp],
-    j: usize,
-) -> Result<(), AllocError>
-    requires n { n < 2 ^ 32 }
-    requires m { m < 2 ^ 32 }
-    requires j { j < 2 ^ 32 }
-    requires so_far { found.old.items ≡ at_places (j * n) (transposed_at n m items.now) }
-    ensures { OnOk result (found.new.items ≡ at_places ((j + 1) * n) (transposed_at n m items.now)) }
-{
-    'each: for i in 0..n {
-        found.push(element_at(items, i * m + j))?;
-    }
-    Ok(())
-}
 
 /// n rows of m elements times m rows of q.
 pub fn matrix_product(

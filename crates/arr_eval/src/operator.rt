@@ -1,69 +1,75 @@
 //! The values of operators and functions.
 
-ghost use Rattle.std.specs.Prelude.{◌≡◌, [], ◌∷◌, Some, IfOk};
+ghost use Rattle.std.specs.Prelude.{◌≡◌, [], ◌∷◌, IfOk};
 ghost use Rattle.arr_ast.specs.declared.shape.ShapeOf.TheVariants.{Scalar};
 ghost use Rattle.arr_eval.specs.Follows.{Follows};
 ghost use Rattle.field_ext.specs.Field.{mul_f};
 ghost use Rattle.arr_eval.specs.Meaning.{alike, signed as signed_of, opposite_of, single_value as value_of_single, pair_value as value_of_pair};
 
 use crate::array::Array;
-use crate::matrix::{matrix_product, transposed};
-use crate::numbers::{differences, dot, element_at, opposites, products, scaled, sum, sums};
+use crate::combined::{added, multiplied, negated_list, subtracted};
+use crate::matrix::matrix_product;
+use crate::numbers::{dot, scaled, sum};
 use crate::stopped::Stopped;
 use arr_ast::{PairFunction, ShapeOf, Sign, SingleFunction};
 use arr_check::is_alike;
 use field_ext::Fp;
+use shared_list::SharedList;
 use std::alloc::{AllocError, Global};
 
-/// A sum or a difference, in the room of the left side.
-pub fn signed(sign: Sign, left: Array, right: &[Fp], other: ShapeOf) -> Result<Array, Stopped>
-    ensures { Follows (λ array. array) result (signed_of sign left (record { shape = other; items = right.now })) }
+/// A sum or a difference.
+pub fn signed(alloc: Global, sign: Sign, left: Array, right: &Array) -> Result<Array, Stopped>
+    ensures { Follows (λ array. array) result (signed_of sign left right.now) }
 {
     let shape = left.shape;
-    if !is_alike(shape, other) {
+    if !is_alike(shape, right.shape) {
         return Err(Stopped::Stuck);
     }
     let items = match sign {
-        Sign::Plus => sums(left.items, right),
-        Sign::Minus => differences(left.items, right),
+        Sign::Plus => added(alloc, left.items, &right.items)?,
+        Sign::Minus => subtracted(alloc, left.items, &right.items)?,
     };
     Ok(Array { shape, items })
 }
 
-/// A product, element by element, in the room of the left side.
-pub fn times(left: Array, right: &[Fp], other: ShapeOf) -> Result<Array, Stopped>
-    ensures { Follows (λ array. array) result (alike mul_f left (record { shape = other; items = right.now })) }
+/// A product, element by element.
+pub fn times(alloc: Global, left: Array, right: &Array) -> Result<Array, Stopped>
+    ensures { Follows (λ array. array) result (alike mul_f left right.now) }
 {
     let shape = left.shape;
-    if !is_alike(shape, other) {
+    if !is_alike(shape, right.shape) {
         return Err(Stopped::Stuck);
     }
-    let items = products(left.items, right);
+    let items = multiplied(alloc, left.items, &right.items)?;
     Ok(Array { shape, items })
 }
 
-/// A negation, in the room of the operand.
-pub fn negated(array: Array) -> Array
-    ensures { result ≡ opposite_of array }
+/// A negation.
+pub fn negated(alloc: Global, array: Array) -> Result<Array, AllocError>
+    ensures { IfOk result (λ found. found ≡ opposite_of array) }
 {
     let shape = array.shape;
-    let items = opposites(array.items);
-    Array { shape, items }
+    let items = negated_list(alloc, array.items)?;
+    Ok(Array { shape, items })
 }
 
 /// The value of a function of one argument.
 pub fn single_value(
     alloc: Global,
     function: SingleFunction,
-    items: &[Fp],
-    shape: ShapeOf,
+    array: &Array,
 ) -> Result<Array, Stopped>
-    ensures { Follows (λ array. array) result (value_of_single function items.now shape) }
+    ensures { Follows (λ array. array) result (value_of_single function array.now.items array.now.shape) }
 {
-    match (function, shape) {
-        (SingleFunction::Sum, _) => Ok(one_number(alloc, sum(items))?),
+    match (function, array.shape) {
+        (SingleFunction::Sum, _) => {
+            let items = array.items.in_order(alloc)?;
+            Ok(one_number(sum(&items)))
+        }
         (SingleFunction::Transpose, ShapeOf::Matrix(n, m)) => {
-            let items = transposed(alloc, n as usize, m as usize, items)?;
+            let items = array
+                .items
+                .transposed(alloc, n as usize, m as usize, Fp::zero())?;
             let shape = ShapeOf::Matrix(m, n);
             Ok(Array { shape, items })
         }
@@ -75,23 +81,44 @@ pub fn single_value(
 pub fn pair_value(
     alloc: Global,
     function: PairFunction,
-    left: &[Fp],
-    right: &[Fp],
+    left: &Array,
+    right: Array,
+) -> Result<Array, Stopped>
+    ensures { Follows (λ array. array) result (value_of_pair function left.now.items right.items left.now.shape right.shape) }
+{
+    let shape = left.shape;
+    let other = right.shape;
+    pair_of(alloc, function, &left.items, right.items, shape, other)
+}
+
+// The value of a function of two lists of these shapes.
+fn pair_of(
+    alloc: Global,
+    function: PairFunction,
+    left: &SharedList<Fp>,
+    right: SharedList<Fp>,
     shape: ShapeOf,
     other: ShapeOf,
 ) -> Result<Array, Stopped>
-    ensures { Follows (λ array. array) result (value_of_pair function left.now right.now shape other) }
+    ensures { Follows (λ array. array) result (value_of_pair function left.now right shape other) }
 {
     match (function, shape, other) {
         (PairFunction::Scale, ShapeOf::Scalar, shape) => {
-            let items = scaled(element_at(left, 0), Vec::from_slice(alloc, right)?);
+            let factor = left.item_or(0, Fp::zero());
+            let items = scaled(factor, right.into_vec(alloc)?);
+            let items = SharedList::new(alloc, items)?;
             Ok(Array { shape, items })
         }
         (PairFunction::Dot, ShapeOf::Vector(n), ShapeOf::Vector(m)) if n == m => {
-            Ok(one_number(alloc, dot(left, right))?)
+            let left = left.in_order(alloc)?;
+            let right = right.in_order(alloc)?;
+            Ok(one_number(dot(&left, &right)))
         }
         (PairFunction::MatMul, ShapeOf::Matrix(n, m), ShapeOf::Matrix(k, q)) if m == k => {
-            let items = matrix_product(alloc, n as usize, m as usize, q as usize, left, right)?;
+            let left = left.in_order(alloc)?;
+            let right = right.in_order(alloc)?;
+            let items = matrix_product(alloc, n as usize, m as usize, q as usize, &left, &right)?;
+            let items = SharedList::new(alloc, items)?;
             let shape = ShapeOf::Matrix(n, q);
             Ok(Array { shape, items })
         }
@@ -100,10 +127,11 @@ pub fn pair_value(
 }
 
 /// A scalar.
-pub fn one_number(alloc: Global, number: Fp) -> Result<Array, AllocError>
-    ensures { IfOk result (λ array. array ≡ record { shape = Scalar; items = number ∷ [] }) }
+pub fn one_number(number: Fp) -> Array
+    ensures { result ≡ record { shape = Scalar; items = number ∷ [] } }
 {
-    let items = Vec::from_slice(alloc, &[number])?;
-    let shape = ShapeOf::Scalar;
-    Ok(Array { shape, items })
+    Array {
+        shape: ShapeOf::Scalar,
+        items: SharedList::one(number),
+    }
 }

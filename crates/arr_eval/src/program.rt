@@ -1,19 +1,17 @@
 //! The run of programs over values.
 
-ghost use Rattle.std.specs.Prelude.{◌≡◌, ◌++◌, Some, map, vec_items};
+ghost use Rattle.std.specs.Prelude.{◌≡◌, Some, map, vec_items};
 ghost use Rattle.arr_ast.specs.ProgramTree.{input_tree, top_tree, program_tree};
-ghost use Rattle.arr_eval.specs.Follows.{Follows, and_then, each};
+ghost use Rattle.arr_eval.specs.Follows.{Follows, each};
 ghost use Rattle.arr_eval.specs.Meaning.{begun as begun_with, after_top, meaning};
-ghost use Rattle.arr_eval.specs.Store.{array_of};
 
-use crate::alone::name_alone;
 use crate::expression::value;
 use crate::input::store_inputs;
 use crate::progress::Progress;
 use crate::statement::run_statement;
 use crate::stopped::Stopped;
 use crate::store::Store;
-use arr_ast::{Input, Name, Program, TopStatement};
+use arr_ast::{Input, Program, TopStatement};
 use field_ext::Fp;
 use std::alloc::Global;
 
@@ -61,27 +59,11 @@ fn run_top_statement(
             value: expression,
             ..
         } => {
-            if let Some(name) = name_alone(expression) {
-                return put_name(progress, name);
-            }
             let array = value(&progress.store, alloc, expression)?;
-            progress.outputs.extend_from_slice(array.items.as_slice())?;
+            let items = array.items.in_order(alloc)?;
+            progress.outputs.extend_from_slice(&items)?;
             Ok(())
         }
         TopStatement::Inner(statement) => run_statement(&mut progress.store, alloc, statement),
-    }
-}
-
-// Puts out the elements of a name.
-fn put_name(progress: &mut Progress, name: &Name) -> Result<(), Stopped>
-    ensures { Follows (λ _. progress.new) result (and_then (array_of name.now.text.items progress.old.store) (λ array.
-        Some (record progress.old { outputs = progress.old.outputs ++ array.items }))) }
-{
-    match progress.store.array(name.text.as_slice()) {
-        Some((_, items)) => {
-            progress.outputs.extend_from_slice(items)?;
-            Ok(())
-        }
-        None => Err(Stopped::Stuck),
     }
 }

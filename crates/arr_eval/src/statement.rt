@@ -9,12 +9,12 @@ ghost use Rattle.arr_eval.specs.Meaning.{after_statement, counted_loop as after_
 
 use crate::element::element_offset;
 use crate::expression::value;
-use crate::numbers::element_at;
 use crate::stopped::Stopped;
 use crate::store::Store;
 use arr_ast::{Expression, IndexExpression, Indices, Name, Statement};
 use arr_check::{Binding, bounds};
 use field_ext::Fp;
+use shared_list::SharedList;
 use std::alloc::Global;
 
 /// The run of one statement.
@@ -101,7 +101,7 @@ fn one_turn(
         (after_turn (name_tree name.now) (each after_statement (map statement_tree body.now)) turn store.old) }
 {
     let kept = store.len();
-    let numbers = Vec::from_slice(alloc, &[Fp::reduce(u64::from(turn))])?;
+    let numbers = SharedList::one(Fp::reduce(u64::from(turn)));
     store.declare(alloc, name.text.as_slice(), Binding::Turn(turn), numbers)?;
     run_all(store, alloc, body)?;
     store.forget(kept);
@@ -166,10 +166,7 @@ fn assign_element(
 {
     let place = element_offset(store, name, indices)?;
     let array = value(store, alloc, expression)?;
-    store.set_number(
-        name.text.as_slice(),
-        place,
-        element_at(array.items.as_slice(), 0),
-    );
+    let number = array.items.item_or(0, Fp::zero());
+    store.set_number(alloc, name.text.as_slice(), place, number)?;
     Ok(())
 }

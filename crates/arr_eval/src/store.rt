@@ -1,12 +1,15 @@
 //! The names in scope and their numbers.
 
-ghost use Rattle.std.specs.Prelude.{◌≡◌, [], length, option_map, OnOk, map, vec_items, get_or, set};
+ghost use Rattle.std.specs.Prelude.{◌≡◌, [], length, option_map, IfOk, OnOk, get_or, set};
 ghost use Rattle.arr_check.specs.Scope.{binding_of};
+ghost use Rattle.arr_eval.specs.Numbers.{element};
 ghost use Rattle.arr_eval.specs.Store.{array_of, numbers_of, shape_of, with_numbers, with_name, without_block};
 
+use crate::array::Array;
 use arr_ast::ShapeOf;
 use arr_check::{Binding, Scope};
 use field_ext::Fp;
+use shared_list::SharedList;
 use std::alloc::{AllocError, Global};
 use std::marker::Model;
 
@@ -14,16 +17,15 @@ use std::marker::Model;
 #[derive(Drop)]
 pub struct Store {
     names: Scope,
-    numbers: Vec<Vec<Fp>>,
+    numbers: Vec<SharedList<Fp>>,
 }
 
 impl Model for Store {
-    ghost use Rattle.std.specs.Prelude.{map, vec_items};
     ghost use Rattle.arr_eval.specs.Store.{Store};
 
     ghost Value = { Store };
 
-    ghost view = { λ s. record { names = s.names; numbers = map vec_items s.numbers.items } };
+    ghost view = { λ s. record { names = s.names; numbers = s.numbers.items } };
 }
 
 impl Store {
@@ -52,13 +54,16 @@ impl Store {
         self.names.len()
     }
 
-    /// The shape and the elements of a name, if it is in scope.
-    pub fn array(&self, name: &[u8]) -> Option<(ShapeOf, &[Fp])>
-        ensures { option_map (λ found. record { shape = found.0; items = found.1.now }) result ≡ array_of name.now self.now }
+    /// The array of a name, if it is in scope. Its elements are shared.
+    pub fn array(&self, alloc: Global, name: &[u8]) -> Result<Option<Array>, AllocError>
+        ensures { IfOk result (λ found. found ≡ array_of name.now self.now) }
     {
         match self.shape(name) {
-            Some(shape) => Some((shape, self.numbers(name))),
-            None => None,
+            Some(shape) => {
+                let items = self.numbers(alloc, name)?;
+                Ok(Some(Array { shape, items }))
+            }
+            None => Ok(None),
         }
     }
 
@@ -73,13 +78,23 @@ impl Store {
         }
     }
 
-    /// The numbers of a name, of which there are none where it isn't in scope.
-    pub fn numbers(&self, name: &[u8]) -> &[Fp]
-        ensures { result.now ≡ numbers_of name.now self.now }
+    // The numbers of a name, of which there are none where it isn't in scope.
+    fn numbers(&self, alloc: Global, name: &[u8]) -> Result<SharedList<Fp>, AllocError>
+        ensures { IfOk result (λ numbers. numbers ≡ numbers_of name.now self.now) }
     {
         match self.names.place(name) {
-            Some(place) => numbers_at(&self.numbers, place),
-            None => &[],
+            Some(place) => numbers_at(alloc, &self.numbers, place),
+            None => SharedList::new(alloc, Vec::new(alloc)),
+        }
+    }
+
+    /// One number of a name, or zero where there is none.
+    pub fn number(&self, name: &[u8], place: usize) -> Fp
+        ensures { result ≡ element (numbers_of name.now self.now) place }
+    {
+        match self.names.place(name) {
+            Some(at) => number_at(&self.numbers, at, place),
+            None => Fp::zero(),
         }
     }
 
@@ -89,9 +104,9 @@ impl Store {
         alloc: Global,
         name: &[u8],
         binding: Binding,
-        numbers: Vec<Fp>,
+        numbers: SharedList<Fp>,
     ) -> Result<(), AllocError>
-        ensures { OnOk result (self.new ≡ with_name name.now binding numbers.items self.old) }
+        ensures { OnOk result (self.new ≡ with_name name.now binding numbers self.old) }
     {
         self.names.declare(alloc, name, binding)?;
         self.numbers.push(numbers)?;
@@ -99,20 +114,27 @@ impl Store {
     }
 
     /// Sets the numbers of a name.
-    pub fn set(&mut self, name: &[u8], numbers: Vec<Fp>)
-        ensures { self.new ≡ with_numbers name.now numbers.items self.old }
+    pub fn set(&mut self, name: &[u8], numbers: SharedList<Fp>)
+        ensures { self.new ≡ with_numbers name.now numbers self.old }
     {
         if let Some(place) = self.names.place(name) {
             set_numbers(&mut self.numbers, place, numbers);
         }
     }
 
-    /// Sets one number of a name.
-    pub fn set_number(&mut self, name: &[u8], place: usize, number: Fp)
-        ensures { self.new ≡ with_numbers name.now (set (numbers_of name.now self.old) place number) self.old }
+    /// Sets one number of a name. Its numbers are copied where others share them.
+    pub fn set_number(
+        &mut self,
+        alloc: Global,
+        name: &[u8],
+        place: usize,
+        number: Fp,
+    ) -> Result<(), AllocError>
+        ensures { OnOk result (self.new ≡ with_numbers name.now (set (numbers_of name.now self.old) place number) self.old) }
     {
-        if let Some(at) = self.names.place(name) {
-            set_number_at(&mut self.numbers, at, place, number);
+        match self.names.place(name) {
+            Some(at) => set_number_at(alloc, &mut self.numbers, at, place, number),
+            None => Ok(()),
         }
     }
 
@@ -126,19 +148,32 @@ impl Store {
 }
 
 // The list at a place, or an empty one.
-fn numbers_at(numbers: &[Vec<Fp>], place: usize) -> &[Fp]
-    ensures { result.now ≡ get_or (map vec_items numbers.now) place [] }
+fn numbers_at(
+    alloc: Global,
+    numbers: &[SharedList<Fp>],
+    place: usize,
+) -> Result<SharedList<Fp>, AllocError>
+    ensures { IfOk result (λ found. found ≡ get_or numbers.now place []) }
 {
     match numbers.get(place) {
-        Some(found) => found.as_slice(),
-        None => &[],
+        Some(found) => found.share(),
+        None => SharedList::new(alloc, Vec::new(alloc)),
+    }
+}
+
+// The number at a place of the list at a place, or zero.
+fn number_at(numbers: &[SharedList<Fp>], at: usize, place: usize) -> Fp
+    ensures { result ≡ element (get_or numbers.now at []) place }
+{
+    match numbers.get(at) {
+        Some(found) => found.item_or(place, Fp::zero()),
+        None => Fp::zero(),
     }
 }
 
 // Puts a list at a place, where there is one.
-#[tactic(auto, using(crate::proofs::Lists::of_lists))]
-fn set_numbers(numbers: &mut [Vec<Fp>], place: usize, new: Vec<Fp>)
-    ensures { map vec_items numbers.new ≡ set (map vec_items numbers.old) place new.items }
+fn set_numbers(numbers: &mut [SharedList<Fp>], place: usize, new: SharedList<Fp>)
+    ensures { numbers.new ≡ set numbers.old place new }
 {
     if place < numbers.len() {
         numbers[place] = new;
@@ -146,20 +181,17 @@ fn set_numbers(numbers: &mut [Vec<Fp>], place: usize, new: Vec<Fp>)
 }
 
 // Puts a number at a place of the list at a place, where there is one.
-#[tactic(auto, using(crate::proofs::Lists::of_lists))]
-fn set_number_at(numbers: &mut [Vec<Fp>], at: usize, place: usize, number: Fp)
-    ensures { map vec_items numbers.new ≡ set (map vec_items numbers.old) at (set (get_or (map vec_items numbers.old) at []) place number) }
+fn set_number_at(
+    alloc: Global,
+    numbers: &mut [SharedList<Fp>],
+    at: usize,
+    place: usize,
+    number: Fp,
+) -> Result<(), AllocError>
+    ensures { OnOk result (numbers.new ≡ set numbers.old at (set (get_or numbers.old at []) place number)) }
 {
     if at < numbers.len() {
-        set_number_in(&mut numbers[at], place, number);
+        numbers[at].set(alloc, place, number)?;
     }
-}
-
-// Puts a number at a place, where there is one.
-fn set_number_in(numbers: &mut Vec<Fp>, place: usize, number: Fp)
-    ensures { numbers.new.items ≡ set numbers.old.items place number }
-{
-    if place < numbers.len() {
-        numbers[place] = number;
-    }
+    Ok(())
 }

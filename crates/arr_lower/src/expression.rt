@@ -95,9 +95,9 @@ fn factor(
         (factor_array (factor_tree factor_of.now) store.now nodes.old) }
 {
     match factor_of {
-        Factor::Number { value, .. } => Ok(constant(nodes, alloc, *value)?),
+        Factor::Number { value, .. } => Ok(constant(nodes, *value)?),
         Factor::Name(name) => named(store, nodes, alloc, name),
-        Factor::Element { name, indices } => element(store, alloc, name, indices),
+        Factor::Element { name, indices } => element(store, name, indices),
         Factor::Negation { operand, .. } => {
             let operand = factor(store, nodes, alloc, operand)?;
             Ok(negated(nodes, alloc, &operand)?)
@@ -163,27 +163,22 @@ fn named(store: &Store, nodes: &mut Nodes, alloc: Global, name: &Name) -> Result
 {
     match store.names().get(name.text.as_slice()) {
         Some(Binding::Value(shape)) => {
-            let items = Vec::from_slice(alloc, store.items(name.text.as_slice()))?;
+            let items = store.items(alloc, name.text.as_slice())?;
             Ok(NodeArray { shape, items })
         }
-        Some(Binding::Turn(number)) => Ok(constant(nodes, alloc, number)?),
+        Some(Binding::Turn(number)) => Ok(constant(nodes, number)?),
         None => Err(Stopped::Stuck),
     }
 }
 
 // The node of an element.
-fn element(
-    store: &Store,
-    alloc: Global,
-    name: &Name,
-    indices: &Indices,
-) -> Result<NodeArray, Stopped>
+fn element(store: &Store, name: &Name, indices: &Indices) -> Result<NodeArray, Stopped>
     ensures { (nodes : List Node) → Follows (λ array. record { array = array; nodes = nodes }) result
         (element_array (name_tree name.now) (indices_tree indices.now) store.now nodes) }
 {
     let place = element_offset(store, name, indices)?;
-    match store.items(name.text.as_slice()).get(place) {
-        Some(item) => Ok(one_node(alloc, *item)?),
+    match store.item(name.text.as_slice(), place) {
+        Some(item) => Ok(one_node(item)),
         None => Err(Stopped::Stuck),
     }
 }

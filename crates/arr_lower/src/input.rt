@@ -14,6 +14,7 @@ use crate::nodes::Nodes;
 use crate::store::Store;
 use arr_ast::{Dimensions, Input, ShapeOf};
 use arr_check::Binding;
+use shared_list::SharedList;
 use std::alloc::{AllocError, Global};
 
 /// The leaves of so many inputs.
@@ -54,7 +55,7 @@ fn store_input(
         return Err(AllocError);
     }
     let end = first + size as u32;
-    let items = numbers_between(alloc, first, end)?;
+    let items = SharedList::new(alloc, numbers_between(alloc, first, end)?)?;
     let binding = Binding::Value(declared_shape(input.dimensions));
     store.declare(alloc, input.name.text.as_slice(), binding, items)?;
     Ok(end)

@@ -10,6 +10,7 @@
 #![tactic(auto)]
 
 mod array;
+mod combined;
 mod element;
 mod expression;
 mod input;

@@ -3,25 +3,12 @@
 ghost use Rattle.std.specs.Prelude.{◌≡◌, ◌<◌, ◌^◌, ◌*◌, ◌+◌, IfOk, map, get_or};
 ghost use Rattle.std.specs.List.{range_with_len};
 ghost use Rattle.circuit_core.specs.declared.gate.Kind.TheVariants.{Mul};
-ghost use Rattle.arr_lower.specs.Operations.{made_each, operation_node, dot_node, product_pairs, matmul_nodes, transposed_items};
+ghost use Rattle.arr_lower.specs.Operations.{made_each, operation_node, dot_node, product_pairs, matmul_nodes};
 
 use crate::nodes::Nodes;
 use crate::sum::sum;
 use circuit_core::Kind;
 use std::alloc::{AllocError, Global};
-
-/// n rows of m nodes, as m rows of n.
-pub fn transposed(alloc: Global, n: usize, m: usize, items: &[u32]) -> Result<Vec<u32>, AllocError>
-    requires n { n < 2 ^ 32 }
-    requires m { m < 2 ^ 32 }
-    ensures { IfOk result (λ found. found.items ≡ transposed_items n m items.now) }
-{
-    let mut found = Vec::new(alloc);
-    'each: for k in 0..m * n {
-        found.push(item_at(items, k % n * m + k / n))?;
-    }
-    Ok(found)
-}
 
 /// n rows of m nodes times m rows of q.
 pub fn matrix_product(

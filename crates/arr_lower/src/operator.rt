@@ -8,14 +8,16 @@ ghost use Rattle.arr_lower.specs.Lowering.{signed_items as items_of_signed, sign
 ghost use Rattle.arr_lower.specs.Operations.{constant_node};
 
 use crate::array::NodeArray;
-use crate::matrix::{matrix_product, transposed};
+use crate::combined::{combined, subtracted};
+use crate::matrix::matrix_product;
 use crate::nodes::Nodes;
-use crate::operation::{differences, negations, pairwise, scaled};
+use crate::operation::{negations, scaled};
 use crate::stopped::Stopped;
 use crate::sum::{dot, sum};
 use arr_ast::{PairFunction, ShapeOf, Sign, SingleFunction};
 use arr_check::is_alike;
 use circuit_core::Kind;
+use shared_list::SharedList;
 use std::alloc::{AllocError, Global};
 
 /// A sum or a difference.
@@ -40,14 +42,14 @@ fn signed_items(
     nodes: &mut Nodes,
     alloc: Global,
     sign: Sign,
-    left: &[u32],
-    right: &[u32],
-) -> Result<Vec<u32>, AllocError>
-    ensures { IfOk result (λ items. items_of_signed sign left.now right.now nodes.old ≡ record { items = items.items; nodes = nodes.new }) }
+    left: &SharedList<u32>,
+    right: &SharedList<u32>,
+) -> Result<SharedList<u32>, AllocError>
+    ensures { IfOk result (λ items. items_of_signed sign left.now right.now nodes.old ≡ record { items = items; nodes = nodes.new }) }
 {
     match sign {
-        Sign::Plus => pairwise(nodes, alloc, Kind::Add, left, right),
-        Sign::Minus => differences(nodes, alloc, left, right),
+        Sign::Plus => combined(nodes, alloc, Kind::Add, left, right),
+        Sign::Minus => subtracted(nodes, alloc, left, right),
     }
 }
 
@@ -64,7 +66,7 @@ pub fn times(
     if !is_alike(shape, right.shape) {
         return Err(Stopped::Stuck);
     }
-    let items = pairwise(nodes, alloc, Kind::Mul, &left.items, &right.items)?;
+    let items = combined(nodes, alloc, Kind::Mul, &left.items, &right.items)?;
     Ok(NodeArray { shape, items })
 }
 
@@ -73,7 +75,9 @@ pub fn negated(nodes: &mut Nodes, alloc: Global, array: &NodeArray) -> Result<No
     ensures { IfOk result (λ found. negated_array (record { array = array.now; nodes = nodes.old }) ≡ record { array = found; nodes = nodes.new }) }
 {
     let shape = array.shape;
-    let items = negations(nodes, alloc, &array.items)?;
+    let operand = array.items.in_order(alloc)?;
+    let items = negations(nodes, alloc, &operand)?;
+    let items = SharedList::new(alloc, items)?;
     Ok(NodeArray { shape, items })
 }
 
@@ -88,12 +92,13 @@ pub fn single(
 {
     match (function, array.shape) {
         (SingleFunction::Sum, _) => {
-            let item = sum(nodes, &array.items)?;
-            Ok(one_node(alloc, item)?)
+            let items = array.items.in_order(alloc)?;
+            let item = sum(nodes, &items)?;
+            Ok(one_node(item))
         }
         (SingleFunction::Transpose, ShapeOf::Matrix(n, m))
             if array.items.len() == n as usize * m as usize => {
-            let items = transposed(alloc, n as usize, m as usize, &array.items)?;
+            let items = array.items.transposed(alloc, n as usize, m as usize, 0)?;
             let shape = ShapeOf::Matrix(m, n);
             Ok(NodeArray { shape, items })
         }
@@ -112,16 +117,40 @@ pub fn pair(
     ensures { Follows (λ array. record { array = array; nodes = nodes.new }) result
         (pair_array function left.now.items right.now.items left.now.shape right.now.shape nodes.old) }
 {
-    match (function, left.shape, right.shape) {
-        (PairFunction::Scale, ShapeOf::Scalar, shape) => {
-            scale(nodes, alloc, &left.items, &right.items, shape)
-        }
+    let first = left.items.in_order(alloc)?;
+    let second = right.items.in_order(alloc)?;
+    pair_of(
+        nodes,
+        alloc,
+        function,
+        left.shape,
+        right.shape,
+        &first,
+        &second,
+    )
+}
+
+// A function of two arrays of these shapes, whose nodes are in order.
+fn pair_of(
+    nodes: &mut Nodes,
+    alloc: Global,
+    function: PairFunction,
+    shape: ShapeOf,
+    other: ShapeOf,
+    left: &[u32],
+    right: &[u32],
+) -> Result<NodeArray, Stopped>
+    ensures { Follows (λ array. record { array = array; nodes = nodes.new }) result
+        (pair_array function left.now right.now shape other nodes.old) }
+{
+    match (function, shape, other) {
+        (PairFunction::Scale, ShapeOf::Scalar, shape) => scale(nodes, alloc, left, right, shape),
         (PairFunction::Dot, ShapeOf::Vector(n), ShapeOf::Vector(m)) if n == m => {
-            let item = dot(nodes, alloc, &left.items, &right.items)?;
-            Ok(one_node(alloc, item)?)
+            let item = dot(nodes, alloc, left, right)?;
+            Ok(one_node(item))
         }
         (PairFunction::MatMul, ShapeOf::Matrix(n, m), ShapeOf::Matrix(k, q)) if m == k => {
-            matmul(nodes, alloc, n, m, q, &left.items, &right.items)
+            matmul(nodes, alloc, n, m, q, left, right)
         }
         _ => Err(Stopped::Stuck),
     }
@@ -141,6 +170,7 @@ fn scale(
         return Err(Stopped::Stuck);
     }
     let items = scaled(nodes, alloc, left[0], right)?;
+    let items = SharedList::new(alloc, items)?;
     Ok(NodeArray { shape, items })
 }
 
@@ -163,22 +193,24 @@ fn matmul(
         return Err(Stopped::Stuck);
     }
     let items = matrix_product(nodes, alloc, n, m, q, left, right)?;
+    let items = SharedList::new(alloc, items)?;
     Ok(NodeArray { shape, items })
 }
 
 /// A constant, as a scalar.
-pub fn constant(nodes: &mut Nodes, alloc: Global, value: u32) -> Result<NodeArray, AllocError>
+pub fn constant(nodes: &mut Nodes, value: u32) -> Result<NodeArray, AllocError>
     ensures { IfOk result (λ array. of_scalar (constant_node value nodes.old) ≡ record { array = array; nodes = nodes.new }) }
 {
     let item = nodes.constant(value)?;
-    one_node(alloc, item)
+    Ok(one_node(item))
 }
 
 /// A scalar.
-pub fn one_node(alloc: Global, item: u32) -> Result<NodeArray, AllocError>
-    ensures { IfOk result (λ array. array ≡ record { shape = Scalar; items = item ∷ [] }) }
+pub fn one_node(item: u32) -> NodeArray
+    ensures { result ≡ record { shape = Scalar; items = item ∷ [] } }
 {
-    let items = Vec::from_slice(alloc, &[item])?;
-    let shape = ShapeOf::Scalar;
-    Ok(NodeArray { shape, items })
+    NodeArray {
+        shape: ShapeOf::Scalar,
+        items: SharedList::one(item),
+    }
 }

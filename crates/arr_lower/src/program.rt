@@ -64,7 +64,8 @@ fn run_top_statement(
         TopStatement::Output { value, .. } => {
             let lowering = &mut progress.lowering;
             let array = array(&lowering.store, &mut lowering.nodes, alloc, value)?;
-            progress.outputs.extend_from_slice(array.items.as_slice())?;
+            let items = array.items.in_order(alloc)?;
+            progress.outputs.extend_from_slice(&items)?;
             Ok(())
         }
         TopStatement::Inner(statement) => run_statement(&mut progress.lowering, alloc, statement),

@@ -14,6 +14,7 @@ use crate::progress::Lowering;
 use crate::stopped::Stopped;
 use arr_ast::{Expression, IndexExpression, Indices, Name, Statement};
 use arr_check::{Binding, bounds};
+use shared_list::SharedList;
 use std::alloc::Global;
 
 /// The run of one statement.
@@ -97,7 +98,7 @@ fn one_turn(
         (after_turn (name_tree name.now) (each after_statement (map statement_tree body.now)) turn lowering.old) }
 {
     let kept = lowering.store.len();
-    let items = Vec::new(alloc);
+    let items = SharedList::new(alloc, Vec::new(alloc))?;
     lowering
         .store
         .declare(alloc, name.text.as_slice(), Binding::Turn(turn), items)?;
@@ -168,8 +169,9 @@ fn assign_element(
     if array.items.len() != 1 {
         return Err(Stopped::Stuck);
     }
+    let item = array.items.item_or(0, 0);
     lowering
         .store
-        .set_item(name.text.as_slice(), place, array.items[0]);
+        .set_item(alloc, name.text.as_slice(), place, item)?;
     Ok(())
 }

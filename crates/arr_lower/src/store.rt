@@ -1,9 +1,10 @@
 //! The names in scope and their nodes.
 
-ghost use Rattle.std.specs.Prelude.{◌≡◌, [], length, OnOk, map, vec_items, get_or, set};
+ghost use Rattle.std.specs.Prelude.{◌≡◌, [], length, IfOk, OnOk, get_or, set, slice_get};
 ghost use Rattle.arr_lower.specs.NodeStore.{items_of, with_items, with_name, without_block};
 
 use arr_check::{Binding, Scope};
+use shared_list::SharedList;
 use std::alloc::{AllocError, Global};
 use std::marker::Model;
 
@@ -11,16 +12,15 @@ use std::marker::Model;
 #[derive(Drop)]
 pub struct Store {
     names: Scope,
-    items: Vec<Vec<u32>>,
+    items: Vec<SharedList<u32>>,
 }
 
 impl Model for Store {
-    ghost use Rattle.std.specs.Prelude.{map, vec_items};
     ghost use Rattle.arr_lower.specs.NodeStore.{NodeStore};
 
     ghost Value = { NodeStore };
 
-    ghost view = { λ s. record { names = s.names; items = map vec_items s.items.items } };
+    ghost view = { λ s. record { names = s.names; items = s.items.items } };
 }
 
 impl Store {
@@ -49,13 +49,23 @@ impl Store {
         self.names.len()
     }
 
-    /// The nodes of a name, of which there are none where it isn't in scope.
-    pub fn items(&self, name: &[u8]) -> &[u32]
-        ensures { result.now ≡ items_of name.now self.now }
+    /// The nodes of a name, of which there are none where it isn't in scope. They are shared.
+    pub fn items(&self, alloc: Global, name: &[u8]) -> Result<SharedList<u32>, AllocError>
+        ensures { IfOk result (λ items. items ≡ items_of name.now self.now) }
     {
         match self.names.place(name) {
-            Some(place) => items_at(&self.items, place),
-            None => &[],
+            Some(place) => items_at(alloc, &self.items, place),
+            None => SharedList::new(alloc, Vec::new(alloc)),
+        }
+    }
+
+    /// One node of a name, if there is one at this place.
+    pub fn item(&self, name: &[u8], place: usize) -> Option<u32>
+        ensures { result ≡ slice_get (items_of name.now self.now) place }
+    {
+        match self.names.place(name) {
+            Some(at) => item_at(&self.items, at, place),
+            None => None,
         }
     }
 
@@ -65,9 +75,9 @@ impl Store {
         alloc: Global,
         name: &[u8],
         binding: Binding,
-        items: Vec<u32>,
+        items: SharedList<u32>,
     ) -> Result<(), AllocError>
-        ensures { OnOk result (self.new ≡ with_name name.now binding items.items self.old) }
+        ensures { OnOk result (self.new ≡ with_name name.now binding items self.old) }
     {
         self.names.declare(alloc, name, binding)?;
         self.items.push(items)?;
@@ -75,20 +85,27 @@ impl Store {
     }
 
     /// Sets the nodes of a name.
-    pub fn set(&mut self, name: &[u8], items: Vec<u32>)
-        ensures { self.new ≡ with_items name.now items.items self.old }
+    pub fn set(&mut self, name: &[u8], items: SharedList<u32>)
+        ensures { self.new ≡ with_items name.now items self.old }
     {
         if let Some(place) = self.names.place(name) {
             set_items(&mut self.items, place, items);
         }
     }
 
-    /// Sets one node of a name.
-    pub fn set_item(&mut self, name: &[u8], place: usize, item: u32)
-        ensures { self.new ≡ with_items name.now (set (items_of name.now self.old) place item) self.old }
+    /// Sets one node of a name. Its nodes are copied where others share them.
+    pub fn set_item(
+        &mut self,
+        alloc: Global,
+        name: &[u8],
+        place: usize,
+        item: u32,
+    ) -> Result<(), AllocError>
+        ensures { OnOk result (self.new ≡ with_items name.now (set (items_of name.now self.old) place item) self.old) }
     {
-        if let Some(at) = self.names.place(name) {
-            set_item_at(&mut self.items, at, place, item);
+        match self.names.place(name) {
+            Some(at) => set_item_at(alloc, &mut self.items, at, place, item),
+            None => Ok(()),
         }
     }
 
@@ -102,19 +119,44 @@ impl Store {
 }
 
 // The list at a place, or an empty one.
-fn items_at(items: &[Vec<u32>], place: usize) -> &[u32]
-    ensures { result.now ≡ get_or (map vec_items items.now) place [] }
+fn items_at(
+    alloc: Global,
+    items: &[SharedList<u32>],
+    place: usize,
+) -> Result<SharedList<u32>, AllocError>
+    ensures { IfOk result (λ found. found ≡ get_or items.now place []) }
 {
     match items.get(place) {
-        Some(found) => found.as_slice(),
-        None => &[],
+        Some(found) => found.share(),
+        None => SharedList::new(alloc, Vec::new(alloc)),
+    }
+}
+
+// The node at a place of the list at a place, if there is one.
+fn item_at(items: &[SharedList<u32>], at: usize, place: usize) -> Option<u32>
+    ensures { result ≡ slice_get (get_or items.now at []) place }
+{
+    match items.get(at) {
+        Some(found) => item_in(found, place),
+        None => None,
+    }
+}
+
+// The node at a place of a list, if there is one.
+#[tactic(auto, using(crate::proofs::Lists::of_places))]
+fn item_in(items: &SharedList<u32>, place: usize) -> Option<u32>
+    ensures { result ≡ slice_get items.now place }
+{
+    if place < items.len() {
+        Some(items.item_or(place, 0))
+    } else {
+        None
     }
 }
 
 // Puts a list at a place, where there is one.
-#[tactic(auto, using(crate::proofs::Lists::of_lists))]
-fn set_items(items: &mut [Vec<u32>], place: usize, new: Vec<u32>)
-    ensures { map vec_items items.new ≡ set (map vec_items items.old) place new.items }
+fn set_items(items: &mut [SharedList<u32>], place: usize, new: SharedList<u32>)
+    ensures { items.new ≡ set items.old place new }
 {
     if place < items.len() {
         items[place] = new;
@@ -122,20 +164,17 @@ fn set_items(items: &mut [Vec<u32>], place: usize, new: Vec<u32>)
 }
 
 // Puts a node at a place of the list at a place, where there is one.
-#[tactic(auto, using(crate::proofs::Lists::of_lists))]
-fn set_item_at(items: &mut [Vec<u32>], at: usize, place: usize, item: u32)
-    ensures { map vec_items items.new ≡ set (map vec_items items.old) at (set (get_or (map vec_items items.old) at []) place item) }
+fn set_item_at(
+    alloc: Global,
+    items: &mut [SharedList<u32>],
+    at: usize,
+    place: usize,
+    item: u32,
+) -> Result<(), AllocError>
+    ensures { OnOk result (items.new ≡ set items.old at (set (get_or items.old at []) place item)) }
 {
     if at < items.len() {
-        set_item_in(&mut items[at], place, item);
+        items[at].set(alloc, place, item)?;
     }
-}
-
-// Puts a node at a place, where there is one.
-fn set_item_in(items: &mut Vec<u32>, place: usize, item: u32)
-    ensures { items.new.items ≡ set items.old.items place item }
-{
-    if place < items.len() {
-        items[place] = item;
-    }
+    Ok(())
 }

@@ -1,6 +1,0 @@
-use Rattle.std.proofs.Common.{◌≡◌, ◌*◌}
-use Rattle.arr_eval.specs.Numbers.{at_places, transposed_at}
-use Rattle.arr_eval.proofs.matrix.transposed.Given as goal
-
-abbrev pub invariant-each : goal.invariant-each
-invariant-each l = l.found.items ≡ at_places (l.j * l.n) (transposed_at l.n l.m l.items)
