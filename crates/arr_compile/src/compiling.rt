@@ -1,8 +1,13 @@
 //! The circuit of a text.
 
-ghost use Rattle.std.specs.Prelude.{◌≤◌, length, IfOk, IfErr};
-ghost use Rattle.arr_compile.specs.Circuits.{IsCompiled, RefusesCircuit};
+ghost use Rattle.std.specs.Prelude.{◌≡◌, ◌≤◌, List, length, IfOk, IfErr};
+ghost use Rattle.field_ext.specs.Field.{F};
+ghost use Rattle.arr_ast.specs.ProgramTree.{ProgramTree};
+ghost use Rattle.arr_check.specs.Program.{input_count};
+ghost use Rattle.arr_compile.specs.Programs.{IsRead};
+ghost use Rattle.arr_compile.specs.Circuits.{IsCompiled, RefusesCircuit, Computes};
 
+use crate::laws::compiled_computes;
 use crate::reading::read_program;
 use crate::refused::{BadProgram, CompileRefused};
 use arr_lower::lower;
@@ -16,10 +21,8 @@ pub struct Compiled {
     pub circuit: Circuit,
 }
 
-/// The circuit of a text's program, or the first refusal of all passes: `Bad` with `At` exactly where `read_program`
-/// refuses the text so, and else with `Deep` where the circuit would have more than 256 layers above the input, or with
-/// `Wide` where a height needs more than 65,536 positions; or `Memory`.
-pub fn compile(alloc: Global, text: &[u8]) -> Result<Compiled, CompileRefused>
+// The circuit of a text's program, or the first refusal of all passes.
+fn lay_out(alloc: Global, text: &[u8]) -> Result<Compiled, CompileRefused>
     requires { length text.now ≤ 65536 }
     ensures compiled { IfOk result (λ compiled. IsCompiled text.now compiled.circuit.parts) }
     ensures refused { IfErr result (λ refused. RefusesCircuit text.now refused) }
@@ -41,4 +44,20 @@ pub fn compile(alloc: Global, text: &[u8]) -> Result<Compiled, CompileRefused>
         },
         Err(_) => Err(CompileRefused::Memory),
     }
+}
+
+/// The circuit of a text's program, or the first refusal of all passes: `Bad` with `At` exactly where `read_program`
+/// refuses the text so, and else with `Deep` where the circuit would have more than 256 layers above the input, or with
+/// `Wide` where a height needs more than 65,536 positions; or `Memory`. The circuit computes what the text's tree means.
+pub fn compile(alloc: Global, text: &[u8]) -> Result<Compiled, CompileRefused>
+    requires { length text.now ≤ 65536 }
+    ensures compiled { IfOk result (λ compiled. IsCompiled text.now compiled.circuit.parts) }
+    ensures computes { IfOk result (λ compiled. (tree : ProgramTree) (inputs : List F)
+        → IsRead text.now tree →
+        length inputs ≡ input_count tree.inputs → Computes tree compiled.circuit.parts inputs) }
+    ensures refused { IfErr result (λ refused. RefusesCircuit text.now refused) }
+{
+    compiled_computes();
+    let compiled = lay_out(alloc, text)?;
+    Ok(compiled)
 }

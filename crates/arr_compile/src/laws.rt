@@ -68,6 +68,15 @@ pub fn circuit_computes()
     outputs_stand();
 }
 
+/// The circuit of a text computes what the text's tree means.
+pub fn compiled_computes()
+    ensures { (text : List ℕ) (parts : Parts) (tree : ProgramTree) (inputs : List F) → IsCompiled text parts → IsRead text tree →
+        length inputs ≡ input_count tree.inputs → Computes tree parts inputs }
+{
+    one_tree();
+    circuit_computes();
+}
+
 /// The circuit of a program has no fault, and an output.
 pub fn circuit_is_sound()
     ensures faultless { (text : List ℕ) (parts : Parts) → IsCompiled text parts → fault_of greatest parts ≡ None }
