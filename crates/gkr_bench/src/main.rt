@@ -23,7 +23,7 @@ mod workers;
 use std::{env, io};
 
 const USAGE: &str =
-    "gkr_bench matmul N | steps N | names KIB | fold K | case KIB | proof N | wide ROWS | carried LEVELS | layer K | workers K | turns N";
+    "gkr_bench matmul N | steps N | names KIB | copies N | copied N | transposes N | letters N | fold K | case KIB | proof N | wide ROWS | carried LEVELS | layer K | workers K | turns N";
 
 fn main(rt: HostRuntime) -> io::Result<()> {
     let alloc = rt.alloc();
@@ -64,6 +64,10 @@ fn main(rt: HostRuntime) -> io::Result<()> {
                 "matmul" => programs::matrix_product(alloc, size)?,
                 "steps" => programs::steps(alloc, size)?,
                 "names" => programs::names(alloc, size)?,
+                "copies" => programs::copies(alloc, size)?,
+                "copied" => programs::copied(alloc, size)?,
+                "transposes" => programs::transposes(alloc, size)?,
+                "letters" => programs::letters(alloc, size)?,
                 _ => {
                     println!(rt; "{}", USAGE)?;
                     return Ok(());
