@@ -8,4 +8,5 @@ use Rattle.arr_check.specs.Scope.{Names, place_of}
 
 -- what the map has for a name's bytes is the oldest place of the name
 abbrev pub Answers : BTreeMap (Vec ℕ Global) ℕ → Names → Type 0
-Answers places names = (name : List ℕ) → get_by (λ key. slice_cmp nat_cmp name key.items) places ≡ place_of name names
+Answers places names = (name : List ℕ)
+    → get_by (λ key. slice_cmp nat_cmp name key.items) places ≡ place_of name names

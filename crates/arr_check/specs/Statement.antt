@@ -58,10 +58,14 @@ target_shape at (Some (Value shape)) = Ok shape
 
 -- goes on with a value of this shape
 abbrev pub assigned : ShapeOf → ExpressionTree → Run → Answer Run
-assigned shape value run = expression_shape value run >>= λ found. if same_shape shape found.0 then Ok found.1 else Err (Bad (expression_at value) Shape)
+assigned shape value run =
+    expression_shape value run >>= λ found. if same_shape shape found.0 then Ok found.1
+    else Err (Bad (expression_at value) Shape)
 
 abbrev pub declared : NameTree → ExpressionTree → Run → Answer Run
-declared name value run = if_free name.at (bound name run) run >>= λ run. expression_shape value run >>= λ found. Ok (with_name name.text (Value found.0) found.1)
+declared name value run =
+    if_free name.at (bound name run) run >>= λ run. expression_shape value run >>= λ found.
+    Ok (with_name name.text (Value found.0) found.1)
 
 -- so many turns from one on, each a run of the body
 abbrev pub turns : ℕ → ℕ → (ℕ → Run → Answer Run) → Run → Answer Run
@@ -70,19 +74,23 @@ turns (suc left) turn body run = body turn run >>= turns left (turn + 1) body
 
 -- a turn is a step, and a block with the loop variable
 abbrev pub one_turn : ℕ → NameTree → (Run → Answer Run) → ℕ → Run → Answer Run
-one_turn at name body turn run = step_at at run >>= λ run. body (with_name name.text (Turn turn) run) >>= λ after. Ok (without_block (length run.scope) after)
+one_turn at name body turn run =
+    step_at at run >>= λ run. body (with_name name.text (Turn turn) run) >>= λ after.
+    Ok (without_block (length run.scope) after)
 
 -- a loop with these bounds and this body
 abbrev pub counted_loop : ℕ → NameTree → Sum → Sum → (Run → Answer Run) → Run → Answer Run
 counted_loop at name low high body run =
     step_at at run >>= λ run. if_free name.at (bound name run) run >>= λ run.
-    bounds_of run.scope low high >>= λ (first, end). turns (end - first) first (one_turn at name body) run
+    bounds_of run.scope low high >>= λ (first, end). turns (end - first) first
+    (one_turn at name body) run
 
 abbrev mutual
   pub run_statement : StatementTree → Run → Answer Run
   run_statement (Let at name value) run = step_at at run >>= declared name value
   run_statement (Set name value) run =
-      step_at name.at run >>= λ run. target_shape name.at (bound name run) >>= λ shape. assigned shape value run
+      step_at name.at run >>= λ run. target_shape name.at (bound name run) >>= λ shape.
+      assigned shape value run
   run_statement (SetElement name indices value) run =
       step_at name.at run >>= λ run. target_shape name.at (bound name run) >>= λ shape.
       element_at run.scope name.at indices (bound name run) >>= λ place. assigned Scalar value run
@@ -95,5 +103,6 @@ abbrev mutual
 -- a loop as the list of its turns, LO, LO + 1 and so on up to HI - 1
 abbrev pub loop_in_order : ℕ → NameTree → Sum → Sum → (Run → Answer Run) → Run → Answer Run
 loop_in_order at name low high body run =
-    step_at at run >>= λ run. if_free name.at (bound name run) run >>= λ run. bounds_of run.scope low high >>= λ bounds.
+    step_at at run >>= λ run. if_free name.at (bound name run) run >>= λ run.
+    bounds_of run.scope low high >>= λ bounds.
     each (one_turn at name body) (range_with_len bounds.0 (bounds.1 - bounds.0)) run

@@ -20,7 +20,9 @@ pub fn element_place(
     name: &Name,
     indices: &Indices,
 ) -> Result<(u64, u64), CheckRefused>
-    ensures place { Agrees (λ place. place) result (element_at scope.now name.now.at (indices_tree indices.now) (binding_of name.now.text.items scope.now)) }
+    ensures place { Agrees (λ place. place) result
+        (element_at scope.now name.now.at (indices_tree indices.now)
+        (binding_of name.now.text.items scope.now)) }
     ensures small { IfOk result (λ place. (place.0 < 2 ^ 32) × (place.1 < 2 ^ 32)) }
 {
     match scope.get(name.text.as_slice()) {
@@ -43,7 +45,9 @@ fn place_in(
     indices: &Indices,
     shape: ShapeOf,
 ) -> Result<(u64, u64), CheckRefused>
-    ensures place { Agrees (λ place. place) result (indices_at scope.now at (indices_tree indices.now).second (indices_tree indices.now).first shape) }
+    ensures place { Agrees (λ place. place) result
+        (indices_at scope.now at (indices_tree indices.now).second (indices_tree indices.now).first
+        shape) }
     ensures small { IfOk result (λ place. (place.0 < 2 ^ 32) × (place.1 < 2 ^ 32)) }
 {
     match (&indices.second, shape) {
@@ -65,7 +69,8 @@ fn place_in(
 
 // The value of an index within its dimension.
 fn index_within(scope: &Scope, index: &IndexExpression, dimension: u32) -> Result<u64, CheckRefused>
-    ensures place { Agrees (λ place. place) result (place_below scope.now (sum_tree index.now) dimension) }
+    ensures place { Agrees (λ place. place) result
+        (place_below scope.now (sum_tree index.now) dimension) }
     ensures small { IfOk result (λ place. place < 2 ^ 32) }
 {
     let at = index_at(index);

@@ -17,7 +17,8 @@ use arr_ast::{AddedTerm, Expression, Factor, Name, ShapeOf, Term, TimesFactor};
 #[cycle(expression)]
 #[tactic(auto, using(crate::proofs::ExpressionRows::of_expressions))]
 pub fn expression_shape(run: &mut Run, expression: &Expression) -> Result<ShapeOf, CheckRefused>
-    ensures { Agrees (λ shape. (shape, run.new)) result (shape_of (expression_tree expression.now) run.old) }
+    ensures { Agrees (λ shape. (shape, run.new)) result
+        (shape_of (expression_tree expression.now) run.old) }
 {
     let mut shape = term_shape(run, &expression.first)?;
     'each: for added in &expression.added {
@@ -50,7 +51,8 @@ fn term_shape(run: &mut Run, term: &Term) -> Result<ShapeOf, CheckRefused>
 #[cycle(expression)]
 #[tactic(auto, using(crate::proofs::ExpressionRows::of_expressions))]
 fn product_shape(run: &mut Run, left: ShapeOf, times: &TimesFactor) -> Result<ShapeOf, CheckRefused>
-    ensures { Agrees (λ shape. (shape, run.new)) result (times_factor_shape times.now (left, run.old)) }
+    ensures { Agrees (λ shape. (shape, run.new)) result
+        (times_factor_shape times.now (left, run.old)) }
 {
     let right = factor_shape(run, &times.factor)?;
     times_shape(run, times.at, left, right)
@@ -59,7 +61,8 @@ fn product_shape(run: &mut Run, left: ShapeOf, times: &TimesFactor) -> Result<Sh
 #[cycle(expression)]
 #[tactic(auto, using(crate::proofs::ExpressionRows::of_expressions))]
 fn factor_shape(run: &mut Run, factor: &Factor) -> Result<ShapeOf, CheckRefused>
-    ensures { Agrees (λ shape. (shape, run.new)) result (shape_of_factor (factor_tree factor.now) run.old) }
+    ensures { Agrees (λ shape. (shape, run.new)) result
+        (shape_of_factor (factor_tree factor.now) run.old) }
 {
     match factor {
         Factor::Number { at, value } => shape_of_constant(run, *at, *value),
@@ -104,7 +107,8 @@ fn shape_of_constant(run: &mut Run, at: usize, value: u32) -> Result<ShapeOf, Ch
 }
 
 fn shape_of_name(run: &mut Run, name: &Name) -> Result<ShapeOf, CheckRefused>
-    ensures { Agrees (λ shape. (shape, run.new)) result (name_shape name.now.at (binding_of name.now.text.items run.old.scope) run.old) }
+    ensures { Agrees (λ shape. (shape, run.new)) result
+        (name_shape name.now.at (binding_of name.now.text.items run.old.scope) run.old) }
 {
     match run.scope.get(name.text.as_slice()) {
         Some(Binding::Value(shape)) => Ok(shape),

@@ -68,7 +68,8 @@ fn added_value(
 #[cycle(index)]
 #[tactic(auto, using(crate::proofs::IndexRows::of_indices))]
 fn term_value(scope: &Scope, whole: usize, term: &IndexTerm) -> Result<i64, CheckRefused>
-    ensures value { Agrees (λ z. z) result (index_term_value scope.now whole (product_tree term.now)) }
+    ensures value { Agrees (λ z. z) result
+        (index_term_value scope.now whole (product_tree term.now)) }
     ensures small { IfOk result (λ z. nat_abs z ≤ 2 ^ 31) }
 {
     let mut value = factor_value(scope, whole, &term.first)?;
@@ -108,7 +109,8 @@ fn product_within(whole: usize, left: i64, right: i64) -> Result<i64, CheckRefus
 #[cycle(index)]
 #[tactic(auto, using(crate::proofs::IndexRows::of_indices))]
 fn factor_value(scope: &Scope, whole: usize, factor: &IndexFactor) -> Result<i64, CheckRefused>
-    ensures value { Agrees (λ z. z) result (index_factor_value scope.now whole (factor_tree factor.now)) }
+    ensures value { Agrees (λ z. z) result
+        (index_factor_value scope.now whole (factor_tree factor.now)) }
     ensures small { IfOk result (λ z. nat_abs z ≤ 2 ^ 31) }
 {
     match factor {
@@ -134,7 +136,8 @@ fn within(whole: usize, value: i64) -> Result<i64, CheckRefused>
 
 // The number of a loop's turn.
 fn turn(scope: &Scope, whole: usize, name: &Name) -> Result<i64, CheckRefused>
-    ensures value { Agrees (λ z. z) result (turn_of whole name.now.at (binding_of name.now.text.items scope.now)) }
+    ensures value { Agrees (λ z. z) result
+        (turn_of whole name.now.at (binding_of name.now.text.items scope.now)) }
     ensures small { IfOk result (λ z. nat_abs z ≤ 2 ^ 31) }
 {
     match scope.get(name.text.as_slice()) {

@@ -25,7 +25,8 @@ const MAX_OUTPUTS: u64 = 65_535;
 /// A program that no check refuses, or the first refusal.
 #[tactic(auto, using(crate::proofs::InputNodes::of_inputs))]
 pub fn check(alloc: Global, program: Program) -> Result<Checked, CheckRefused>
-    ensures exact { Agrees (λ checked. run_end (program_tree checked.program)) result (run_program (program_tree program)) }
+    ensures exact { Agrees (λ checked. run_end (program_tree checked.program)) result
+        (run_program (program_tree program)) }
     ensures same { IfOk result (λ checked. program_tree checked.program ≡ program_tree program) }
 {
     let mut run = start(alloc);

@@ -52,7 +52,8 @@ pub fn from_minus_one(
     shape: ShapeOf,
     each: u64,
 ) -> Result<ShapeOf, CheckRefused>
-    ensures { Agrees (λ shape. (shape, run.new)) result (for_minus_one at (size_of shape * each) shape run.old) }
+    ensures { Agrees (λ shape. (shape, run.new)) result
+        (for_minus_one at (size_of shape * each) shape run.old) }
 {
     use_constant(run, at, MINUS_ONE)?;
     add_nodes(run, at, size(shape), each)?;
@@ -124,7 +125,8 @@ pub fn pair_shape(
     left: ShapeOf,
     right: ShapeOf,
 ) -> Result<ShapeOf, CheckRefused>
-    ensures { Agrees (λ shape. (shape, run.new)) result (shape_of_pair function at left right run.old) }
+    ensures { Agrees (λ shape. (shape, run.new)) result
+        (shape_of_pair function at left right run.old) }
 {
     match (function, left, right) {
         (PairFunction::Scale, ShapeOf::Scalar, _) => {

@@ -73,7 +73,8 @@ fn counted_loop(
     high: &IndexExpression,
 ) -> Result<(), CheckRefused>
     ensures { Agrees (λ _. run.new) result
-        (after_loop at (name_tree name.now) (sum_tree low.now) (sum_tree high.now) (each after_statement (map statement_tree body.now)) run.old) }
+        (after_loop at (name_tree name.now) (sum_tree low.now) (sum_tree high.now)
+        (each after_statement (map statement_tree body.now)) run.old) }
 {
     step(run, at)?;
     require_free(run, name)?;
@@ -94,7 +95,10 @@ fn all_turns(
     body: &[Statement],
 ) -> Result<(), CheckRefused>
     requires { first ≤ end }
-    ensures { Agrees (λ _. run.new) result (turns (end - first) first (after_turn at (name_tree name.now) (each after_statement (map statement_tree body.now))) run.old) }
+    ensures { Agrees (λ _. run.new) result
+        (turns (end - first) first
+        (after_turn at (name_tree name.now) (each after_statement (map statement_tree body.now)))
+        run.old) }
 {
     'each: for turn in first..end {
         one_turn(run, alloc, at, name, turn, body)?;
@@ -113,7 +117,9 @@ fn one_turn(
     turn: u32,
     body: &[Statement],
 ) -> Result<(), CheckRefused>
-    ensures { Agrees (λ _. run.new) result (after_turn at (name_tree name.now) (each after_statement (map statement_tree body.now)) turn run.old) }
+    ensures { Agrees (λ _. run.new) result
+        (after_turn at (name_tree name.now) (each after_statement (map statement_tree body.now))
+        turn run.old) }
 {
     step(run, at)?;
     let kept = run.scope.len();
@@ -127,7 +133,8 @@ fn one_turn(
 #[cycle(statement)]
 #[tactic(auto, using(crate::proofs::StatementRows::of_statements))]
 fn run_all(run: &mut Run, alloc: Global, statements: &[Statement]) -> Result<(), CheckRefused>
-    ensures { Agrees (λ _. run.new) result (each after_statement (map statement_tree statements.now) run.old) }
+    ensures { Agrees (λ _. run.new) result
+        (each after_statement (map statement_tree statements.now) run.old) }
 {
     'each: for statement in statements {
         run_statement(run, alloc, statement)?;
@@ -142,7 +149,8 @@ pub fn bounds(
     low: &IndexExpression,
     high: &IndexExpression,
 ) -> Result<(u32, u32), CheckRefused>
-    ensures value { Agrees (λ bounds. bounds) result (bounds_of scope.now (sum_tree low.now) (sum_tree high.now)) }
+    ensures value { Agrees (λ bounds. bounds) result
+        (bounds_of scope.now (sum_tree low.now) (sum_tree high.now)) }
     ensures order { IfOk result (λ bounds. bounds.0 ≤ bounds.1) }
 {
     let at = index_at(low);

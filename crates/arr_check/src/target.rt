@@ -18,7 +18,8 @@ use std::alloc::Global;
 
 /// Tests that a name may be declared.
 pub fn require_free(run: &Run, name: &Name) -> Result<(), CheckRefused>
-    ensures { Agrees (λ _. run.now) result (if_free name.now.at (bound (name_tree name.now) run.now) run.now) }
+    ensures { Agrees (λ _. run.now) result
+        (if_free name.now.at (bound (name_tree name.now) run.now) run.now) }
 {
     match run.scope.get(name.text.as_slice()) {
         None => Ok(()),
@@ -49,7 +50,8 @@ pub fn declare_value(
     name: &Name,
     value: &Expression,
 ) -> Result<(), CheckRefused>
-    ensures { Agrees (λ _. run.new) result (declared (name_tree name.now) (expression_tree value.now) run.old) }
+    ensures { Agrees (λ _. run.new) result
+        (declared (name_tree name.now) (expression_tree value.now) run.old) }
 {
     require_free(run, name)?;
     let shape = expression_shape(run, value)?;
@@ -58,7 +60,8 @@ pub fn declare_value(
 
 /// The shape of a name that may be assigned.
 pub fn target(scope: &Scope, name: &Name) -> Result<ShapeOf, CheckRefused>
-    ensures { Agrees (λ shape. shape) result (target_shape name.now.at (binding_of name.now.text.items scope.now)) }
+    ensures { Agrees (λ shape. shape) result
+        (target_shape name.now.at (binding_of name.now.text.items scope.now)) }
 {
     match scope.get(name.text.as_slice()) {
         Some(Binding::Value(shape)) => Ok(shape),

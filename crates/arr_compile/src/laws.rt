@@ -31,7 +31,8 @@ pub fn one_refusal()
 
 /// No text is both accepted and refused.
 pub fn accepted_or_refused()
-    ensures { (text : List ℕ) (tree : ProgramTree) (bad : BadProgram) → IsAccepted text tree → ¬ IsRefusal text bad }
+    ensures { (text : List ℕ) (tree : ProgramTree) (bad : BadProgram) → IsAccepted text tree
+        → ¬ IsRefusal text bad }
 {
     one_tree();
 }
@@ -45,14 +46,16 @@ pub fn one_circuit()
 
 /// A text has at most one first refusal of all passes.
 pub fn one_circuit_refusal()
-    ensures { (text : List ℕ) (a b : BadProgram) → IsCircuitRefusal text a → IsCircuitRefusal text b → a ≡ b }
+    ensures { (text : List ℕ) (a b : BadProgram) → IsCircuitRefusal text a → IsCircuitRefusal text b
+        → a ≡ b }
 {
     one_tree();
 }
 
 /// No text has both a circuit and a refusal.
 pub fn compiled_or_refused()
-    ensures { (text : List ℕ) (parts : Parts) (bad : BadProgram) → IsCompiled text parts → ¬ IsCircuitRefusal text bad }
+    ensures { (text : List ℕ) (parts : Parts) (bad : BadProgram) → IsCompiled text parts
+        → ¬ IsCircuitRefusal text bad }
 {
     one_tree();
 }
@@ -60,8 +63,10 @@ pub fn compiled_or_refused()
 /// The circuit of a program computes what the program means: on inputs of its count the output layer has at its first
 /// positions past 0 the program's outputs in order, and 0 at all others.
 pub fn circuit_computes()
-    ensures inputs { (text : List ℕ) (parts : Parts) (is : IsCompiled text parts) → parts.inputs ≡ input_count is.tree.inputs }
-    ensures computes { (text : List ℕ) (parts : Parts) (is : IsCompiled text parts) (inputs : List F) → length inputs ≡ parts.inputs → Computes is.tree parts inputs }
+    ensures inputs { (text : List ℕ) (parts : Parts) (is : IsCompiled text parts)
+        → parts.inputs ≡ input_count is.tree.inputs }
+    ensures computes { (text : List ℕ) (parts : Parts) (is : IsCompiled text parts)
+        (inputs : List F) → length inputs ≡ parts.inputs → Computes is.tree parts inputs }
 {
     nodes_in_order();
     nodes_mean();
@@ -70,7 +75,8 @@ pub fn circuit_computes()
 
 /// The circuit of a text computes what the text's tree means.
 pub fn compiled_computes()
-    ensures { (text : List ℕ) (parts : Parts) (tree : ProgramTree) (inputs : List F) → IsCompiled text parts → IsRead text tree →
+    ensures { (text : List ℕ) (parts : Parts) (tree : ProgramTree) (inputs : List F)
+        → IsCompiled text parts → IsRead text tree →
         length inputs ≡ input_count tree.inputs → Computes tree parts inputs }
 {
     one_tree();
@@ -79,8 +85,10 @@ pub fn compiled_computes()
 
 /// The circuit of a program has no fault, and an output.
 pub fn circuit_is_sound()
-    ensures faultless { (text : List ℕ) (parts : Parts) → IsCompiled text parts → fault_of greatest parts ≡ None }
-    ensures has_output { (text : List ℕ) (parts : Parts) → IsCompiled text parts → 1 ≤ parts.outputs }
+    ensures faultless { (text : List ℕ) (parts : Parts) → IsCompiled text parts
+        → fault_of greatest parts ≡ None }
+    ensures has_output { (text : List ℕ) (parts : Parts) → IsCompiled text parts
+        → 1 ≤ parts.outputs }
 {
     has_outputs();
     no_fault();

@@ -38,7 +38,8 @@ column m q items j = at_places m (λ l. element items (l * q + j))
 
 -- row i of rows of m elements times column j of rows of q
 abbrev pub product_at : ℕ → ℕ → List F → List F → ℕ → ℕ → F
-product_at m q left right i j = sum_of (at_places m (λ l. mul_f (element left (i * m + l)) (element right (l * q + j))))
+product_at m q left right i j =
+    sum_of (at_places m (λ l. mul_f (element left (i * m + l)) (element right (l * q + j))))
 
 -- the element at place k of rows of q
 abbrev pub product_place : ℕ → ℕ → List F → List F → ℕ → F

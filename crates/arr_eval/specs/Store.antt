@@ -35,7 +35,10 @@ shape_of (Turn number) = Scalar
 
 -- what a name stands for, if it is in scope
 abbrev pub array_of : List ℕ → Store → Option Array
-array_of name store = option_map (λ binding. record { shape = shape_of binding; items = numbers_of name store }) (binding_of name store.names)
+array_of name store = option_map (λ binding. record {
+  shape = shape_of binding;
+  items = numbers_of name store;
+}) (binding_of name store.names)
 
 abbrev pub set_at : Option ℕ → List F → List (List F) → List (List F)
 set_at None new numbers = numbers
@@ -43,12 +46,15 @@ set_at (Some place) new numbers = set numbers place new
 
 -- with other numbers of a name
 abbrev pub with_numbers : List ℕ → List F → Store → Store
-with_numbers name new store = record store { numbers = set_at (place_of name store.names) new store.numbers }
+with_numbers name new store =
+    record store { numbers = set_at (place_of name store.names) new store.numbers }
 
 -- with one more name
 abbrev pub with_name : List ℕ → Binding → List F → Store → Store
-with_name name binding new store = record { names = store.names ++ (name, binding) ∷ []; numbers = store.numbers ++ new ∷ [] }
+with_name name binding new store =
+    record { names = store.names ++ (name, binding) ∷ []; numbers = store.numbers ++ new ∷ [] }
 
 -- the names that were there before a block
 abbrev pub without_block : ℕ → Store → Store
-without_block kept store = record { names = take kept store.names; numbers = take kept store.numbers }
+without_block kept store =
+    record { names = take kept store.names; numbers = take kept store.numbers }

@@ -12,7 +12,8 @@ use arr_check::element_place;
 
 /// Where an element of a name stands in its list.
 pub fn element_offset(store: &Store, name: &Name, indices: &Indices) -> Result<usize, Stopped>
-    ensures { Follows (λ place. place) result (offset_of_element (name_tree name.now) (indices_tree indices.now) store.now) }
+    ensures { Follows (λ place. place) result
+        (offset_of_element (name_tree name.now) (indices_tree indices.now) store.now) }
 {
     let (row, column) = element_place(store.names(), name, indices)?;
     match store.shape(name.text.as_slice()) {

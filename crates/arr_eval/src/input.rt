@@ -22,7 +22,8 @@ pub fn store_inputs(
     inputs: &[Input],
     numbers: &[Fp],
 ) -> Result<(), Stopped>
-    ensures { Follows (λ _. store.new) result (Some (store_of (map input_tree inputs.now) numbers.now store.old)) }
+    ensures { Follows (λ _. store.new) result
+        (Some (store_of (map input_tree inputs.now) numbers.now store.old)) }
 {
     let mut rest = numbers;
     'each: for input in inputs {
@@ -40,7 +41,8 @@ fn store_input(
     input: &Input,
     numbers: &[Fp],
 ) -> Result<(), Stopped>
-    ensures { Follows (λ _. store.new) result (Some (with_input (input_tree input.now) numbers.now store.old)) }
+    ensures { Follows (λ _. store.new) result
+        (Some (with_input (input_tree input.now) numbers.now store.old)) }
 {
     let shape = declared_shape(input.dimensions);
     let numbers = SharedList::new(alloc, Vec::from_slice(alloc, numbers)?)?;

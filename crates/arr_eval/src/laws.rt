@@ -16,7 +16,8 @@ ghost use Rattle.arr_eval.specs.Store.{Array, Store};
 
 /// A program that the checks accept has a meaning, whatever its inputs are.
 pub fn has_meaning()
-    ensures { (program : ProgramTree) (inputs : List F) → IsTrue (is_ok (run_program program)) → IsSome (meaning program inputs) }
+    ensures { (program : ProgramTree) (inputs : List F) → IsTrue (is_ok (run_program program))
+        → IsSome (meaning program inputs) }
 {}
 
 /// The sum of a list in two parts is the sum of the sums of its parts. So a sum by halves, of
@@ -28,7 +29,8 @@ pub fn sum_in_parts()
 /// An element of a product of matrices is the dot product of a row and a column.
 pub fn matmul_element()
     ensures { (n m q : ℕ) (left right : List F) (i j : ℕ) → i < n → j < q →
-        element (matmul_of n m q left right) (i * q + j) ≡ dot_of (row m left i) (column m q right j) }
+        element (matmul_of n m q left right) (i * q + j) ≡ dot_of (row m left i)
+        (column m q right j) }
 {}
 
 /// The transpose has at row j and column i what the matrix has at row i and column j.
@@ -39,19 +41,23 @@ pub fn transpose_element()
 
 /// A matrix that is transposed twice is the matrix.
 pub fn transposed_twice()
-    ensures { (n m : ℕ) (items : List F) → length items ≡ n * m → transpose_of m n (transpose_of n m items) ≡ items }
+    ensures { (n m : ℕ) (items : List F) → length items ≡ n * m
+        → transpose_of m n (transpose_of n m items) ≡ items }
 {}
 
 /// A loop runs its body once for each number from its lower bound on, below its upper bound, in
 /// order, with the loop variable at that number.
 pub fn turns_in_order()
-    ensures { (name : NameTree) (low high : Sum) (body : Store → Option Store) (store : Store) (first end : ℕ) →
+    ensures { (name : NameTree) (low high : Sum) (body : Store
+        → Option Store) (store : Store) (first end : ℕ) →
         bounds_of store.names low high ≡ Ok (first, end) →
-        counted_loop name low high body store ≡ each (one_turn name body) (range_with_len first (end - first)) store }
+        counted_loop name low high body store ≡ each (one_turn name body)
+        (range_with_len first (end - first)) store }
 {}
 
 /// Where the array of each name has as many elements as its shape has places, so has the value of
 /// each expression.
 pub fn values_are_sized()
-    ensures { (expression : ExpressionTree) (store : Store) (array : Array) → AllSized store → value_of expression store ≡ Some array → IsSized array }
+    ensures { (expression : ExpressionTree) (store : Store) (array : Array) → AllSized store
+        → value_of expression store ≡ Some array → IsSized array }
 {}

@@ -44,7 +44,8 @@ fn add_row(
     requires q { q < 2 ^ 32 }
     requires i { i < 2 ^ 32 }
     requires so_far { found.old.items ≡ at_places (i * q) (product_place m q left.now right.now) }
-    ensures { OnOk result (found.new.items ≡ at_places ((i + 1) * q) (product_place m q left.now right.now)) }
+    ensures { OnOk result (found.new.items ≡ at_places ((i + 1) * q)
+        (product_place m q left.now right.now)) }
 {
     'each: for j in 0..q {
         found.push(product(m, q, left, right, i, j))?;

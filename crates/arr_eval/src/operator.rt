@@ -59,7 +59,8 @@ pub fn single_value(
     function: SingleFunction,
     array: &Array,
 ) -> Result<Array, Stopped>
-    ensures { Follows (λ array. array) result (value_of_single function array.now.items array.now.shape) }
+    ensures { Follows (λ array. array) result
+        (value_of_single function array.now.items array.now.shape) }
 {
     match (function, array.shape) {
         (SingleFunction::Sum, _) => {
@@ -84,7 +85,8 @@ pub fn pair_value(
     left: &Array,
     right: Array,
 ) -> Result<Array, Stopped>
-    ensures { Follows (λ array. array) result (value_of_pair function left.now.items right.items left.now.shape right.shape) }
+    ensures { Follows (λ array. array) result
+        (value_of_pair function left.now.items right.items left.now.shape right.shape) }
 {
     let shape = left.shape;
     let other = right.shape;

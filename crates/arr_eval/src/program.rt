@@ -26,7 +26,8 @@ pub fn run_program(alloc: Global, program: &Program, numbers: &[Fp]) -> Result<V
 
 // The store of the inputs, and no outputs.
 fn begun(alloc: Global, inputs: &[Input], numbers: &[Fp]) -> Result<Progress, Stopped>
-    ensures { Follows (λ progress. progress) result (Some (begun_with (map input_tree inputs.now) numbers.now)) }
+    ensures { Follows (λ progress. progress) result
+        (Some (begun_with (map input_tree inputs.now) numbers.now)) }
 {
     let mut store = Store::new(alloc);
     store_inputs(&mut store, alloc, inputs, numbers)?;
@@ -39,7 +40,8 @@ fn run_top_statements(
     alloc: Global,
     statements: &[TopStatement],
 ) -> Result<(), Stopped>
-    ensures { Follows (λ _. progress.new) result (each after_top (map top_tree statements.now) progress.old) }
+    ensures { Follows (λ _. progress.new) result
+        (each after_top (map top_tree statements.now) progress.old) }
 {
     'each: for statement in statements {
         run_top_statement(progress, alloc, statement)?;

@@ -21,7 +21,8 @@ use std::alloc::Global;
 #[cycle(statement)]
 #[tactic(auto, using(crate::proofs::StatementRows::of_statements))]
 pub fn run_statement(store: &mut Store, alloc: Global, statement: &Statement) -> Result<(), Stopped>
-    ensures { Follows (λ _. store.new) result (after_statement (statement_tree statement.now) store.old) }
+    ensures { Follows (λ _. store.new) result
+        (after_statement (statement_tree statement.now) store.old) }
 {
     match statement {
         Statement::Let {
@@ -60,7 +61,8 @@ fn counted_loop(
     high: &IndexExpression,
 ) -> Result<(), Stopped>
     ensures { Follows (λ _. store.new) result
-        (after_loop (name_tree name.now) (sum_tree low.now) (sum_tree high.now) (each after_statement (map statement_tree body.now)) store.old) }
+        (after_loop (name_tree name.now) (sum_tree low.now) (sum_tree high.now)
+        (each after_statement (map statement_tree body.now)) store.old) }
 {
     let (first, end) = bounds(store.names(), low, high)?;
     all_turns(store, alloc, name, first, end, body)
@@ -79,7 +81,9 @@ fn all_turns(
 ) -> Result<(), Stopped>
     requires { first ≤ end }
     ensures { Follows (λ _. store.new) result
-        (turns (end - first) first (after_turn (name_tree name.now) (each after_statement (map statement_tree body.now))) store.old) }
+        (turns (end - first) first
+        (after_turn (name_tree name.now) (each after_statement (map statement_tree body.now)))
+        store.old) }
 {
     'each: for turn in first..end {
         one_turn(store, alloc, name, turn, body)?;
@@ -98,7 +102,8 @@ fn one_turn(
     body: &[Statement],
 ) -> Result<(), Stopped>
     ensures { Follows (λ _. store.new) result
-        (after_turn (name_tree name.now) (each after_statement (map statement_tree body.now)) turn store.old) }
+        (after_turn (name_tree name.now) (each after_statement (map statement_tree body.now)) turn
+        store.old) }
 {
     let kept = store.len();
     let numbers = SharedList::one(Fp::reduce(u64::from(turn)));
@@ -112,7 +117,8 @@ fn one_turn(
 #[cycle(statement)]
 #[tactic(auto, using(crate::proofs::StatementRows::of_statements))]
 fn run_all(store: &mut Store, alloc: Global, statements: &[Statement]) -> Result<(), Stopped>
-    ensures { Follows (λ _. store.new) result (each after_statement (map statement_tree statements.now) store.old) }
+    ensures { Follows (λ _. store.new) result
+        (each after_statement (map statement_tree statements.now) store.old) }
 {
     'each: for statement in statements {
         run_statement(store, alloc, statement)?;
@@ -127,7 +133,8 @@ fn declare(
     name: &Name,
     expression: &Expression,
 ) -> Result<(), Stopped>
-    ensures { Follows (λ _. store.new) result (declared (name_tree name.now) (expression_tree expression.now) store.old) }
+    ensures { Follows (λ _. store.new) result
+        (declared (name_tree name.now) (expression_tree expression.now) store.old) }
 {
     let array = value(store, alloc, expression)?;
     store.declare(
@@ -146,7 +153,8 @@ fn assign(
     name: &Name,
     expression: &Expression,
 ) -> Result<(), Stopped>
-    ensures { Follows (λ _. store.new) result (assigned (name_tree name.now) (expression_tree expression.now) store.old) }
+    ensures { Follows (λ _. store.new) result
+        (assigned (name_tree name.now) (expression_tree expression.now) store.old) }
 {
     let array = value(store, alloc, expression)?;
     store.set(name.text.as_slice(), array.items);
@@ -162,7 +170,8 @@ fn assign_element(
     expression: &Expression,
 ) -> Result<(), Stopped>
     ensures { Follows (λ _. store.new) result
-        (element_assigned (name_tree name.now) (indices_tree indices.now) (expression_tree expression.now) store.old) }
+        (element_assigned (name_tree name.now) (indices_tree indices.now)
+        (expression_tree expression.now) store.old) }
 {
     let place = element_offset(store, name, indices)?;
     let array = value(store, alloc, expression)?;

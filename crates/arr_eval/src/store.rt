@@ -130,7 +130,8 @@ impl Store {
         place: usize,
         number: Fp,
     ) -> Result<(), AllocError>
-        ensures { OnOk result (self.new ≡ with_numbers name.now (set (numbers_of name.now self.old) place number) self.old) }
+        ensures { OnOk result (self.new ≡ with_numbers name.now
+            (set (numbers_of name.now self.old) place number) self.old) }
     {
         match self.names.place(name) {
             Some(at) => set_number_at(alloc, &mut self.numbers, at, place, number),
@@ -188,7 +189,8 @@ fn set_number_at(
     place: usize,
     number: Fp,
 ) -> Result<(), AllocError>
-    ensures { OnOk result (numbers.new ≡ set numbers.old at (set (get_or numbers.old at []) place number)) }
+    ensures { OnOk result (numbers.new ≡ set numbers.old at
+        (set (get_or numbers.old at []) place number)) }
 {
     if at < numbers.len() {
         numbers[at].set(alloc, place, number)?;

@@ -4,7 +4,8 @@ use Rattle.arr_lex.specs.declared.token.Token.{Token}
 
 -- the token, so many bytes further on
 abbrev pub moved_token : ℕ → Token → Token
-moved_token distance token = record token { start = token.start + distance; end = token.end + distance }
+moved_token distance token =
+    record token { start = token.start + distance; end = token.end + distance }
 
 -- the tokens, or the refused place, so many bytes further on
 abbrev pub moved : ℕ → Result (List Token) ℕ → Result (List Token) ℕ

@@ -37,14 +37,21 @@ pub record Lowered : Type 0 where
   pub nodes : List Node
 
 abbrev pub of_shape : ShapeOf → Made → Lowered
-of_shape shape made = record { array = record { shape = shape; items = made.items }; nodes = made.nodes }
+of_shape shape made = record {
+  array = record { shape = shape; items = made.items };
+  nodes = made.nodes;
+}
 
 abbrev pub of_scalar : MadeOne → Lowered
-of_scalar one = record { array = record { shape = Scalar; items = one.item ∷ [] }; nodes = one.nodes }
+of_scalar one = record {
+  array = record { shape = Scalar; items = one.item ∷ [] };
+  nodes = one.nodes;
+}
 
 -- an array of nodes that were made before
 abbrev pub of_made : ShapeOf → List ℕ → List Node → Lowered
-of_made shape items nodes = record { array = record { shape = shape; items = items }; nodes = nodes }
+of_made shape items nodes =
+    record { array = record { shape = shape; items = items }; nodes = nodes }
 
 abbrev pub signed_items : Sign → List ℕ → List ℕ → List Node → Made
 signed_items Plus left right nodes = pairwise_nodes Add left right nodes
@@ -53,12 +60,14 @@ signed_items Minus left right nodes = difference_nodes left right nodes
 -- a sum or difference of arrays of one shape
 abbrev pub signed_array : Sign → NodeArray → NodeArray → List Node → Option Lowered
 signed_array sign left right nodes =
-    if same_shape left.shape right.shape then Some (of_shape left.shape (signed_items sign left.items right.items nodes)) else None
+    if same_shape left.shape right.shape
+    then Some (of_shape left.shape (signed_items sign left.items right.items nodes)) else None
 
 -- the products of arrays of one shape
 abbrev pub times_array : NodeArray → NodeArray → List Node → Option Lowered
 times_array left right nodes =
-    if same_shape left.shape right.shape then Some (of_shape left.shape (pairwise_nodes Mul left.items right.items nodes)) else None
+    if same_shape left.shape right.shape
+    then Some (of_shape left.shape (pairwise_nodes Mul left.items right.items nodes)) else None
 
 abbrev pub negated_array : Lowered → Lowered
 negated_array found = of_shape found.array.shape (negated_nodes found.array.items found.nodes)
@@ -66,20 +75,24 @@ negated_array found = of_shape found.array.shape (negated_nodes found.array.item
 abbrev pub single_array : SingleFunction → List ℕ → ShapeOf → List Node → Option Lowered
 single_array Sum items shape nodes = Some (of_scalar (sum_node items nodes))
 single_array Transpose items (Matrix n m) nodes =
-    if length items == n * m then Some (of_made (Matrix m n) (transposed_items n m items) nodes) else None
+    if length items == n * m then Some (of_made (Matrix m n) (transposed_items n m items) nodes)
+    else None
 single_array Transpose items shape nodes = None
 
 -- each of a list times the one before it
 abbrev pub scaled_array : List ℕ → List ℕ → ShapeOf → List Node → Option Lowered
-scaled_array (factor ∷ []) right shape nodes = Some (of_shape shape (scaled_nodes factor right nodes))
+scaled_array (factor ∷ []) right shape nodes =
+    Some (of_shape shape (scaled_nodes factor right nodes))
 scaled_array left right shape nodes = None
 
-abbrev pub pair_array : PairFunction → List ℕ → List ℕ → ShapeOf → ShapeOf → List Node → Option Lowered
+abbrev pub pair_array : PairFunction → List ℕ → List ℕ → ShapeOf → ShapeOf → List Node
+    → Option Lowered
 pair_array Scale left right Scalar shape nodes = scaled_array left right shape nodes
 pair_array Dot left right (Vector n) (Vector m) nodes =
     if n == m then Some (of_scalar (dot_node (zip left right) nodes)) else None
 pair_array MatMul left right (Matrix n m) (Matrix k q) nodes =
-    if (m == k) && ((length left == n * m) && (length right == k * q)) then Some (of_shape (Matrix n q) (matmul_nodes n m q left right nodes)) else None
+    if (m == k) && ((length left == n * m) && (length right == k * q))
+    then Some (of_shape (Matrix n q) (matmul_nodes n m q left right nodes)) else None
 pair_array function left right shape other nodes = None
 
 -- what a name of the program stands for; a loop variable is a constant
@@ -89,7 +102,8 @@ bound_array (Some (Turn number)) items nodes = Some (of_scalar (constant_node nu
 bound_array (Some (Value shape)) items nodes = Some (of_made shape items nodes)
 
 abbrev pub name_array : NameTree → NodeStore → List Node → Option Lowered
-name_array name store nodes = bound_array (binding_of name.text store.names) (items_of name.text store) nodes
+name_array name store nodes =
+    bound_array (binding_of name.text store.names) (items_of name.text store) nodes
 
 -- the shape of a name that has nodes
 abbrev pub value_shape : Option Binding → Option ShapeOf
@@ -99,49 +113,61 @@ value_shape binding = None
 -- where an element of a name stands in its list
 abbrev pub element_place : NameTree → IndicesTree → NodeStore → Option ℕ
 element_place name indices store =
-    if_there (element_at store.names name.at indices (binding_of name.text store.names)) >>= λ place.
+    if_there (element_at store.names name.at indices (binding_of name.text store.names)) >>=
+    λ place.
     value_shape (binding_of name.text store.names) >>= λ shape. Some (offset shape place)
 
 abbrev pub element_array : NameTree → IndicesTree → NodeStore → List Node → Option Lowered
 element_array name indices store nodes =
-    element_place name indices store >>= λ place. slice_get (items_of name.text store) place >>= λ item. Some (of_made Scalar (item ∷ []) nodes)
+    element_place name indices store >>= λ place. slice_get (items_of name.text store) place >>=
+    λ item. Some (of_made Scalar (item ∷ []) nodes)
 
 abbrev mutual
   pub expression_array : ExpressionTree → NodeStore → List Node → Option Lowered
-  expression_array (ExpressionOf first added) store nodes = term_array first store nodes >>= added_array added store
+  expression_array (ExpressionOf first added) store nodes =
+      term_array first store nodes >>= added_array added store
 
   pub added_array : AddedTree → NodeStore → Lowered → Option Lowered
   added_array NoTerm store left = Some left
   added_array (Added sign at term rest) store left =
-      (term_array term store left.nodes >>= λ right. signed_array sign left.array right.array right.nodes) >>= added_array rest store
+      (term_array term store left.nodes >>= λ right. signed_array sign left.array right.array
+      right.nodes) >>= added_array rest store
 
   pub term_array : TermTree → NodeStore → List Node → Option Lowered
-  term_array (TermOf first times) store nodes = factor_array first store nodes >>= times_array_of times store
+  term_array (TermOf first times) store nodes =
+      factor_array first store nodes >>= times_array_of times store
 
   pub times_array_of : TimesTree → NodeStore → Lowered → Option Lowered
   times_array_of NoFactor store left = Some left
   times_array_of (Times at factor rest) store left =
-      (factor_array factor store left.nodes >>= λ right. times_array left.array right.array right.nodes) >>= times_array_of rest store
+      (factor_array factor store left.nodes >>= λ right. times_array left.array right.array
+      right.nodes) >>= times_array_of rest store
 
   pub factor_array : FactorTree → NodeStore → List Node → Option Lowered
   factor_array (Number at value) store nodes = Some (of_scalar (constant_node value nodes))
   factor_array (Name name) store nodes = name_array name store nodes
   factor_array (Element name indices) store nodes = element_array name indices store nodes
-  factor_array (Negation at operand) store nodes = factor_array operand store nodes >>= λ found. Some (negated_array found)
+  factor_array (Negation at operand) store nodes =
+      factor_array operand store nodes >>= λ found. Some (negated_array found)
   factor_array (Parenthesized at inner) store nodes = expression_array inner store nodes
   factor_array (Single function at parenthesis argument) store nodes =
-      expression_array argument store nodes >>= λ found. single_array function found.array.items found.array.shape found.nodes
+      expression_array argument store nodes >>= λ found. single_array function found.array.items
+      found.array.shape found.nodes
   factor_array (Pair function at parenthesis left right) store nodes =
-      expression_array left store nodes >>= λ left. expression_array right store left.nodes >>= λ right.
-      pair_array function left.array.items right.array.items left.array.shape right.array.shape right.nodes
+      expression_array left store nodes >>= λ left. expression_array right store left.nodes >>=
+      λ right.
+      pair_array function left.array.items right.array.items left.array.shape right.array.shape
+      right.nodes
 
 abbrev pub added_term_array : AddedTerm → NodeStore → Lowered → Option Lowered
 added_term_array (AddedTerm' sign at term) store left =
-    term_array (term_tree term) store left.nodes >>= λ right. signed_array sign left.array right.array right.nodes
+    term_array (term_tree term) store left.nodes >>= λ right. signed_array sign left.array
+    right.array right.nodes
 
 abbrev pub times_factor_array : TimesFactor → NodeStore → Lowered → Option Lowered
 times_factor_array times store left =
-    factor_array (factor_tree times.factor) store left.nodes >>= λ right. times_array left.array right.array right.nodes
+    factor_array (factor_tree times.factor) store left.nodes >>= λ right.
+    times_array left.array right.array right.nodes
 
 -- the names and all nodes made so far
 pub record Lowering : Type 0 where
@@ -156,44 +182,68 @@ turns (suc left) turn body lowering = body turn lowering >>= turns left (turn + 
 -- a turn is a block with the loop variable
 abbrev pub one_turn : NameTree → (Lowering → Option Lowering) → ℕ → Lowering → Option Lowering
 one_turn name body turn lowering =
-    body (record { store = with_name name.text (Turn turn) [] lowering.store; nodes = lowering.nodes }) >>= λ after.
-    Some (record { store = without_block (length lowering.store.names) after.store; nodes = after.nodes })
+    body (record {
+      store = with_name name.text (Turn turn) [] lowering.store;
+      nodes = lowering.nodes;
+    }) >>= λ after.
+    Some (record {
+      store = without_block (length lowering.store.names) after.store;
+      nodes = after.nodes;
+    })
 
-abbrev pub counted_loop : NameTree → IndexSum → IndexSum → (Lowering → Option Lowering) → Lowering → Option Lowering
+abbrev pub counted_loop : NameTree → IndexSum → IndexSum → (Lowering → Option Lowering) → Lowering
+    → Option Lowering
 counted_loop name low high body lowering =
-    if_there (bounds_of lowering.store.names low high) >>= λ (first, end). turns (end - first) first (one_turn name body) lowering
+    if_there (bounds_of lowering.store.names low high) >>= λ (first, end). turns (end - first) first
+    (one_turn name body) lowering
 
 abbrev pub declared : NameTree → ExpressionTree → Lowering → Option Lowering
 declared name value lowering =
     expression_array value lowering.store lowering.nodes >>= λ found.
-    Some (record { store = with_name name.text (Value found.array.shape) found.array.items lowering.store; nodes = found.nodes })
+    Some (record {
+      store = with_name name.text (Value found.array.shape) found.array.items
+          lowering.store;
+      nodes = found.nodes;
+    })
 
 -- only a name that has nodes may be assigned
 abbrev pub assigned : NameTree → ExpressionTree → Lowering → Option Lowering
 assigned name value lowering =
-    value_shape (binding_of name.text lowering.store.names) >>= λ shape. expression_array value lowering.store lowering.nodes >>= λ found.
-    Some (record { store = with_items name.text found.array.items lowering.store; nodes = found.nodes })
+    value_shape (binding_of name.text lowering.store.names) >>= λ shape.
+    expression_array value lowering.store lowering.nodes >>= λ found.
+    Some (record {
+      store = with_items name.text found.array.items lowering.store;
+      nodes = found.nodes;
+    })
 
 -- with one node of a name set, to the only one of a list
 abbrev pub with_item : NameTree → ℕ → List ℕ → NodeStore → Option NodeStore
-with_item name place (item ∷ []) store = Some (with_items name.text (set (items_of name.text store) place item) store)
+with_item name place (item ∷ []) store =
+    Some (with_items name.text (set (items_of name.text store) place item) store)
 with_item name place items store = None
 
 abbrev pub element_assigned : NameTree → IndicesTree → ExpressionTree → Lowering → Option Lowering
 element_assigned name indices value lowering =
-    element_place name indices lowering.store >>= λ place. expression_array value lowering.store lowering.nodes >>= λ found.
-    with_item name place found.array.items lowering.store >>= λ store. Some (record { store = store; nodes = found.nodes })
+    element_place name indices lowering.store >>= λ place. expression_array value lowering.store
+    lowering.nodes >>= λ found.
+    with_item name place found.array.items lowering.store >>= λ store. Some (record {
+      store = store;
+      nodes = found.nodes;
+    })
 
 abbrev mutual
   pub after_statement : StatementTree → Lowering → Option Lowering
   after_statement (Let at name value) lowering = declared name value lowering
   after_statement (Set name value) lowering = assigned name value lowering
-  after_statement (SetElement name indices value) lowering = element_assigned name indices value lowering
-  after_statement (For at name low high body) lowering = counted_loop name low high (after_block body) lowering
+  after_statement (SetElement name indices value) lowering =
+      element_assigned name indices value lowering
+  after_statement (For at name low high body) lowering =
+      counted_loop name low high (after_block body) lowering
 
   pub after_block : BlockTree → Lowering → Option Lowering
   after_block EndOfBlock lowering = Some lowering
-  after_block (Then statement rest) lowering = after_statement statement lowering >>= after_block rest
+  after_block (Then statement rest) lowering =
+      after_statement statement lowering >>= after_block rest
 
 -- the names, all nodes made so far, and the outputs so far
 pub record Progress : Type 0 where
@@ -203,16 +253,23 @@ pub record Progress : Type 0 where
 abbrev pub after_top : TopTree → Progress → Option Progress
 after_top (Output at value) progress =
     expression_array value progress.lowering.store progress.lowering.nodes >>= λ found.
-    Some (record { lowering = record { store = progress.lowering.store; nodes = found.nodes }; outputs = progress.outputs ++ found.array.items })
+    Some (record {
+      lowering = record { store = progress.lowering.store; nodes = found.nodes };
+      outputs = progress.outputs ++ found.array.items;
+    })
 after_top (Inner statement) progress =
-    after_statement statement progress.lowering >>= λ lowering. Some (record { lowering = lowering; outputs = progress.outputs })
+    after_statement statement progress.lowering >>= λ lowering. Some (record {
+      lowering = lowering;
+      outputs = progress.outputs;
+    })
 
 -- the store of the inputs, whose elements are the nodes from one number on, in order
 abbrev pub store_from : ℕ → List InputTree → NodeStore → NodeStore
 store_from first [] store = store
 store_from first (input ∷ inputs) store =
     store_from (first + numbers_of_input input) inputs
-    (with_name input.name.text (Value (declared_shape input.dimensions)) (range_with_len first (numbers_of_input input)) store)
+    (with_name input.name.text (Value (declared_shape input.dimensions))
+    (range_with_len first (numbers_of_input input)) store)
 
 -- each input element is a leaf, in order
 abbrev pub begun : List InputTree → Progress
@@ -228,4 +285,8 @@ begun inputs = record {
 abbrev pub nodes_of : ProgramTree → Option Nodes
 nodes_of program =
     each after_top program.statements (begun program.inputs) >>= λ progress.
-    Some (record { inputs = input_count program.inputs; nodes = progress.lowering.nodes; outputs = progress.outputs })
+    Some (record {
+      inputs = input_count program.inputs;
+      nodes = progress.lowering.nodes;
+      outputs = progress.outputs;
+    })

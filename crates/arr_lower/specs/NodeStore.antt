@@ -28,11 +28,13 @@ set_at (Some place) new items = set items place new
 
 -- with other nodes of a name
 abbrev pub with_items : List ℕ → List ℕ → NodeStore → NodeStore
-with_items name new store = record store { items = set_at (place_of name store.names) new store.items }
+with_items name new store =
+    record store { items = set_at (place_of name store.names) new store.items }
 
 -- with one more name
 abbrev pub with_name : List ℕ → Binding → List ℕ → NodeStore → NodeStore
-with_name name binding new store = record { names = store.names ++ (name, binding) ∷ []; items = store.items ++ new ∷ [] }
+with_name name binding new store =
+    record { names = store.names ++ (name, binding) ∷ []; items = store.items ++ new ∷ [] }
 
 -- the names that were there before a block
 abbrev pub without_block : ℕ → NodeStore → NodeStore

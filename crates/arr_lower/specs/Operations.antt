@@ -21,7 +21,8 @@ pub record MadeOne : Type 0 where
 abbrev pub made_after : {A : Type 0} → (A → List Node → MadeOne) → List A → Made → Made
 made_after make [] made = made
 made_after make (x ∷ xs) made =
-    let one = make x made.nodes in made_after make xs (record { items = made.items ++ one.item ∷ []; nodes = one.nodes })
+    let one = make x made.nodes in
+    made_after make xs (record { items = made.items ++ one.item ∷ []; nodes = one.nodes })
 
 abbrev pub made_each : {A : Type 0} → (A → List Node → MadeOne) → List A → List Node → Made
 made_each make xs nodes = made_after make xs (record { items = []; nodes = nodes })
@@ -39,7 +40,8 @@ constant_place value nodes = position_or_len (is_constant (of value)) nodes
 abbrev pub constant_node : ℕ → List Node → MadeOne
 constant_node value nodes = record {
   item = constant_place value nodes;
-  nodes = if nat_lt (constant_place value nodes) (length nodes) then nodes else nodes ++ Constant (of value) ∷ [];
+  nodes = if nat_lt (constant_place value nodes) (length nodes) then nodes
+      else nodes ++ Constant (of value) ∷ [];
 }
 
 -- p - 1, which is -1
@@ -55,7 +57,8 @@ operation_node kind pair nodes = record {
 
 -- the second of a pair times -1, and the first plus that
 abbrev pub difference_node : ℕ → ℕ × ℕ → List Node → MadeOne
-difference_node factor pair nodes = operation_node Add (pair.0, length nodes) (operation_node Mul (pair.1, factor) nodes).nodes
+difference_node factor pair nodes =
+    operation_node Add (pair.0, length nodes) (operation_node Mul (pair.1, factor) nodes).nodes
 
 -- element by element of two lists
 abbrev pub pairwise_nodes : Kind → List ℕ → List ℕ → List Node → Made
@@ -68,11 +71,13 @@ scaled_nodes factor items nodes = made_each (λ item. operation_node Mul (factor
 -- each times -1
 abbrev pub negated_nodes : List ℕ → List Node → Made
 negated_nodes items nodes =
-    let factor = constant_node minus_one nodes in made_each (λ item. operation_node Mul (item, factor.item)) items factor.nodes
+    let factor = constant_node minus_one nodes in
+    made_each (λ item. operation_node Mul (item, factor.item)) items factor.nodes
 
 abbrev pub difference_nodes : List ℕ → List ℕ → List Node → Made
 difference_nodes left right nodes =
-    let factor = constant_node minus_one nodes in made_each (difference_node factor.item) (zip left right) factor.nodes
+    let factor = constant_node minus_one nodes in
+    made_each (difference_node factor.item) (zip left right) factor.nodes
 
 -- the first n / 2 of n, rounded up
 abbrev pub first_half : ℕ → ℕ
@@ -94,16 +99,20 @@ sum_node items nodes = sum_within (length items) items nodes
 
 -- the products of pairs in order, then their sum
 abbrev pub dot_node : List (ℕ × ℕ) → List Node → MadeOne
-dot_node pairs nodes = let products = made_each (operation_node Mul) pairs nodes in sum_node products.items products.nodes
+dot_node pairs nodes = let products = made_each (operation_node Mul) pairs nodes in
+    sum_node products.items products.nodes
 
 -- row k / q of rows of m, with column k % q of rows of q
 abbrev pub product_pairs : ℕ → ℕ → List ℕ → List ℕ → ℕ → List (ℕ × ℕ)
-product_pairs m q left right k = map (λ l. (get_or left (k / q * m + l) 0, get_or right (l * q + k % q) 0)) (range_with_len 0 m)
+product_pairs m q left right k =
+    map (λ l. (get_or left (k / q * m + l) 0, get_or right (l * q + k % q) 0)) (range_with_len 0 m)
 
 -- the elements of a product of n rows of m and m rows of q, row by row
 abbrev pub matmul_nodes : ℕ → ℕ → ℕ → List ℕ → List ℕ → List Node → Made
-matmul_nodes n m q left right nodes = made_each (λ k. dot_node (product_pairs m q left right k)) (range_with_len 0 (n * q)) nodes
+matmul_nodes n m q left right nodes =
+    made_each (λ k. dot_node (product_pairs m q left right k)) (range_with_len 0 (n * q)) nodes
 
 -- n rows of m, as m rows of n
 abbrev pub transposed_items : ℕ → ℕ → List ℕ → List ℕ
-transposed_items n m items = map (λ k. get_or items (k % n * m + k / n) 0) (range_with_len 0 (m * n))
+transposed_items n m items =
+    map (λ k. get_or items (k % n * m + k / n) 0) (range_with_len 0 (m * n))

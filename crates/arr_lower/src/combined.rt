@@ -17,7 +17,8 @@ pub fn combined(
     left: &SharedList<u32>,
     right: &SharedList<u32>,
 ) -> Result<SharedList<u32>, AllocError>
-    ensures { IfOk result (λ items. pairwise_nodes kind left.now right.now nodes.old ≡ record { items = items; nodes = nodes.new }) }
+    ensures { IfOk result (λ items. pairwise_nodes kind left.now right.now nodes.old
+        ≡ record { items = items; nodes = nodes.new }) }
 {
     match (left.only(), right.only()) {
         (Some(a), Some(b)) => {
@@ -35,7 +36,8 @@ fn combined_lists(
     left: &SharedList<u32>,
     right: &SharedList<u32>,
 ) -> Result<SharedList<u32>, AllocError>
-    ensures { IfOk result (λ items. pairwise_nodes kind left.now right.now nodes.old ≡ record { items = items; nodes = nodes.new }) }
+    ensures { IfOk result (λ items. pairwise_nodes kind left.now right.now nodes.old
+        ≡ record { items = items; nodes = nodes.new }) }
 {
     let left = left.in_order(alloc)?;
     let right = right.in_order(alloc)?;
@@ -50,7 +52,10 @@ pub fn subtracted(
     left: &SharedList<u32>,
     right: &SharedList<u32>,
 ) -> Result<SharedList<u32>, AllocError>
-    ensures { IfOk result (λ items. difference_nodes left.now right.now nodes.old ≡ record { items = items; nodes = nodes.new }) }
+    ensures { IfOk result (λ items. difference_nodes left.now right.now nodes.old ≡ record {
+      items = items;
+      nodes = nodes.new;
+    }) }
 {
     let left = left.in_order(alloc)?;
     let right = right.in_order(alloc)?;

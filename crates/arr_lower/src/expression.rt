@@ -151,7 +151,8 @@ fn of_two(
 ) -> Result<NodeArray, Stopped>
     ensures { Follows (λ array. record { array = array; nodes = nodes.new }) result
         (and_then (expression_array (expression_tree right.now) store.now nodes.old) (λ right.
-        pair_array function left.now.items right.array.items left.now.shape right.array.shape right.nodes)) }
+        pair_array function left.now.items right.array.items left.now.shape right.array.shape
+        right.nodes)) }
 {
     let right = array(store, nodes, alloc, right)?;
     pair(nodes, alloc, function, left, &right)
@@ -159,7 +160,10 @@ fn of_two(
 
 // The nodes of a name. A loop variable is a constant.
 fn named(store: &Store, nodes: &mut Nodes, alloc: Global, name: &Name) -> Result<NodeArray, Stopped>
-    ensures { Follows (λ array. record { array = array; nodes = nodes.new }) result (name_array (name_tree name.now) store.now nodes.old) }
+    ensures { Follows (λ array. record {
+      array = array;
+      nodes = nodes.new;
+    }) result (name_array (name_tree name.now) store.now nodes.old) }
 {
     match store.names().get(name.text.as_slice()) {
         Some(Binding::Value(shape)) => {
@@ -173,7 +177,10 @@ fn named(store: &Store, nodes: &mut Nodes, alloc: Global, name: &Name) -> Result
 
 // The node of an element.
 fn element(store: &Store, name: &Name, indices: &Indices) -> Result<NodeArray, Stopped>
-    ensures { (nodes : List Node) → Follows (λ array. record { array = array; nodes = nodes }) result
+    ensures { (nodes : List Node) → Follows (λ array. record {
+      array = array;
+      nodes = nodes;
+    }) result
         (element_array (name_tree name.now) (indices_tree indices.now) store.now nodes) }
 {
     let place = element_offset(store, name, indices)?;

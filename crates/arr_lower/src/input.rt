@@ -46,8 +46,11 @@ fn store_input(
     input: &Input,
     first: u32,
 ) -> Result<u32, AllocError>
-    ensures next { IfOk result (λ next. next ≡ first + size_of (shape_of_input input.now.dimensions)) }
-    ensures store { OnOk result (store.new ≡ with_name input.now.name.text.items (Value (shape_of_input input.now.dimensions))
+    ensures next { IfOk result
+        (λ next. next ≡ first + size_of (shape_of_input input.now.dimensions)) }
+    ensures store { OnOk result
+        (store.new ≡ with_name input.now.name.text.items
+        (Value (shape_of_input input.now.dimensions))
         (range_with_len first (size_of (shape_of_input input.now.dimensions))) store.old) }
 {
     let size = numbers_of(input.dimensions);

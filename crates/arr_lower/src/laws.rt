@@ -11,19 +11,22 @@ ghost use Rattle.arr_lower.specs.Lowering.{nodes_of};
 
 /// A program that the checks accept has nodes.
 pub fn has_nodes()
-    ensures { (program : ProgramTree) → IsTrue (is_ok (run_program program)) → IsSome (nodes_of program) }
+    ensures { (program : ProgramTree) → IsTrue (is_ok (run_program program))
+        → IsSome (nodes_of program) }
 {}
 
 /// The outputs of an accepted program are as many nodes as the checks count, and at least one.
 pub fn has_outputs()
-    ensures { (program : ProgramTree) (nodes : Nodes) → IsTrue (is_ok (run_program program)) → nodes_of program ≡ Some nodes →
+    ensures { (program : ProgramTree) (nodes : Nodes) → IsTrue (is_ok (run_program program))
+        → nodes_of program ≡ Some nodes →
         (length nodes.outputs ≡ (run_end program).outputs) × (1 ≤ length nodes.outputs) }
 {}
 
 /// The nodes of a program stand in order: each names inputs of the program and nodes before it,
 /// and each output is one of them.
 pub fn nodes_in_order()
-    ensures inputs { (program : ProgramTree) (nodes : Nodes) → nodes_of program ≡ Some nodes → nodes.inputs ≡ input_count program.inputs }
+    ensures inputs { (program : ProgramTree) (nodes : Nodes) → nodes_of program ≡ Some nodes
+        → nodes.inputs ≡ input_count program.inputs }
     ensures fine { (program : ProgramTree) (nodes : Nodes) → nodes_of program ≡ Some nodes →
         (k : ℕ) → k < length nodes.nodes → IsFineAt nodes.inputs k (node_at nodes k) }
     ensures outputs { (program : ProgramTree) (nodes : Nodes) → nodes_of program ≡ Some nodes →
@@ -32,6 +35,8 @@ pub fn nodes_in_order()
 
 /// What a program puts out for its inputs are the values of its output nodes.
 pub fn nodes_mean()
-    ensures { (program : ProgramTree) (nodes : Nodes) (inputs : List F) → nodes_of program ≡ Some nodes → length inputs ≡ input_count program.inputs →
-        meaning program inputs ≡ Some (map (λ k. slice_index_or (values nodes inputs) k zero_f) nodes.outputs) }
+    ensures { (program : ProgramTree) (nodes : Nodes) (inputs : List F)
+        → nodes_of program ≡ Some nodes → length inputs ≡ input_count program.inputs →
+        meaning program inputs ≡ Some
+        (map (λ k. slice_index_or (values nodes inputs) k zero_f) nodes.outputs) }
 {}

@@ -34,7 +34,11 @@ pub fn lower(alloc: Global, checked: &Checked) -> Result<NodeList, AllocError>
 
 // The list of what a run has made.
 fn list_of(checked: &Checked, inputs: u32, progress: Progress) -> Result<NodeList, AllocError>
-    requires { nodes_of (program_tree checked.now.program) ≡ Some (record { inputs = inputs; nodes = progress.lowering.nodes; outputs = progress.outputs }) }
+    requires { nodes_of (program_tree checked.now.program) ≡ Some (record {
+      inputs = inputs;
+      nodes = progress.lowering.nodes;
+      outputs = progress.outputs;
+    }) }
     ensures nodes { IfOk result (λ list. nodes_of (program_tree checked.now.program) ≡ Some list) }
     ensures in_order { IfOk result (λ list. IsNodeList list) }
 {

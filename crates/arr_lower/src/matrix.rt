@@ -23,7 +23,8 @@ pub fn matrix_product(
     requires n { n < 2 ^ 32 }
     requires m { m < 2 ^ 32 }
     requires q { q < 2 ^ 32 }
-    ensures { IfOk result (λ found. matmul_nodes n m q left.now right.now nodes.old ≡ record { items = found.items; nodes = nodes.new }) }
+    ensures { IfOk result (λ found. matmul_nodes n m q left.now right.now nodes.old
+        ≡ record { items = found.items; nodes = nodes.new }) }
 {
     let mut found = Vec::new(alloc);
     'each: for k in 0..n * q {
@@ -48,7 +49,8 @@ fn product(
     requires i { i < 2 ^ 32 }
     requires j { j < 2 ^ 32 }
     ensures { IfOk result (λ item.
-        dot_node (map (λ l. (get_or left.now (i * m + l) 0, get_or right.now (l * q + j) 0)) (range_with_len 0 m)) nodes.old
+        dot_node (map (λ l. (get_or left.now (i * m + l) 0, get_or right.now (l * q + j) 0))
+        (range_with_len 0 m)) nodes.old
         ≡ record { item = item; nodes = nodes.new }) }
 {
     let products = products(nodes, alloc, m, q, left, right, i, j)?;
@@ -71,7 +73,9 @@ fn products(
     requires i { i < 2 ^ 32 }
     requires j { j < 2 ^ 32 }
     ensures { IfOk result (λ found.
-        made_each (operation_node Mul) (map (λ l. (get_or left.now (i * m + l) 0, get_or right.now (l * q + j) 0)) (range_with_len 0 m)) nodes.old
+        made_each (operation_node Mul)
+        (map (λ l. (get_or left.now (i * m + l) 0, get_or right.now (l * q + j) 0))
+        (range_with_len 0 m)) nodes.old
         ≡ record { items = found.items; nodes = nodes.new }) }
 {
     let mut found = Vec::new(alloc);

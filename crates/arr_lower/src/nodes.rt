@@ -49,7 +49,10 @@ impl Nodes {
 
     /// The node of a constant, modulo the prime, which is made where there is none.
     pub fn constant(&mut self, value: u32) -> Result<u32, AllocError>
-        ensures { IfOk result (λ item. constant_node value self.old ≡ record { item = item; nodes = self.new }) }
+        ensures { IfOk result (λ item. constant_node value self.old ≡ record {
+          item = item;
+          nodes = self.new;
+        }) }
     {
         let constant = Fp::reduce(u64::from(value));
         match self.places.get(&constant.value()).copied() {
@@ -80,7 +83,10 @@ impl Nodes {
 
     /// A sum or a product of two nodes, which is made.
     pub fn operation(&mut self, kind: Kind, left: u32, right: u32) -> Result<u32, AllocError>
-        ensures { IfOk result (λ item. operation_node kind (left, right) self.old ≡ record { item = item; nodes = self.new }) }
+        ensures { IfOk result (λ item. operation_node kind (left, right) self.old ≡ record {
+          item = item;
+          nodes = self.new;
+        }) }
     {
         self.add(Node::Operation(CircuitGate { kind, left, right }))
     }

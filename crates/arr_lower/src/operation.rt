@@ -20,7 +20,8 @@ pub fn pairwise(
     left: &[u32],
     right: &[u32],
 ) -> Result<Vec<u32>, AllocError>
-    ensures { IfOk result (λ items. pairwise_nodes kind left.now right.now nodes.old ≡ record { items = items.items; nodes = nodes.new }) }
+    ensures { IfOk result (λ items. pairwise_nodes kind left.now right.now nodes.old
+        ≡ record { items = items.items; nodes = nodes.new }) }
 {
     let mut items = Vec::new(alloc);
     'each: for (a, b) in left.iter().zip(right) {
@@ -36,7 +37,10 @@ pub fn differences(
     left: &[u32],
     right: &[u32],
 ) -> Result<Vec<u32>, AllocError>
-    ensures { IfOk result (λ items. difference_nodes left.now right.now nodes.old ≡ record { items = items.items; nodes = nodes.new }) }
+    ensures { IfOk result (λ items. difference_nodes left.now right.now nodes.old ≡ record {
+      items = items.items;
+      nodes = nodes.new;
+    }) }
 {
     let factor = nodes.constant(MINUS_ONE)?;
     differences_by(nodes, alloc, factor, left, right)
@@ -50,7 +54,10 @@ fn differences_by(
     right: &[u32],
 ) -> Result<Vec<u32>, AllocError>
     ensures { IfOk result (λ items.
-        made_each (difference_node factor) (zip left.now right.now) nodes.old ≡ record { items = items.items; nodes = nodes.new }) }
+        made_each (difference_node factor) (zip left.now right.now) nodes.old ≡ record {
+          items = items.items;
+          nodes = nodes.new;
+        }) }
 {
     let mut items = Vec::new(alloc);
     'each: for (a, b) in left.iter().zip(right) {
@@ -61,7 +68,10 @@ fn differences_by(
 
 // A difference, by a factor that is -1.
 fn difference(nodes: &mut Nodes, factor: u32, left: u32, right: u32) -> Result<u32, AllocError>
-    ensures { IfOk result (λ item. difference_node factor (left, right) nodes.old ≡ record { item = item; nodes = nodes.new }) }
+    ensures { IfOk result (λ item. difference_node factor (left, right) nodes.old ≡ record {
+      item = item;
+      nodes = nodes.new;
+    }) }
 {
     let opposite = nodes.operation(Kind::Mul, right, factor)?;
     nodes.operation(Kind::Add, left, opposite)
@@ -69,7 +79,10 @@ fn difference(nodes: &mut Nodes, factor: u32, left: u32, right: u32) -> Result<u
 
 /// The negations of a list: each is taken times -1.
 pub fn negations(nodes: &mut Nodes, alloc: Global, items: &[u32]) -> Result<Vec<u32>, AllocError>
-    ensures { IfOk result (λ found. negated_nodes items.now nodes.old ≡ record { items = found.items; nodes = nodes.new }) }
+    ensures { IfOk result (λ found. negated_nodes items.now nodes.old ≡ record {
+      items = found.items;
+      nodes = nodes.new;
+    }) }
 {
     let factor = nodes.constant(MINUS_ONE)?;
     negations_by(nodes, alloc, factor, items)
@@ -82,7 +95,10 @@ fn negations_by(
     items: &[u32],
 ) -> Result<Vec<u32>, AllocError>
     ensures { IfOk result (λ found.
-        made_each (λ item. operation_node Mul (item, factor)) items.now nodes.old ≡ record { items = found.items; nodes = nodes.new }) }
+        made_each (λ item. operation_node Mul (item, factor)) items.now nodes.old ≡ record {
+          items = found.items;
+          nodes = nodes.new;
+        }) }
 {
     let mut found = Vec::new(alloc);
     'each: for item in items {
@@ -98,7 +114,10 @@ pub fn scaled(
     factor: u32,
     items: &[u32],
 ) -> Result<Vec<u32>, AllocError>
-    ensures { IfOk result (λ found. scaled_nodes factor items.now nodes.old ≡ record { items = found.items; nodes = nodes.new }) }
+    ensures { IfOk result (λ found. scaled_nodes factor items.now nodes.old ≡ record {
+      items = found.items;
+      nodes = nodes.new;
+    }) }
 {
     let mut found = Vec::new(alloc);
     'each: for item in items {

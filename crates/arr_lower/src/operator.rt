@@ -28,7 +28,10 @@ pub fn signed(
     left: &NodeArray,
     right: &NodeArray,
 ) -> Result<NodeArray, Stopped>
-    ensures { Follows (λ array. record { array = array; nodes = nodes.new }) result (signed_array sign left.now right.now nodes.old) }
+    ensures { Follows (λ array. record {
+      array = array;
+      nodes = nodes.new;
+    }) result (signed_array sign left.now right.now nodes.old) }
 {
     let shape = left.shape;
     if !is_alike(shape, right.shape) {
@@ -45,7 +48,8 @@ fn signed_items(
     left: &SharedList<u32>,
     right: &SharedList<u32>,
 ) -> Result<SharedList<u32>, AllocError>
-    ensures { IfOk result (λ items. items_of_signed sign left.now right.now nodes.old ≡ record { items = items; nodes = nodes.new }) }
+    ensures { IfOk result (λ items. items_of_signed sign left.now right.now nodes.old
+        ≡ record { items = items; nodes = nodes.new }) }
 {
     match sign {
         Sign::Plus => combined(nodes, alloc, Kind::Add, left, right),
@@ -60,7 +64,10 @@ pub fn times(
     left: &NodeArray,
     right: &NodeArray,
 ) -> Result<NodeArray, Stopped>
-    ensures { Follows (λ array. record { array = array; nodes = nodes.new }) result (times_array left.now right.now nodes.old) }
+    ensures { Follows (λ array. record {
+      array = array;
+      nodes = nodes.new;
+    }) result (times_array left.now right.now nodes.old) }
 {
     let shape = left.shape;
     if !is_alike(shape, right.shape) {
@@ -72,7 +79,10 @@ pub fn times(
 
 /// A negation.
 pub fn negated(nodes: &mut Nodes, alloc: Global, array: &NodeArray) -> Result<NodeArray, AllocError>
-    ensures { IfOk result (λ found. negated_array (record { array = array.now; nodes = nodes.old }) ≡ record { array = found; nodes = nodes.new }) }
+    ensures { IfOk result (λ found. negated_array (record {
+      array = array.now;
+      nodes = nodes.old;
+    }) ≡ record { array = found; nodes = nodes.new }) }
 {
     let shape = array.shape;
     let operand = array.items.in_order(alloc)?;
@@ -88,7 +98,10 @@ pub fn single(
     function: SingleFunction,
     array: &NodeArray,
 ) -> Result<NodeArray, Stopped>
-    ensures { Follows (λ found. record { array = found; nodes = nodes.new }) result (single_array function array.now.items array.now.shape nodes.old) }
+    ensures { Follows (λ found. record {
+      array = found;
+      nodes = nodes.new;
+    }) result (single_array function array.now.items array.now.shape nodes.old) }
 {
     match (function, array.shape) {
         (SingleFunction::Sum, _) => {
@@ -115,7 +128,8 @@ pub fn pair(
     right: &NodeArray,
 ) -> Result<NodeArray, Stopped>
     ensures { Follows (λ array. record { array = array; nodes = nodes.new }) result
-        (pair_array function left.now.items right.now.items left.now.shape right.now.shape nodes.old) }
+        (pair_array function left.now.items right.now.items left.now.shape right.now.shape
+        nodes.old) }
 {
     let first = left.items.in_order(alloc)?;
     let second = right.items.in_order(alloc)?;
@@ -164,7 +178,10 @@ fn scale(
     right: &[u32],
     shape: ShapeOf,
 ) -> Result<NodeArray, Stopped>
-    ensures { Follows (λ array. record { array = array; nodes = nodes.new }) result (scaled_array left.now right.now shape nodes.old) }
+    ensures { Follows (λ array. record {
+      array = array;
+      nodes = nodes.new;
+    }) result (scaled_array left.now right.now shape nodes.old) }
 {
     if left.len() != 1 {
         return Err(Stopped::Stuck);
@@ -199,7 +216,10 @@ fn matmul(
 
 /// A constant, as a scalar.
 pub fn constant(nodes: &mut Nodes, value: u32) -> Result<NodeArray, AllocError>
-    ensures { IfOk result (λ array. of_scalar (constant_node value nodes.old) ≡ record { array = array; nodes = nodes.new }) }
+    ensures { IfOk result (λ array. of_scalar (constant_node value nodes.old) ≡ record {
+      array = array;
+      nodes = nodes.new;
+    }) }
 {
     let item = nodes.constant(value)?;
     Ok(one_node(item))

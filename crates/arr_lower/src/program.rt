@@ -20,7 +20,8 @@ use std::alloc::{AllocError, Global};
 pub fn run_program(alloc: Global, program: &Program, inputs: u32) -> Result<Progress, Stopped>
     requires { inputs ≡ input_count (program_tree program.now).inputs }
     ensures { Follows (λ progress. progress) result
-        (each after_top (program_tree program.now).statements (begun_with (program_tree program.now).inputs)) }
+        (each after_top (program_tree program.now).statements
+        (begun_with (program_tree program.now).inputs)) }
 {
     let mut progress = begun(alloc, &program.inputs, inputs)?;
     run_top_statements(&mut progress, alloc, &program.statements)?;
@@ -45,7 +46,8 @@ fn run_top_statements(
     alloc: Global,
     statements: &[TopStatement],
 ) -> Result<(), Stopped>
-    ensures { Follows (λ _. progress.new) result (each after_top (map top_tree statements.now) progress.old) }
+    ensures { Follows (λ _. progress.new) result
+        (each after_top (map top_tree statements.now) progress.old) }
 {
     'each: for statement in statements {
         run_top_statement(progress, alloc, statement)?;

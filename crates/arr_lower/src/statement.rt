@@ -25,7 +25,8 @@ pub fn run_statement(
     alloc: Global,
     statement: &Statement,
 ) -> Result<(), Stopped>
-    ensures { Follows (λ _. lowering.new) result (after_statement (statement_tree statement.now) lowering.old) }
+    ensures { Follows (λ _. lowering.new) result
+        (after_statement (statement_tree statement.now) lowering.old) }
 {
     match statement {
         Statement::Let { name, value, .. } => declare(lowering, alloc, name, value),
@@ -57,7 +58,8 @@ fn counted_loop(
     high: &IndexExpression,
 ) -> Result<(), Stopped>
     ensures { Follows (λ _. lowering.new) result
-        (after_loop (name_tree name.now) (sum_tree low.now) (sum_tree high.now) (each after_statement (map statement_tree body.now)) lowering.old) }
+        (after_loop (name_tree name.now) (sum_tree low.now) (sum_tree high.now)
+        (each after_statement (map statement_tree body.now)) lowering.old) }
 {
     let (first, end) = bounds(lowering.store.names(), low, high)?;
     all_turns(lowering, alloc, name, first, end, body)
@@ -76,7 +78,9 @@ fn all_turns(
 ) -> Result<(), Stopped>
     requires { first ≤ end }
     ensures { Follows (λ _. lowering.new) result
-        (turns (end - first) first (after_turn (name_tree name.now) (each after_statement (map statement_tree body.now))) lowering.old) }
+        (turns (end - first) first
+        (after_turn (name_tree name.now) (each after_statement (map statement_tree body.now)))
+        lowering.old) }
 {
     'each: for turn in first..end {
         one_turn(lowering, alloc, name, turn, body)?;
@@ -95,7 +99,8 @@ fn one_turn(
     body: &[Statement],
 ) -> Result<(), Stopped>
     ensures { Follows (λ _. lowering.new) result
-        (after_turn (name_tree name.now) (each after_statement (map statement_tree body.now)) turn lowering.old) }
+        (after_turn (name_tree name.now) (each after_statement (map statement_tree body.now)) turn
+        lowering.old) }
 {
     let kept = lowering.store.len();
     let items = SharedList::new(alloc, Vec::new(alloc))?;
@@ -111,7 +116,8 @@ fn one_turn(
 #[cycle(statement)]
 #[tactic(auto, using(crate::proofs::StatementRows::of_statements))]
 fn run_all(lowering: &mut Lowering, alloc: Global, statements: &[Statement]) -> Result<(), Stopped>
-    ensures { Follows (λ _. lowering.new) result (each after_statement (map statement_tree statements.now) lowering.old) }
+    ensures { Follows (λ _. lowering.new) result
+        (each after_statement (map statement_tree statements.now) lowering.old) }
 {
     'each: for statement in statements {
         run_statement(lowering, alloc, statement)?;
@@ -126,7 +132,8 @@ fn declare(
     name: &Name,
     value: &Expression,
 ) -> Result<(), Stopped>
-    ensures { Follows (λ _. lowering.new) result (declared (name_tree name.now) (expression_tree value.now) lowering.old) }
+    ensures { Follows (λ _. lowering.new) result
+        (declared (name_tree name.now) (expression_tree value.now) lowering.old) }
 {
     let array = array(&lowering.store, &mut lowering.nodes, alloc, value)?;
     let binding = Binding::Value(array.shape);
@@ -143,7 +150,8 @@ fn assign(
     name: &Name,
     value: &Expression,
 ) -> Result<(), Stopped>
-    ensures { Follows (λ _. lowering.new) result (assigned (name_tree name.now) (expression_tree value.now) lowering.old) }
+    ensures { Follows (λ _. lowering.new) result
+        (assigned (name_tree name.now) (expression_tree value.now) lowering.old) }
 {
     let Some(Binding::Value(_)) = lowering.store.names().get(name.text.as_slice()) else {
         return Err(Stopped::Stuck);
@@ -162,7 +170,8 @@ fn assign_element(
     value: &Expression,
 ) -> Result<(), Stopped>
     ensures { Follows (λ _. lowering.new) result
-        (element_assigned (name_tree name.now) (indices_tree indices.now) (expression_tree value.now) lowering.old) }
+        (element_assigned (name_tree name.now) (indices_tree indices.now)
+        (expression_tree value.now) lowering.old) }
 {
     let place = element_offset(&lowering.store, name, indices)?;
     let array = array(&lowering.store, &mut lowering.nodes, alloc, value)?;

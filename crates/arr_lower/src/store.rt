@@ -101,7 +101,8 @@ impl Store {
         place: usize,
         item: u32,
     ) -> Result<(), AllocError>
-        ensures { OnOk result (self.new ≡ with_items name.now (set (items_of name.now self.old) place item) self.old) }
+        ensures { OnOk result (self.new ≡ with_items name.now
+            (set (items_of name.now self.old) place item) self.old) }
     {
         match self.names.place(name) {
             Some(at) => set_item_at(alloc, &mut self.items, at, place, item),

@@ -11,7 +11,10 @@ use std::alloc::{AllocError, Global};
 
 /// The sum of a list, by halves. The sum of nothing is the constant 0.
 pub fn sum(nodes: &mut Nodes, items: &[u32]) -> Result<u32, AllocError>
-    ensures { IfOk result (λ item. sum_node items.now nodes.old ≡ record { item = item; nodes = nodes.new }) }
+    ensures { IfOk result (λ item. sum_node items.now nodes.old ≡ record {
+      item = item;
+      nodes = nodes.new;
+    }) }
 {
     if items.is_empty() {
         return nodes.constant(0);
@@ -28,7 +31,10 @@ pub fn sum(nodes: &mut Nodes, items: &[u32]) -> Result<u32, AllocError>
 
 /// The dot product of two lists: their products, place by place, then the sum of those.
 pub fn dot(nodes: &mut Nodes, alloc: Global, left: &[u32], right: &[u32]) -> Result<u32, AllocError>
-    ensures { IfOk result (λ item. dot_node (zip left.now right.now) nodes.old ≡ record { item = item; nodes = nodes.new }) }
+    ensures { IfOk result (λ item. dot_node (zip left.now right.now) nodes.old ≡ record {
+      item = item;
+      nodes = nodes.new;
+    }) }
 {
     let products = pairwise(nodes, alloc, Kind::Mul, left, right)?;
     sum(nodes, products.as_slice())

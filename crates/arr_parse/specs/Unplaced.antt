@@ -20,18 +20,22 @@ SameWords text tokens other others = map (word text) tokens ≡ map (word other)
 
 abbrev mutual
   pub unplaced_sum : index.Sum → index.Sum
-  unplaced_sum (index.SumOf first added) = index.SumOf (unplaced_product first) (unplaced_terms added)
+  unplaced_sum (index.SumOf first added) =
+      index.SumOf (unplaced_product first) (unplaced_terms added)
 
   pub unplaced_terms : index.Terms → index.Terms
   unplaced_terms index.NoTerm = index.NoTerm
-  unplaced_terms (index.Term sign at term rest) = index.Term sign 0 (unplaced_product term) (unplaced_terms rest)
+  unplaced_terms (index.Term sign at term rest) =
+      index.Term sign 0 (unplaced_product term) (unplaced_terms rest)
 
   pub unplaced_product : index.Product → index.Product
-  unplaced_product (index.ProductOf first times) = index.ProductOf (unplaced_index_factor first) (unplaced_factors times)
+  unplaced_product (index.ProductOf first times) =
+      index.ProductOf (unplaced_index_factor first) (unplaced_factors times)
 
   pub unplaced_factors : index.Factors → index.Factors
   unplaced_factors index.NoFactor = index.NoFactor
-  unplaced_factors (index.Times at factor rest) = index.Times 0 (unplaced_index_factor factor) (unplaced_factors rest)
+  unplaced_factors (index.Times at factor rest) =
+      index.Times 0 (unplaced_index_factor factor) (unplaced_factors rest)
 
   pub unplaced_index_factor : index.Factor → index.Factor
   unplaced_index_factor (index.Number at value) = index.Number 0 value
@@ -42,11 +46,13 @@ abbrev pub unplaced_name : NameTree → NameTree
 unplaced_name name = record { at = 0; text = name.text }
 
 abbrev pub unplaced_indices : IndicesTree → IndicesTree
-unplaced_indices indices = record { first = unplaced_sum indices.first; second = option_map unplaced_sum indices.second }
+unplaced_indices indices =
+    record { first = unplaced_sum indices.first; second = option_map unplaced_sum indices.second }
 
 abbrev mutual
   pub unplaced_expression : ExpressionTree → ExpressionTree
-  unplaced_expression (ExpressionOf first added) = ExpressionOf (unplaced_term first) (unplaced_added added)
+  unplaced_expression (ExpressionOf first added) =
+      ExpressionOf (unplaced_term first) (unplaced_added added)
 
   pub unplaced_added : AddedTree → AddedTree
   unplaced_added NoTerm = NoTerm
@@ -65,15 +71,19 @@ abbrev mutual
   unplaced_factor (Element name indices) = Element (unplaced_name name) (unplaced_indices indices)
   unplaced_factor (Negation at operand) = Negation 0 (unplaced_factor operand)
   unplaced_factor (Parenthesized at inner) = Parenthesized 0 (unplaced_expression inner)
-  unplaced_factor (Single function at parenthesis argument) = Single function 0 0 (unplaced_expression argument)
-  unplaced_factor (Pair function at parenthesis left right) = Pair function 0 0 (unplaced_expression left) (unplaced_expression right)
+  unplaced_factor (Single function at parenthesis argument) =
+      Single function 0 0 (unplaced_expression argument)
+  unplaced_factor (Pair function at parenthesis left right) =
+      Pair function 0 0 (unplaced_expression left) (unplaced_expression right)
 
 abbrev mutual
   pub unplaced_statement : StatementTree → StatementTree
   unplaced_statement (Let at name value) = Let 0 (unplaced_name name) (unplaced_expression value)
   unplaced_statement (Set name value) = Set (unplaced_name name) (unplaced_expression value)
-  unplaced_statement (SetElement name indices value) = SetElement (unplaced_name name) (unplaced_indices indices) (unplaced_expression value)
-  unplaced_statement (For at name low high body) = For 0 (unplaced_name name) (unplaced_sum low) (unplaced_sum high) (unplaced_block body)
+  unplaced_statement (SetElement name indices value) =
+      SetElement (unplaced_name name) (unplaced_indices indices) (unplaced_expression value)
+  unplaced_statement (For at name low high body) =
+      For 0 (unplaced_name name) (unplaced_sum low) (unplaced_sum high) (unplaced_block body)
 
   pub unplaced_block : BlockTree → BlockTree
   unplaced_block EndOfBlock = EndOfBlock
@@ -92,8 +102,16 @@ unplaced_dimensions (Vector n) = Vector (unplaced_dimension n)
 unplaced_dimensions (Matrix n m) = Matrix (unplaced_dimension n) (unplaced_dimension m)
 
 abbrev pub unplaced_input : InputTree → InputTree
-unplaced_input input = record { at = 0; name = unplaced_name input.name; dimensions = unplaced_dimensions input.dimensions }
+unplaced_input input = record {
+  at = 0;
+  name = unplaced_name input.name;
+  dimensions = unplaced_dimensions input.dimensions;
+}
 
 -- the program, whatever the places of its parts and the length of its text
 abbrev pub unplaced : ProgramTree → ProgramTree
-unplaced program = record { inputs = map unplaced_input program.inputs; statements = map unplaced_top program.statements; end = 0 }
+unplaced program = record {
+  inputs = map unplaced_input program.inputs;
+  statements = map unplaced_top program.statements;
+  end = 0;
+}

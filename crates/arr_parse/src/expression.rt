@@ -28,9 +28,11 @@ pub fn expression<'t>(
     levels: usize,
 ) -> Result<(Expression, &'t [Token]), ParseRefused>
     requires { levels ≤ 64 }
-    ensures spelled { IfOk result (λ found. IsSpelled text.now tokens.now (expression_spelling found.0) found.1.now) }
+    ensures spelled { IfOk result
+        (λ found. IsSpelled text.now tokens.now (expression_spelling found.0) found.1.now) }
     ensures exact { (due : List Part) → levels_of due ≡ levels →
-        Agrees (λ found. refusal (length text.now) due found.1.now) result (refusal (length text.now) (AnExpression ∷ due) tokens.now) }
+        Agrees (λ found. refusal (length text.now) due found.1.now) result
+        (refusal (length text.now) (AnExpression ∷ due) tokens.now) }
 {
     let (first, rest) = term(alloc, text, tokens, levels)?;
     let (added, rest) = added_terms(alloc, text, rest, levels)?;
@@ -47,9 +49,12 @@ fn added_terms<'t>(
     levels: usize,
 ) -> Result<(Vec<AddedTerm>, &'t [Token]), ParseRefused>
     requires { levels ≤ 64 }
-    ensures spelled { IfOk result (λ found. IsSpelledUpTo text.now tokens.now (flat_map added_term_spelling found.0.items) found.1.now) }
+    ensures spelled { IfOk result
+        (λ found. IsSpelledUpTo text.now tokens.now (flat_map added_term_spelling found.0.items)
+        found.1.now) }
     ensures exact { (due : List Part) → levels_of due ≡ levels →
-        Agrees (λ found. refusal (length text.now) due found.1.now) result (refusal (length text.now) (MoreTerms ∷ due) tokens.now) }
+        Agrees (λ found. refusal (length text.now) due found.1.now) result
+        (refusal (length text.now) (MoreTerms ∷ due) tokens.now) }
 {
     let mut added = Vec::new(alloc);
     let mut rest = tokens;
@@ -74,9 +79,11 @@ fn term<'t>(
     levels: usize,
 ) -> Result<(Term, &'t [Token]), ParseRefused>
     requires { levels ≤ 64 }
-    ensures spelled { IfOk result (λ found. IsSpelled text.now tokens.now (term_spelling found.0) found.1.now) }
+    ensures spelled { IfOk result
+        (λ found. IsSpelled text.now tokens.now (term_spelling found.0) found.1.now) }
     ensures exact { (due : List Part) → levels_of due ≡ levels →
-        Agrees (λ found. refusal (length text.now) due found.1.now) result (refusal (length text.now) (ATerm ∷ due) tokens.now) }
+        Agrees (λ found. refusal (length text.now) due found.1.now) result
+        (refusal (length text.now) (ATerm ∷ due) tokens.now) }
 {
     let (first, rest) = factor(alloc, text, tokens, levels)?;
     let (times, rest) = times_factors(alloc, text, rest, levels)?;
@@ -93,9 +100,12 @@ fn times_factors<'t>(
     levels: usize,
 ) -> Result<(Vec<TimesFactor>, &'t [Token]), ParseRefused>
     requires { levels ≤ 64 }
-    ensures spelled { IfOk result (λ found. IsSpelledUpTo text.now tokens.now (flat_map times_factor_spelling found.0.items) found.1.now) }
+    ensures spelled { IfOk result
+        (λ found. IsSpelledUpTo text.now tokens.now (flat_map times_factor_spelling found.0.items)
+        found.1.now) }
     ensures exact { (due : List Part) → levels_of due ≡ levels →
-        Agrees (λ found. refusal (length text.now) due found.1.now) result (refusal (length text.now) (MoreFactors ∷ due) tokens.now) }
+        Agrees (λ found. refusal (length text.now) due found.1.now) result
+        (refusal (length text.now) (MoreFactors ∷ due) tokens.now) }
 {
     let mut times = Vec::new(alloc);
     let mut rest = tokens;
@@ -119,9 +129,11 @@ fn factor<'t>(
     levels: usize,
 ) -> Result<(Factor, &'t [Token]), ParseRefused>
     requires { levels ≤ 64 }
-    ensures spelled { IfOk result (λ found. IsSpelled text.now tokens.now (factor_spelling found.0) found.1.now) }
+    ensures spelled { IfOk result
+        (λ found. IsSpelled text.now tokens.now (factor_spelling found.0) found.1.now) }
     ensures exact { (due : List Part) → levels_of due ≡ levels →
-        Agrees (λ found. refusal (length text.now) due found.1.now) result (refusal (length text.now) (AFactor ∷ due) tokens.now) }
+        Agrees (λ found. refusal (length text.now) due found.1.now) result
+        (refusal (length text.now) (AFactor ∷ due) tokens.now) }
 {
     let Some((token, rest)) = tokens.split_first() else {
         return Err(ParseRefused::Syntax { at: text.len() });
@@ -179,9 +191,11 @@ fn single<'t>(
 ) -> Result<(Factor, &'t [Token]), ParseRefused>
     requires word { word.now.symbol ≡ single_symbol function }
     requires within { levels ≤ 64 }
-    ensures spelled { IfOk result (λ found. IsSpelled text.now (word.now ∷ tokens.now) (factor_spelling found.0) found.1.now) }
+    ensures spelled { IfOk result
+        (λ found. IsSpelled text.now (word.now ∷ tokens.now) (factor_spelling found.0) found.1.now) }
     ensures exact { (due : List Part) → levels_of due ≡ levels →
-        Agrees (λ found. refusal (length text.now) due found.1.now) result (refusal (length text.now) (OneArgument ∷ due) tokens.now) }
+        Agrees (λ found. refusal (length text.now) due found.1.now) result
+        (refusal (length text.now) (OneArgument ∷ due) tokens.now) }
 {
     let (opening, rest) = open_round(text, tokens)?;
     let levels = level_behind(opening, levels)?;
@@ -209,9 +223,11 @@ fn pair<'t>(
 ) -> Result<(Factor, &'t [Token]), ParseRefused>
     requires word { word.now.symbol ≡ pair_symbol function }
     requires within { levels ≤ 64 }
-    ensures spelled { IfOk result (λ found. IsSpelled text.now (word.now ∷ tokens.now) (factor_spelling found.0) found.1.now) }
+    ensures spelled { IfOk result
+        (λ found. IsSpelled text.now (word.now ∷ tokens.now) (factor_spelling found.0) found.1.now) }
     ensures exact { (due : List Part) → levels_of due ≡ levels →
-        Agrees (λ found. refusal (length text.now) due found.1.now) result (refusal (length text.now) (TwoArguments ∷ due) tokens.now) }
+        Agrees (λ found. refusal (length text.now) due found.1.now) result
+        (refusal (length text.now) (TwoArguments ∷ due) tokens.now) }
 {
     let (opening, rest) = open_round(text, tokens)?;
     let levels = level_behind(opening, levels)?;

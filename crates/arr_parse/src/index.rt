@@ -24,9 +24,11 @@ pub fn index_expression<'t>(
     levels: usize,
 ) -> Result<(IndexExpression, &'t [Token]), ParseRefused>
     requires { levels ≤ 64 }
-    ensures spelled { IfOk result (λ found. IsSpelled text.now tokens.now (index_spelling found.0) found.1.now) }
+    ensures spelled { IfOk result
+        (λ found. IsSpelled text.now tokens.now (index_spelling found.0) found.1.now) }
     ensures exact { (due : List Part) → levels_of due ≡ levels →
-        Agrees (λ found. refusal (length text.now) due found.1.now) result (refusal (length text.now) (AnIndex ∷ due) tokens.now) }
+        Agrees (λ found. refusal (length text.now) due found.1.now) result
+        (refusal (length text.now) (AnIndex ∷ due) tokens.now) }
 {
     let (first, rest) = index_term(alloc, text, tokens, levels)?;
     let (added, rest) = added_index_terms(alloc, text, rest, levels)?;
@@ -43,9 +45,12 @@ fn added_index_terms<'t>(
     levels: usize,
 ) -> Result<(Vec<AddedIndexTerm>, &'t [Token]), ParseRefused>
     requires { levels ≤ 64 }
-    ensures spelled { IfOk result (λ found. IsSpelledUpTo text.now tokens.now (flat_map added_index_term_spelling found.0.items) found.1.now) }
+    ensures spelled { IfOk result
+        (λ found. IsSpelledUpTo text.now tokens.now
+        (flat_map added_index_term_spelling found.0.items) found.1.now) }
     ensures exact { (due : List Part) → levels_of due ≡ levels →
-        Agrees (λ found. refusal (length text.now) due found.1.now) result (refusal (length text.now) (MoreIndexTerms ∷ due) tokens.now) }
+        Agrees (λ found. refusal (length text.now) due found.1.now) result
+        (refusal (length text.now) (MoreIndexTerms ∷ due) tokens.now) }
 {
     let mut added = Vec::new(alloc);
     let mut rest = tokens;
@@ -70,9 +75,11 @@ fn index_term<'t>(
     levels: usize,
 ) -> Result<(IndexTerm, &'t [Token]), ParseRefused>
     requires { levels ≤ 64 }
-    ensures spelled { IfOk result (λ found. IsSpelled text.now tokens.now (index_term_spelling found.0) found.1.now) }
+    ensures spelled { IfOk result
+        (λ found. IsSpelled text.now tokens.now (index_term_spelling found.0) found.1.now) }
     ensures exact { (due : List Part) → levels_of due ≡ levels →
-        Agrees (λ found. refusal (length text.now) due found.1.now) result (refusal (length text.now) (AnIndexTerm ∷ due) tokens.now) }
+        Agrees (λ found. refusal (length text.now) due found.1.now) result
+        (refusal (length text.now) (AnIndexTerm ∷ due) tokens.now) }
 {
     let (first, rest) = index_factor(alloc, text, tokens, levels)?;
     let (times, rest) = times_index_factors(alloc, text, rest, levels)?;
@@ -89,9 +96,12 @@ fn times_index_factors<'t>(
     levels: usize,
 ) -> Result<(Vec<TimesIndexFactor>, &'t [Token]), ParseRefused>
     requires { levels ≤ 64 }
-    ensures spelled { IfOk result (λ found. IsSpelledUpTo text.now tokens.now (flat_map times_index_factor_spelling found.0.items) found.1.now) }
+    ensures spelled { IfOk result
+        (λ found. IsSpelledUpTo text.now tokens.now
+        (flat_map times_index_factor_spelling found.0.items) found.1.now) }
     ensures exact { (due : List Part) → levels_of due ≡ levels →
-        Agrees (λ found. refusal (length text.now) due found.1.now) result (refusal (length text.now) (MoreIndexFactors ∷ due) tokens.now) }
+        Agrees (λ found. refusal (length text.now) due found.1.now) result
+        (refusal (length text.now) (MoreIndexFactors ∷ due) tokens.now) }
 {
     let mut times = Vec::new(alloc);
     let mut rest = tokens;
@@ -115,9 +125,11 @@ fn index_factor<'t>(
     levels: usize,
 ) -> Result<(IndexFactor, &'t [Token]), ParseRefused>
     requires { levels ≤ 64 }
-    ensures spelled { IfOk result (λ found. IsSpelled text.now tokens.now (index_factor_spelling found.0) found.1.now) }
+    ensures spelled { IfOk result
+        (λ found. IsSpelled text.now tokens.now (index_factor_spelling found.0) found.1.now) }
     ensures exact { (due : List Part) → levels_of due ≡ levels →
-        Agrees (λ found. refusal (length text.now) due found.1.now) result (refusal (length text.now) (AnIndexFactor ∷ due) tokens.now) }
+        Agrees (λ found. refusal (length text.now) due found.1.now) result
+        (refusal (length text.now) (AnIndexFactor ∷ due) tokens.now) }
 {
     let Some((token, rest)) = tokens.split_first() else {
         return Err(ParseRefused::Syntax { at: text.len() });

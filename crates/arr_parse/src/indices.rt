@@ -24,9 +24,11 @@ pub fn maybe_indices<'t>(
     levels: usize,
 ) -> Result<(Option<Indices>, &'t [Token]), ParseRefused>
     requires { levels ≤ 64 }
-    ensures spelled { IfOk result (λ found. IsSpelledUpTo text.now tokens.now (maybe_indices_spelling found.0) found.1.now) }
+    ensures spelled { IfOk result
+        (λ found. IsSpelledUpTo text.now tokens.now (maybe_indices_spelling found.0) found.1.now) }
     ensures exact { (due : List Part) → levels_of due ≡ levels →
-        Agrees (λ found. refusal (length text.now) due found.1.now) result (refusal (length text.now) (FirstIndex ∷ due) tokens.now) }
+        Agrees (λ found. refusal (length text.now) due found.1.now) result
+        (refusal (length text.now) (FirstIndex ∷ due) tokens.now) }
 {
     let Some((opening, rest)) = open_square(tokens) else {
         return Ok((None, tokens));
@@ -43,9 +45,11 @@ fn maybe_second_index<'t>(
     levels: usize,
 ) -> Result<(Option<IndexExpression>, &'t [Token]), ParseRefused>
     requires { levels ≤ 64 }
-    ensures spelled { IfOk result (λ found. IsSpelledUpTo text.now tokens.now (second_spelling found.0) found.1.now) }
+    ensures spelled { IfOk result
+        (λ found. IsSpelledUpTo text.now tokens.now (second_spelling found.0) found.1.now) }
     ensures exact { (due : List Part) → levels_of due ≡ levels →
-        Agrees (λ found. refusal (length text.now) due found.1.now) result (refusal (length text.now) (SecondIndex ∷ due) tokens.now) }
+        Agrees (λ found. refusal (length text.now) due found.1.now) result
+        (refusal (length text.now) (SecondIndex ∷ due) tokens.now) }
 {
     let Some((opening, rest)) = open_square(tokens) else {
         return Ok((None, tokens));
@@ -63,10 +67,13 @@ fn closed_index<'t>(
     levels: usize,
 ) -> Result<(IndexExpression, &'t [Token]), ParseRefused>
     requires { levels ≤ 64 }
-    ensures spelled { IfOk result (λ found. IsSpelled text.now tokens.now (index_spelling found.0 ++ Separator CloseSquare ∷ []) found.1.now) }
+    ensures spelled { IfOk result
+        (λ found. IsSpelled text.now tokens.now
+        (index_spelling found.0 ++ Separator CloseSquare ∷ []) found.1.now) }
     ensures exact { (due : List Part) → levels_of due ≡ levels →
         Agrees (λ found. refusal (length text.now) due found.1.now) result
-        (unless_refused opening.now.start (Some (AnIndex ∷ The CloseSquare ∷ due)) (λ next. refusal (length text.now) next tokens.now)) }
+        (unless_refused opening.now.start (Some (AnIndex ∷ The CloseSquare ∷ due))
+        (λ next. refusal (length text.now) next tokens.now)) }
 {
     let levels = level_behind(opening, levels)?;
     let (index, rest) = index_expression(alloc, text, tokens, levels)?;

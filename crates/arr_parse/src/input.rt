@@ -20,8 +20,11 @@ pub fn inputs<'t>(
     text: &[u8],
     tokens: &'t [Token],
 ) -> Result<(Vec<Input>, &'t [Token]), ParseRefused>
-    ensures spelled { IfOk result (λ found. IsSpelledUpTo text.now tokens.now (flat_map input_spelling found.0.items) found.1.now) }
-    ensures exact { Agrees (λ found. refusal (length text.now) (TopStatements ∷ []) found.1.now) result
+    ensures spelled { IfOk result
+        (λ found. IsSpelledUpTo text.now tokens.now (flat_map input_spelling found.0.items)
+        found.1.now) }
+    ensures exact { Agrees (λ found. refusal (length text.now) (TopStatements ∷ []) found.1.now)
+        result
         (refusal (length text.now) (Inputs ∷ []) tokens.now) }
 {
     let mut inputs = Vec::new(alloc);
@@ -36,8 +39,10 @@ pub fn inputs<'t>(
 
 // The word of an input, where the tokens begin with it.
 fn input_word(tokens: &[Token]) -> Option<(&Token, &[Token])>
-    ensures found { IfSome result (λ found. (tokens.now ≡ found.0.now ∷ found.1.now) × (found.0.now.symbol ≡ InputWord)) }
-    ensures none { IfNone result ((end : ℕ) → refusal end (Inputs ∷ []) tokens.now ≡ refusal end (TopStatements ∷ []) tokens.now) }
+    ensures found { IfSome result (λ found. (tokens.now ≡ found.0.now ∷ found.1.now)
+        × (found.0.now.symbol ≡ InputWord)) }
+    ensures none { IfNone result ((end : ℕ)
+        → refusal end (Inputs ∷ []) tokens.now ≡ refusal end (TopStatements ∷ []) tokens.now) }
 {
     let (token, rest) = tokens.split_first()?;
     match token.symbol {
@@ -54,7 +59,8 @@ fn input<'t>(
     tokens: &'t [Token],
 ) -> Result<(Input, &'t [Token]), ParseRefused>
     requires { word.now.symbol ≡ InputWord }
-    ensures spelled { IfOk result (λ found. IsSpelled text.now (word.now ∷ tokens.now) (input_spelling found.0) found.1.now) }
+    ensures spelled { IfOk result
+        (λ found. IsSpelled text.now (word.now ∷ tokens.now) (input_spelling found.0) found.1.now) }
     ensures exact { (due : List Part) → levels_of due ≡ 0 →
         Agrees (λ found. refusal (length text.now) due found.1.now) result
         (refusal (length text.now) (AName ∷ FirstDimension ∷ The Semicolon ∷ due) tokens.now) }
@@ -75,9 +81,11 @@ fn dimensions<'t>(
     text: &[u8],
     tokens: &'t [Token],
 ) -> Result<(Dimensions, &'t [Token]), ParseRefused>
-    ensures spelled { IfOk result (λ found. IsSpelledUpTo text.now tokens.now (dimensions_spelling found.0) found.1.now) }
+    ensures spelled { IfOk result
+        (λ found. IsSpelledUpTo text.now tokens.now (dimensions_spelling found.0) found.1.now) }
     ensures exact { (due : List Part) → levels_of due ≡ 0 →
-        Agrees (λ found. refusal (length text.now) due found.1.now) result (refusal (length text.now) (FirstDimension ∷ due) tokens.now) }
+        Agrees (λ found. refusal (length text.now) due found.1.now) result
+        (refusal (length text.now) (FirstDimension ∷ due) tokens.now) }
 {
     let Some((opening, rest)) = open_square(tokens) else {
         return Ok((Dimensions::Scalar, tokens));
@@ -97,10 +105,13 @@ fn closed_dimension<'t>(
     tokens: &'t [Token],
 ) -> Result<(Dimension, &'t [Token]), ParseRefused>
     requires { opening.now.symbol ≡ OpenSquare }
-    ensures spelled { IfOk result (λ found. IsSpelled text.now (opening.now ∷ tokens.now) (dimension_spelling found.0) found.1.now) }
+    ensures spelled { IfOk result
+        (λ found. IsSpelled text.now (opening.now ∷ tokens.now) (dimension_spelling found.0)
+        found.1.now) }
     ensures exact { (due : List Part) → levels_of due ≡ 0 →
         Agrees (λ found. refusal (length text.now) due found.1.now) result
-        (unless_refused opening.now.start (Some (ANumber ∷ The CloseSquare ∷ due)) (λ next. refusal (length text.now) next tokens.now)) }
+        (unless_refused opening.now.start (Some (ANumber ∷ The CloseSquare ∷ due))
+        (λ next. refusal (length text.now) next tokens.now)) }
 {
     let Some((token, rest)) = tokens.split_first() else {
         return Err(ParseRefused::Syntax { at: text.len() });

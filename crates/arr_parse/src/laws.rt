@@ -22,29 +22,34 @@ pub fn one_program_tree()
 
 /// A text's tokens have at most one tree.
 pub fn one_tree()
-    ensures { (text : List ℕ) (tokens : List Token) (a b : ProgramTree) → IsTreeOf text tokens a → IsTreeOf text tokens b → a ≡ b }
+    ensures { (text : List ℕ) (tokens : List Token) (a b : ProgramTree) → IsTreeOf text tokens a
+        → IsTreeOf text tokens b → a ≡ b }
 {}
 
 /// Texts whose tokens are the same words in the same order have the same tree, but for places.
 pub fn one_tree_of_words()
-    ensures { (text other : List ℕ) (tokens others : List Token) (a b : ProgramTree) → SameWords text tokens other others →
+    ensures { (text other : List ℕ) (tokens others : List Token) (a b : ProgramTree)
+        → SameWords text tokens other others →
         IsTreeOf text tokens a → IsTreeOf other others b → unplaced a ≡ unplaced b }
 {}
 
 /// Whether a text is refused is decided by its tokens' symbols, wherever they stand.
 pub fn refused_by_symbols()
-    ensures { (end other_end : ℕ) (due : List Part) (tokens others : List Token) → map (λ token. token.symbol) tokens ≡ map (λ token. token.symbol) others →
+    ensures { (end other_end : ℕ) (due : List Part) (tokens others : List Token)
+        → map (λ token. token.symbol) tokens ≡ map (λ token. token.symbol) others →
         is_some (refusal end due tokens) ≡ is_some (refusal other_end due others) }
 {}
 
 /// Tokens that reading doesn't refuse have a tree.
 pub fn read_or_refused()
-    ensures { (text : List ℕ) (tokens : List Token) → refusal (length text) (Inputs ∷ []) tokens ≡ None →
+    ensures { (text : List ℕ) (tokens : List Token)
+        → refusal (length text) (Inputs ∷ []) tokens ≡ None →
         (tree : ProgramTree) × IsTreeOf text tokens tree }
 {}
 
 /// The tokens of a tree are read to their end, or refused for nesting alone.
 pub fn trees_are_read()
-    ensures { (text : List ℕ) (tokens : List Token) (tree : ProgramTree) → IsTreeOf text tokens tree →
+    ensures { (text : List ℕ) (tokens : List Token) (tree : ProgramTree) → IsTreeOf text tokens tree
+        →
         OnlyNests (refusal (length text) (Inputs ∷ []) tokens) }
 {}

@@ -15,7 +15,8 @@ use std::alloc::{AllocError, Global};
 /// The name that a token spells.
 pub fn name_of(alloc: Global, text: &[u8], token: &Token) -> Result<Name, AllocError>
     ensures at { IfOk result (λ name. name.at ≡ token.now.start) }
-    ensures text { IfOk result (λ name. name.text.items ≡ part_of text.now token.now.start token.now.end) }
+    ensures text { IfOk result
+        (λ name. name.text.items ≡ part_of text.now token.now.start token.now.end) }
 {
     let bytes = part(text, token.start, token.end);
     Ok(Name {
@@ -30,9 +31,11 @@ pub fn declared_name<'t>(
     text: &[u8],
     tokens: &'t [Token],
 ) -> Result<(Name, &'t [Token]), ParseRefused>
-    ensures spelled { IfOk result (λ found. IsSpelled text.now tokens.now (name_spelling found.0) found.1.now) }
+    ensures spelled { IfOk result
+        (λ found. IsSpelled text.now tokens.now (name_spelling found.0) found.1.now) }
     ensures exact { (due : List Part) → levels due ≤ 64 →
-        Agrees (λ found. refusal (length text.now) due found.1.now) result (refusal (length text.now) (AName ∷ due) tokens.now) }
+        Agrees (λ found. refusal (length text.now) due found.1.now) result
+        (refusal (length text.now) (AName ∷ due) tokens.now) }
 {
     let Some((token, rest)) = tokens.split_first() else {
         return Err(ParseRefused::Syntax { at: text.len() });

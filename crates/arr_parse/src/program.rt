@@ -39,8 +39,10 @@ fn top_statements(
     text: &[u8],
     tokens: &[Token],
 ) -> Result<Vec<TopStatement>, ParseRefused>
-    ensures spelled { IfOk result (λ found. map (mark text.now) tokens.now ≡ flat_map top_statement_spelling found.items) }
-    ensures exact { Agrees (λ _. None) result (refusal (length text.now) (TopStatements ∷ []) tokens.now) }
+    ensures spelled { IfOk result
+        (λ found. map (mark text.now) tokens.now ≡ flat_map top_statement_spelling found.items) }
+    ensures exact { Agrees (λ _. None) result
+        (refusal (length text.now) (TopStatements ∷ []) tokens.now) }
 {
     let mut statements = Vec::new(alloc);
     let mut rest = tokens;
@@ -58,9 +60,11 @@ fn top_statement<'t>(
     text: &[u8],
     tokens: &'t [Token],
 ) -> Result<(TopStatement, &'t [Token]), ParseRefused>
-    ensures spelled { IfOk result (λ found. IsSpelled text.now tokens.now (top_statement_spelling found.0) found.1.now) }
+    ensures spelled { IfOk result
+        (λ found. IsSpelled text.now tokens.now (top_statement_spelling found.0) found.1.now) }
     ensures exact { (due : List Part) → levels_of due ≡ 0 →
-        Agrees (λ found. refusal (length text.now) due found.1.now) result (refusal (length text.now) (ATopStatement ∷ due) tokens.now) }
+        Agrees (λ found. refusal (length text.now) due found.1.now) result
+        (refusal (length text.now) (ATopStatement ∷ due) tokens.now) }
 {
     if let Some((word, rest)) = output_word(tokens) {
         let (value, rest) = ended_value(alloc, text, rest, 0)?;
@@ -73,7 +77,8 @@ fn top_statement<'t>(
 
 // The word of an output, where the tokens begin with it.
 fn output_word(tokens: &[Token]) -> Option<(&Token, &[Token])>
-    ensures found { IfSome result (λ found. (tokens.now ≡ found.0.now ∷ found.1.now) × (found.0.now.symbol ≡ OutputWord)) }
+    ensures found { IfSome result (λ found. (tokens.now ≡ found.0.now ∷ found.1.now)
+        × (found.0.now.symbol ≡ OutputWord)) }
     ensures none { IfNone result ((end : ℕ) (due : List Part) →
         refusal end (ATopStatement ∷ due) tokens.now ≡ refusal end (AStatement ∷ due) tokens.now) }
 {

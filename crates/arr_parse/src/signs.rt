@@ -14,7 +14,8 @@ use arr_lex::{Symbol, Token};
 
 /// The sign of a further term, where the tokens begin with one.
 pub fn added_sign(tokens: &[Token]) -> Option<(Sign, &Token, &[Token])>
-    ensures found { IfSome result (λ found. (tokens.now ≡ found.1.now ∷ found.2.now) × (found.1.now.symbol ≡ sign_symbol found.0)) }
+    ensures found { IfSome result (λ found. (tokens.now ≡ found.1.now ∷ found.2.now)
+        × (found.1.now.symbol ≡ sign_symbol found.0)) }
     ensures none { IfNone result (IsSkipped MoreTerms tokens.now) }
     ensures none_in_index { IfNone result (IsSkipped MoreIndexTerms tokens.now) }
 {
@@ -28,7 +29,8 @@ pub fn added_sign(tokens: &[Token]) -> Option<(Sign, &Token, &[Token])>
 
 /// The sign of a further factor, where the tokens begin with one.
 pub fn times_sign(tokens: &[Token]) -> Option<(&Token, &[Token])>
-    ensures found { IfSome result (λ found. (tokens.now ≡ found.0.now ∷ found.1.now) × (found.0.now.symbol ≡ Star)) }
+    ensures found { IfSome result (λ found. (tokens.now ≡ found.0.now ∷ found.1.now)
+        × (found.0.now.symbol ≡ Star)) }
     ensures none { IfNone result (IsSkipped MoreFactors tokens.now) }
     ensures none_in_index { IfNone result (IsSkipped MoreIndexFactors tokens.now) }
 {
@@ -42,7 +44,9 @@ pub fn times_sign(tokens: &[Token]) -> Option<(&Token, &[Token])>
 /// Whether the tokens begin with a statement.
 pub fn begins_statement(tokens: &[Token]) -> bool
     ensures { MatchBool result
-        ((end : ℕ) (due : List Part) → refusal end (Statements ∷ due) tokens.now ≡ refusal end (AStatement ∷ Statements ∷ due) tokens.now)
+        ((end : ℕ) (due : List Part)
+        → refusal end (Statements ∷ due) tokens.now
+        ≡ refusal end (AStatement ∷ Statements ∷ due) tokens.now)
         (IsSkipped Statements tokens.now) }
 {
     let Some((token, _)) = tokens.split_first() else {
@@ -58,7 +62,8 @@ pub fn begins_statement(tokens: &[Token]) -> bool
 
 /// A `[`, where the tokens begin with one.
 pub fn open_square(tokens: &[Token]) -> Option<(&Token, &[Token])>
-    ensures found { IfSome result (λ found. (tokens.now ≡ found.0.now ∷ found.1.now) × (found.0.now.symbol ≡ OpenSquare)) }
+    ensures found { IfSome result (λ found. (tokens.now ≡ found.0.now ∷ found.1.now)
+        × (found.0.now.symbol ≡ OpenSquare)) }
     ensures no_index { IfNone result (IsSkipped FirstIndex tokens.now) }
     ensures no_second_index { IfNone result (IsSkipped SecondIndex tokens.now) }
     ensures no_dimension { IfNone result (IsSkipped FirstDimension tokens.now) }
@@ -76,7 +81,8 @@ pub fn open_round<'t>(
     text: &[u8],
     tokens: &'t [Token],
 ) -> Result<(&'t Token, &'t [Token]), ParseRefused>
-    ensures found { IfOk result (λ found. (tokens.now ≡ found.0.now ∷ found.1.now) × (found.0.now.symbol ≡ OpenRound)) }
+    ensures found { IfOk result (λ found. (tokens.now ≡ found.0.now ∷ found.1.now)
+        × (found.0.now.symbol ≡ OpenRound)) }
     ensures no_argument { IfErr result (λ refused. (due : List Part) →
         refusal (length text.now) (OneArgument ∷ due) tokens.now ≡ Some refused) }
     ensures no_arguments { IfErr result (λ refused. (due : List Part) →
@@ -98,9 +104,11 @@ pub fn behind<'t>(
     due: Symbol,
 ) -> Result<&'t [Token], ParseRefused>
     requires { is_the due due ≡ true }
-    ensures spelled { IfOk result (λ rest. IsSpelled text.now tokens.now (Separator due ∷ []) rest.now) }
+    ensures spelled { IfOk result
+        (λ rest. IsSpelled text.now tokens.now (Separator due ∷ []) rest.now) }
     ensures exact { (others : List Part) → levels others ≤ 64 →
-        Agrees (λ rest. refusal (length text.now) others rest.now) result (refusal (length text.now) (The due ∷ others) tokens.now) }
+        Agrees (λ rest. refusal (length text.now) others rest.now) result
+        (refusal (length text.now) (The due ∷ others) tokens.now) }
 {
     let Some((token, rest)) = tokens.split_first() else {
         return Err(ParseRefused::Syntax { at: text.len() });

@@ -31,9 +31,11 @@ pub fn statement<'t>(
     levels: usize,
 ) -> Result<(Statement, &'t [Token]), ParseRefused>
     requires { levels ≤ 64 }
-    ensures spelled { IfOk result (λ found. IsSpelled text.now tokens.now (statement_spelling found.0) found.1.now) }
+    ensures spelled { IfOk result
+        (λ found. IsSpelled text.now tokens.now (statement_spelling found.0) found.1.now) }
     ensures exact { (due : List Part) → levels_of due ≡ levels →
-        Agrees (λ found. refusal (length text.now) due found.1.now) result (refusal (length text.now) (AStatement ∷ due) tokens.now) }
+        Agrees (λ found. refusal (length text.now) due found.1.now) result
+        (refusal (length text.now) (AStatement ∷ due) tokens.now) }
 {
     let Some((token, rest)) = tokens.split_first() else {
         return Err(ParseRefused::Syntax { at: text.len() });
@@ -121,10 +123,13 @@ fn counted_loop<'t>(
 ) -> Result<(Statement, &'t [Token]), ParseRefused>
     requires word { word.now.symbol ≡ ForWord }
     requires within { levels ≤ 64 }
-    ensures spelled { IfOk result (λ found. IsSpelled text.now (word.now ∷ tokens.now) (statement_spelling found.0) found.1.now) }
+    ensures spelled { IfOk result
+        (λ found. IsSpelled text.now (word.now ∷ tokens.now) (statement_spelling found.0)
+        found.1.now) }
     ensures exact { (due : List Part) → levels_of due ≡ levels →
         Agrees (λ found. refusal (length text.now) due found.1.now) result
-        (refusal (length text.now) (AName ∷ The In ∷ AnIndex ∷ The Range ∷ AnIndex ∷ Block ∷ due) tokens.now) }
+        (refusal (length text.now) (AName ∷ The In ∷ AnIndex ∷ The Range ∷ AnIndex ∷ Block ∷ due)
+        tokens.now) }
 {
     let at = word.start;
     let (name, rest) = declared_name(alloc, text, tokens)?;
@@ -154,9 +159,11 @@ fn block<'t>(
 ) -> Result<(Vec<Statement>, &'t [Token]), ParseRefused>
     requires { levels ≤ 64 }
     ensures spelled { IfOk result (λ found. IsSpelled text.now tokens.now
-        (Separator OpenCurly ∷ (flat_map statement_spelling found.0.items ++ Separator CloseCurly ∷ [])) found.1.now) }
+        (Separator OpenCurly ∷ (flat_map statement_spelling found.0.items ++ Separator CloseCurly
+        ∷ [])) found.1.now) }
     ensures exact { (due : List Part) → levels_of due ≡ levels →
-        Agrees (λ found. refusal (length text.now) due found.1.now) result (refusal (length text.now) (Block ∷ due) tokens.now) }
+        Agrees (λ found. refusal (length text.now) due found.1.now) result
+        (refusal (length text.now) (Block ∷ due) tokens.now) }
 {
     let Some((token, rest)) = tokens.split_first() else {
         return Err(ParseRefused::Syntax { at: text.len() });
@@ -182,9 +189,12 @@ fn statements<'t>(
     levels: usize,
 ) -> Result<(Vec<Statement>, &'t [Token]), ParseRefused>
     requires { levels ≤ 64 }
-    ensures spelled { IfOk result (λ found. IsSpelledUpTo text.now tokens.now (flat_map statement_spelling found.0.items) found.1.now) }
+    ensures spelled { IfOk result
+        (λ found. IsSpelledUpTo text.now tokens.now (flat_map statement_spelling found.0.items)
+        found.1.now) }
     ensures exact { (due : List Part) → levels_of due ≡ levels →
-        Agrees (λ found. refusal (length text.now) due found.1.now) result (refusal (length text.now) (Statements ∷ due) tokens.now) }
+        Agrees (λ found. refusal (length text.now) due found.1.now) result
+        (refusal (length text.now) (Statements ∷ due) tokens.now) }
 {
     let mut statements = Vec::new(alloc);
     let mut rest = tokens;

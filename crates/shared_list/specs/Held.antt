@@ -13,4 +13,5 @@ items_of (Turned items rows columns nothing) = turned nothing rows columns items
 abbrev pub IsWhole : {A : Type 0} → Held A → Type 0
 IsWhole (One item) = Unit {0}
 IsWhole (Rows items) = Unit {0}
-IsWhole (Turned items rows columns nothing) = (length items.value.items ≡ rows * columns) × (rows < 2 ^ 32) × (columns < 2 ^ 32)
+IsWhole (Turned items rows columns nothing) =
+    (length items.value.items ≡ rows * columns) × (rows < 2 ^ 32) × (columns < 2 ^ 32)

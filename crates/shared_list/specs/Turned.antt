@@ -4,4 +4,5 @@ use Rattle.std.specs.List.{range_with_len}
 
 -- n rows of m items, as m rows of n; past the end of the list stands nothing
 abbrev pub turned : {A : Type 0} → A → ℕ → ℕ → List A → List A
-turned nothing n m items = map (λ k. get_or items (k % n * m + k / n) nothing) (range_with_len 0 (m * n))
+turned nothing n m items =
+    map (λ k. get_or items (k % n * m + k / n) nothing) (range_with_len 0 (m * n))

@@ -37,8 +37,10 @@ fn add_column<T: Copy>(
     requires n { n < 2 ^ 32 }
     requires m { m < 2 ^ 32 }
     requires j { j < 2 ^ 32 }
-    requires so_far { found.old.items ≡ map (λ k. get_or items.now (k % n * m + k / n) nothing) (range_with_len 0 (j * n)) }
-    ensures { OnOk result (found.new.items ≡ map (λ k. get_or items.now (k % n * m + k / n) nothing) (range_with_len 0 ((j + 1) * n))) }
+    requires so_far { found.old.items ≡ map (λ k. get_or items.now (k % n * m + k / n) nothing)
+        (range_with_len 0 (j * n)) }
+    ensures { OnOk result (found.new.items ≡ map (λ k. get_or items.now (k % n * m + k / n) nothing)
+        (range_with_len 0 ((j + 1) * n))) }
 {
     'each: for i in 0..n {
         found.push(item_or(items, i * m + j, nothing))?;
