@@ -14,6 +14,8 @@ mod grammar;
 #[cfg(test)]
 mod layouts;
 #[cfg(test)]
+mod limits;
+#[cfg(test)]
 mod nodes;
 #[cfg(test)]
 mod programs;

@@ -14,7 +14,7 @@ use std::process::Abort;
 use std::test::Fail;
 
 /// The tree of a text.
-fn tree(alloc: Global, text: &[u8]) -> Result<Program, Fail>
+pub fn tree(alloc: Global, text: &[u8]) -> Result<Program, Fail>
     requires { length text.now ≤ 65536 }
 {
     let Ok(found) = tokens(alloc, text) else {
