@@ -19,6 +19,7 @@ use Rattle.gkr_cmd.specs.declared.reply_error.ReplyError.{ReplyError}
 use Rattle.gkr_cmd.specs.declared.reply_error.ReplyError.TheVariants as errors
 use Rattle.gkr_cmd.specs.declared.status.Status.{Status}
 use Rattle.gkr_cmd.specs.declared.status.Status.TheVariants as statuses
+use Rattle.gkr_words.specs.declared.words.Command.{Command}
 use Rattle.gkr_words.specs.declared.words.CaseCommand.TheVariants.{Eval, Circuit, Prove, Verify}
 use Rattle.gkr_words.specs.Commands.{ReadsCase, command_of, input_limit, read_room}
 use Rattle.gkr_cmd.specs.Headline.{Asks, HasCauses, HasOneReply, Headline, KeepsPromises, Run}
@@ -49,22 +50,26 @@ record WroteSome (run : Run) : Type 0 where
   pub wrote : Wrote run reply
 
 -- what a run made, and what it read for that
-pub record Makes (run : Run) (made : Result Reply ReplyError) : Type 0 where
-  pub is_reply : IfOk made (λ reply. (input : List ℕ) → IsInput (command_of run.words) run.before.left input → IsCommandReply (command_of run.words) input reply)
-  pub usage : IfOk made (λ reply. (status_of reply ≡ statuses.Usage) ↔ (command_of run.words ≡ None))
-  pub read : ReadsCase (command_of run.words) → OnOk made (IsReadUpTo (input_limit (command_of run.words) + 1) run.before.left run.after.left)
-  pub within : ReadsCase (command_of run.words) → ReadsWithin (input_limit (command_of run.words) + 1) read_room run.before.left run.after.left run.before.calls run.after.calls
+pub record Makes (run : Run) (command : Option Command) (made : Result Reply ReplyError) : Type 0 where
+  pub is_reply : IfOk made (λ reply. (input : List ℕ) → IsInput command run.before.left input → IsCommandReply command input reply)
+  pub usage : IfOk made (λ reply. (status_of reply ≡ statuses.Usage) ↔ (command ≡ None))
+  pub read : ReadsCase command → OnOk made (IsReadUpTo (input_limit command + 1) run.before.left run.after.left)
+  pub within : ReadsCase command → ReadsWithin (input_limit command + 1) read_room run.before.left run.after.left run.before.calls run.after.calls
   pub fault : IsErrOf made errors.ReadFault → Rose run.before.read_faults run.after.read_faults
   pub no_fault : made ≢ Err errors.ReadFault → run.after.read_faults ≡ run.before.read_faults
+
+-- the same for the command that its words name
+abbrev pub MakesOwn : Run → Result Reply ReplyError → Type 0
+MakesOwn run made = Makes run (command_of run.words) made
 
 abbrev pub EndsMade : Run → Result Reply ReplyError → Type 0
 EndsMade run made = Finishes made run.ended run.before.written run.after.written run.before.write_faults run.after.write_faults
 
-made_of : (run : Run) (made : Result Reply ReplyError) (reply : Reply) → Makes run made → made ≡ Ok reply → Made run reply
+made_of : (run : Run) (made : Result Reply ReplyError) (reply : Reply) → MakesOwn run made → made ≡ Ok reply → Made run reply
 made_of run (Ok found) reply makes is = let same : found ≡ reply = cc in subst (λ r. Made run r) same (record { is_reply = makes.is_reply; usage = makes.usage })
 made_of run (Err e) reply makes is = absurd cc
 
-wrote_of : (run : Run) (made : Result Reply ReplyError) → Makes run made → EndsMade run made → IsReplied run.ended → WroteSome run
+wrote_of : (run : Run) (made : Result Reply ReplyError) → MakesOwn run made → EndsMade run made → IsReplied run.ended → WroteSome run
 wrote_of run made makes ends replies =
     let whole = ends.whole replies in
     record { reply = whole.reply; wrote = record { made = made_of run made whole.reply makes whole.made_is; status = whole.status; written = whole.written } }
@@ -104,13 +109,13 @@ all_replied statuses.WriteFault read write memory = absurd (write refl)
 all_replied statuses.Memory read write memory = absurd (memory refl)
 all_replied statuses.TooLong read write memory = tt
 
-read_of : (run : Run) (made : Result Reply ReplyError) → Makes run made → ReadsCase (command_of run.words) → (reply : Reply) × (made ≡ Ok reply)
+read_of : (run : Run) (made : Result Reply ReplyError) → MakesOwn run made → ReadsCase (command_of run.words) → (reply : Reply) × (made ≡ Ok reply)
     → IsReadUpTo (input_limit (command_of run.words) + 1) run.before.left run.after.left
 read_of run (Ok found) makes named some = makes.read named
 read_of run (Err e) makes named some = absurd (let is = some.1 in cc)
 
 -- where the count of the source's faults rose, the source failed
-fault_of : (run : Run) (made : Result Reply ReplyError) → Makes run made → run.before.read_faults < run.after.read_faults → made ≡ Err errors.ReadFault
+fault_of : (run : Run) (made : Result Reply ReplyError) → MakesOwn run made → run.before.read_faults < run.after.read_faults → made ≡ Err errors.ReadFault
 fault_of run (Ok reply) makes rose = absurd (omega (arith, makes.no_fault (λ e. cc)))
 fault_of run (Err errors.Memory) makes rose = absurd (omega (arith, makes.no_fault (λ e. cc)))
 fault_of run (Err errors.ReadFault) makes rose = refl
@@ -170,7 +175,7 @@ headline_of laws run whole =
     }
 
 -- a front of the reply is written
-cut_front : (run : Run) (made : Result Reply ReplyError) → Makes run made → (input : List ℕ) → IsInput (command_of run.words) run.before.left input → WritesSome made run.before.written run.after.written
+cut_front : (run : Run) (made : Result Reply ReplyError) → MakesOwn run made → (input : List ℕ) → IsInput (command_of run.words) run.before.left input → WritesSome made run.before.written run.after.written
     → WritesReplyFront run.words input run.before.written run.after.written
 cut_front run made makes input is some = record { reply = some.reply; is_reply = (made_of run made some.reply makes some.made_is).is_reply input is; front = some.front }
 
@@ -181,7 +186,7 @@ whole_front_of run input is some = record {
   front = whole_front run.before.written run.after.written (reply_text some.reply) some.wrote.written;
 }
 
-reply_of : (run : Run) (made : Result Reply ReplyError) → Makes run made → EndsMade run made → (IsReplied run.ended → WroteSome run) → HasOneReply run
+reply_of : (run : Run) (made : Result Reply ReplyError) → MakesOwn run made → EndsMade run made → (IsReplied run.ended → WroteSome run) → HasOneReply run
 reply_of run made makes ends whole = record {
   answer = λ input is replies.
       let some = whole replies in
@@ -196,7 +201,7 @@ reply_of run made makes ends whole = record {
       all_replied run.ended (λ is. read (makes.fault (ends.read_fault is))) (λ is. write (ends.write_fault is)) memory;
 }
 
-causes_of : (run : Run) (made : Result Reply ReplyError) → Makes run made → EndsMade run made → HasCauses run
+causes_of : (run : Run) (made : Result Reply ReplyError) → MakesOwn run made → EndsMade run made → HasCauses run
 causes_of run made makes ends = record {
   read = λ named fault memory. read_of run made makes named (all_but run made ends fault memory);
   read_within = makes.within;
@@ -208,7 +213,11 @@ causes_of run made makes ends = record {
   memory_unwritten = ends.memory_unwritten;
 }
 
-pub promises : RunLaws → (run : Run) (made : Result Reply ReplyError) → Makes run made → EndsMade run made → KeepsPromises run
+promises : RunLaws → (run : Run) (made : Result Reply ReplyError) → MakesOwn run made → EndsMade run made → KeepsPromises run
 promises laws run made makes ends =
     let whole = wrote_of run made makes ends in
     record { headline = headline_of laws run whole; reply = reply_of run made makes ends whole; causes = causes_of run made makes ends }
+
+-- the same, where the command is known to be the one that the words name
+pub promises_of : RunLaws → (run : Run) (command : Option Command) (made : Result Reply ReplyError) → command ≡ command_of run.words → Makes run command made → EndsMade run made → KeepsPromises run
+promises_of laws run command made is makes ends = promises laws run made (subst (λ (c : Option Command). Makes run c made) is makes) ends

@@ -1,10 +1,11 @@
 -- How many bytes were read, in how many calls.
-use Rattle.std.proofs.Common.{◌≡◌, ℕ, ◌+◌, ◌≤◌, List, ◌++◌, length, drop, Option, Some, None, refl, sym, ap, ◌∙◌, arith}
+use Rattle.std.proofs.Common.{◌≡◌, ℕ, zero, suc, ◌+◌, ◌≤◌, List, [], ◌++◌, length, drop, take, Option, Some, None, refl, sym, subst, ap, ◌∙◌, arith, length-append}
 use Rattle.std.specs.Prelude.{max}
-use Rattle.std.proofs.lemmas.List.{drop_at}
+use Rattle.std.proofs.lemmas.List.{append-nil, drop_at, length-take}
 use Rattle.std.specs.Io.KnownBytes.{Consumes, Keeps}
 use Rattle.io_edge.specs.Calls.{Calls, CallsAtMost}
 use Rattle.gkr_cmd.specs.Reached.{ReadsNoMore, ReadsWithin}
+use Rattle.gkr_cmd.proofs.Ends.{more_read}
 
 -- no call
 pub no_call : (room : ℕ) (a : Option Calls) → CallsAtMost 0 room a a
@@ -28,6 +29,11 @@ no_more most None b xs le h = tt
 no_more most (Some xa) None xs le h = absurd h
 no_more most (Some xa) (Some xb) xs le h = (length xs, le, rw h (ap (λ (t : List ℕ). Some t) (sym (drop_at xs xb (length xs) refl))))
 
+-- a call that read nothing
+pub none_more : (a b c : Option (List ℕ)) (xs room : List ℕ) (n : ℕ) → n ≡ 0 → Consumes a b xs → Consumes b c (take n room) → Consumes a c xs
+none_more a b c xs room zero is h k = subst (λ (t : List ℕ). Consumes a c t) (append-nil xs) (more_read a b c xs [] h k)
+none_more a b c xs room (suc n) is h k = absurd cc
+
 -- a call that failed read nothing
 pub kept_read : (a b c : Option (List ℕ)) (xs : List ℕ) → Consumes a b xs → Keeps b c → Consumes a c xs
 kept_read None b c xs h k = tt
@@ -39,6 +45,12 @@ kept_read (Some xa) (Some xb) (Some xc) xs h k = h ∙ ap (λ (t : List ℕ). xs
 pub read_within : (most many room : ℕ) (a b : Option (List ℕ)) (xs : List ℕ) (c d : Option Calls) → Consumes a b xs → length xs ≤ most → CallsAtMost many room c d → many ≤ most
     → ReadsWithin most room a b c d
 read_within most many room a b xs c d h le k within = record { bytes = no_more most a b xs le h; calls = more_calls room many most c d k within }
+
+-- so many bytes, and some more by the last of so many calls
+pub some_within : (most many room : ℕ) (a b c : Option (List ℕ)) (xs buffer : List ℕ) (n : ℕ) (d e : Option Calls) → Consumes a b xs → Consumes b c (take n buffer) → length xs + n ≤ most
+    → CallsAtMost many room d e → many ≤ most → ReadsWithin most room a c d e
+some_within most many room a b c xs buffer n d e h k le calls within =
+    read_within most many room a c (xs ++ take n buffer) d e (more_read a b c xs (take n buffer) h k) (omega (arith, length-append xs (take n buffer), length-take n buffer)) calls within
 
 -- nothing was read
 pub none_within : (most room : ℕ) (a : Option (List ℕ)) (c : Option Calls) → ReadsWithin most room a a c c

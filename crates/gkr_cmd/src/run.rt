@@ -1,7 +1,9 @@
 //! The whole program.
 
-ghost use Rattle.std.specs.Prelude.{◌≡◌, IfNone, IfSome, map, string_bytes};
-ghost use Rattle.gkr_words.specs.Commands.{IsService, ReadsCase, command_of};
+ghost use Rattle.std.specs.Prelude.{◌≡◌, IfNone, IfSome, Some, map, string_bytes};
+ghost use Rattle.phase_run.specs.Work.{IsWorkerCount};
+ghost use Rattle.gkr_words.specs.Commands.{HasWorkers, IsService, ReadsCase, command_of};
+ghost use Rattle.gkr_words.specs.declared.words.Command.TheVariants.{Serve};
 ghost use Rattle.gkr_cmd.specs.Headline.{KeepsPromises};
 ghost use Rattle.gkr_cmd.specs.RunLaws.{RunLaws};
 
@@ -86,6 +88,31 @@ pub fn run_alone<R: Threads + Sync, S: Source, K: Sink, G: Gate>(
     Some(finish(alloc, made, sink))
 }
 
+// The numbers of threads that the command `serve` asks for.
+fn threading_of(command: Option<Command>) -> Threading
+    requires service { IsService command }
+    requires workers { IfSome command HasWorkers }
+    ensures asked { command ≡ Some (Serve result.workers result.provers result.clients) }
+    ensures workers { IsWorkerCount result.workers }
+    ensures provers { IsWorkerCount result.provers }
+    ensures clients { IsWorkerCount result.clients }
+{
+    match command {
+        Some(
+            Command::Serve {
+                workers,
+                provers,
+                clients,
+            },
+        ) => Threading {
+            workers,
+            provers,
+            clients,
+        },
+        _ => unreachable!(),
+    }
+}
+
 // Runs the command `serve`, which the words name.
 #[tactic(auto, using(crate::proofs::InputReads::none_within))]
 fn run_service<R: Threads + Wait + Sync, S: Source, K: Sink, G: Gate>(
@@ -120,21 +147,7 @@ fn run_service<R: Threads + Wait + Sync, S: Source, K: Sink, G: Gate>(
     let Ok(command) = named_command(alloc, words) else {
         return Status::Memory;
     };
-    let Some(
-        Command::Serve {
-            workers,
-            provers,
-            clients,
-        },
-    ) = command
-    else {
-        unreachable!()
-    };
-    let threading = Threading {
-        workers,
-        provers,
-        clients,
-    };
+    let threading = threading_of(command);
     let made = serve(rt, alloc, threading, source, gate);
     finish(alloc, made, sink)
 }
