@@ -1,15 +1,13 @@
 -- The verdict on a case is that it is accepted exactly where its proof meets every equation
-use Rattle.std.proofs.Common.{◌≡◌, ℕ, List, length, sym}
-use Rattle.field_ext.specs.Field.{F, K}
-use Rattle.circuit_core.specs.Parts.{Parts}
-use Rattle.circuit_core.specs.Sound.{exponent_at, exponents}
-use Rattle.proof_wire.specs.declared.messages.Messages.{Messages}
+use Rattle.std.proofs.Common.{ℕ, List, sym}
+use Rattle.field_ext.specs.Field.{K}
+use Rattle.circuit_core.specs.Sound.{exponent_at}
 use Rattle.proof_wire.specs.Lists.{all_messages}
 use Rattle.transcript_fs.specs.Source.{all_draws}
 use Rattle.transcript_fs.specs.Transcript.{start_state, transcript}
 use Rattle.gkr_layers.specs.declared.verdict.Verdict.TheVariants.{Accepted}
-use Rattle.gkr_layers.specs.Layers.{layers_of, message_count}
-use Rattle.gkr_layers.specs.Acceptance.{CircuitClaim, claim_of, challenge_count}
+use Rattle.gkr_layers.specs.Layers.{layers_of}
+use Rattle.gkr_layers.specs.Acceptance.{CircuitClaim, claim_of}
 use Rattle.gkr_layers.proofs.Accepted.{accepted_exactly}
 use Rattle.gkr_layers.proofs.Shapes.{have_shape, length-all, drawn}
 use Rattle.case_text.specs.Content.{Content}

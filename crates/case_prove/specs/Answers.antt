@@ -2,7 +2,6 @@
 use Rattle.std.specs.Prelude.{◌≡◌, ℕ, List, Bool, true, false}
 use Rattle.arr_compile.specs.Programs.{IsRefusedAs}
 use Rattle.arr_compile.specs.Circuits.{IsTooLarge}
-use Rattle.arr_compile.specs.declared.refused.BadProgram.TheVariants.{At, Deep, Wide}
 use Rattle.layer_compile.specs.declared.refused.LayerRefused.TheVariants as layout
 use Rattle.case_text.specs.Content.{Content}
 use Rattle.case_text.specs.Replies.{reply_text}

@@ -1,20 +1,13 @@
 -- The promises of a run, by the reply that it made and wrote.
-use Rattle.std.proofs.Common.{◌≡◌, ◌≢◌, ◌<◌, ◌≤◌, ◌↔◌, ◌∙◌, ℕ, List, [], Option, Some, None, Result, Ok, Err, refl, sym, subst, arith}
+use Rattle.std.proofs.Common.{◌≡◌, ◌≢◌, ◌<◌, ◌↔◌, ◌∙◌, ℕ, List, Option, None, Result, Ok, Err, refl, sym, subst, arith}
 use Rattle.std.specs.Prelude.{IfOk, OnOk, IsErrOf}
 use Rattle.io_edge.specs.Causes.{Rose}
-use Rattle.case_prove.specs.Proved.{IsProved}
-use Rattle.case_prove.specs.Sound.{HasExceptionalChallenge, HasMeaning}
-use Rattle.case_prove.specs.Verified.{HasAcceptedProof, IsVerdictOn}
-use Rattle.case_text.specs.Content.{Content, Fits}
-use Rattle.case_text.specs.Reading.{reading}
+use Rattle.case_prove.specs.Verified.{HasAcceptedProof}
 use Rattle.case_text.specs.Replies.{reply_text}
-use Rattle.case_text.specs.Spelling.{Spells, lower_case_text}
-use Rattle.case_text.specs.declared.form.Form.{Form}
 use Rattle.case_text.specs.declared.form.Form.TheVariants.{Full, Plain}
 use Rattle.case_text.specs.declared.reply.Reply.{Reply}
-use Rattle.gkr_layers.specs.declared.verdict.Verdict.TheVariants as verdicts
 use Rattle.io_edge.specs.Written.{Grows}
-use Rattle.std.specs.Prelude.{◌+◌, length}
+use Rattle.std.specs.Prelude.{◌+◌}
 use Rattle.gkr_cmd.specs.declared.reply_error.ReplyError.{ReplyError}
 use Rattle.gkr_cmd.specs.declared.reply_error.ReplyError.TheVariants as errors
 use Rattle.gkr_cmd.specs.declared.status.Status.{Status}
@@ -22,16 +15,15 @@ use Rattle.gkr_cmd.specs.declared.status.Status.TheVariants as statuses
 use Rattle.gkr_words.specs.declared.words.Command.{Command}
 use Rattle.gkr_words.specs.declared.words.CaseCommand.TheVariants.{Eval, Circuit, Prove, Verify}
 use Rattle.gkr_words.specs.Commands.{ReadsCase, command_of, input_limit, read_room}
-use Rattle.gkr_cmd.specs.Headline.{Asks, HasCauses, HasOneReply, Headline, KeepsPromises, Run}
+use Rattle.gkr_cmd.specs.Headline.{HasCauses, HasOneReply, Headline, KeepsPromises, Run}
 use Rattle.gkr_cmd.specs.Reached.{IsReadUpTo, ReadsWithin}
 use Rattle.gkr_cmd.specs.Replies.{IsCommandReply, IsReply, status_of}
-use Rattle.case_prove.specs.Answers.{IsProveAnswer}
-use Rattle.gkr_cmd.specs.Runs.{EndsWithReply, HasCircuit, IsEvaluable, IsInput, IsReplied, WritesReplyFront}
+use Rattle.gkr_cmd.specs.Runs.{HasCircuit, IsEvaluable, IsInput, IsReplied, WritesReplyFront}
 use Rattle.gkr_cmd.specs.Finished.{Finishes, WritesSome}
 use Rattle.gkr_cmd.specs.RunLaws.{RunLaws}
 use Rattle.gkr_cmd.proofs.AcceptedCases.{accepted_of, sound_of}
 use Rattle.gkr_cmd.proofs.ProvedCases.{accepted_text, proved_of}
-use Rattle.gkr_cmd.proofs.Replied.{demo_done_of, done_of, input_of, no_more, replied, script_reply_of, whole_front}
+use Rattle.gkr_cmd.proofs.Replied.{demo_done_of, done_of, input_of, no_more, script_reply_of, whole_front}
 use Rattle.gkr_cmd.proofs.ScriptReplies.{serves}
 
 -- the reply that the run made

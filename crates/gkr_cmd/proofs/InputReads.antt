@@ -1,6 +1,5 @@
 -- How many bytes were read, in how many calls.
-use Rattle.std.proofs.Common.{◌≡◌, ℕ, zero, suc, ◌+◌, ◌≤◌, List, [], ◌++◌, length, drop, take, Option, Some, None, refl, sym, subst, ap, ◌∙◌, arith, length-append}
-use Rattle.std.specs.Prelude.{max}
+use Rattle.std.proofs.Common.{◌≡◌, ℕ, zero, suc, ◌+◌, ◌≤◌, List, [], ◌++◌, length, take, Option, Some, None, refl, sym, subst, ap, ◌∙◌, arith, length-append}
 use Rattle.std.proofs.lemmas.List.{append-nil, drop_at, length-take}
 use Rattle.std.specs.Io.KnownBytes.{Consumes, Keeps}
 use Rattle.io_edge.specs.Calls.{Calls, CallsAtMost}

@@ -1,5 +1,5 @@
 -- An input has at most one reply of `serve`, and a script is answered.
-use Rattle.std.proofs.Common.{◌≡◌, ◌≤◌, ◌<◌, ℕ, suc, List, [], ◌∷◌, length, Bool, Result, Ok, Err, Some, ap, ap₂, refl, sym, subst, ◌∙◌, arith}
+use Rattle.std.proofs.Common.{◌≡◌, ◌≤◌, ℕ, suc, List, [], ◌∷◌, length, Result, Ok, Err, Some, ap, ap₂, refl, sym, subst, ◌∙◌, arith}
 use Rattle.std.specs.List.{slice_get}
 use Rattle.case_prove.specs.Answers.{IsProveAnswer, is_proved_case}
 use Rattle.case_text.specs.Content.{Content}

@@ -1,6 +1,6 @@
 -- A case has at most one answer of `verify`, and that to a case whose proof meets every equation is that it is accepted.
-use Rattle.std.proofs.Common.{◌≡◌, ℕ, List, [], ◌∷◌, ◌++◌, length, drop, subst, Option, Some, refl, sym, ap, ◌∙◌}
-use Rattle.field_ext.specs.Field.{F, K}
+use Rattle.std.proofs.Common.{◌≡◌, ℕ, List, length, drop, subst, Option, Some, refl, sym, ap, ◌∙◌}
+use Rattle.field_ext.specs.Field.{F}
 use Rattle.circuit_core.specs.Parts.{Parts}
 use Rattle.circuit_core.specs.Sound.{exponents}
 use Rattle.proof_wire.specs.declared.messages.Messages.{Messages}

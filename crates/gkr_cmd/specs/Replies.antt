@@ -17,7 +17,6 @@ use Rattle.arr_compile.specs.Circuits.{IsTooLarge}
 use Rattle.layer_compile.specs.declared.refused.LayerRefused.TheVariants as layout
 use Rattle.case_prove.specs.Circuits.{IsLaidOut, IsCircuitMiscounted}
 use Rattle.case_prove.specs.Evaluated.{IsEvaluated, IsMiscounted}
-use Rattle.case_prove.specs.Proved.{IsProved}
 use Rattle.case_prove.specs.Verified.{IsVerdictOn, IsOutputMiscounted, IsBadProof}
 use Rattle.gkr_layers.specs.declared.verdict.Verdict.{Verdict}
 use Rattle.gkr_layers.specs.declared.verdict.Verdict.TheVariants as verdicts

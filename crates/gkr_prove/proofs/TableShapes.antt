@@ -1,12 +1,12 @@
 -- The layers' tables and gates have the circuit's sizes
-use Rattle.std.proofs.Common.{◌≡◌, ℕ, ◌+◌, ◌*◌, ◌^◌, ◌<◌, ◌≤◌, ◌⊎◌, inl, inr, List, [], ◌∷◌, length, map, drop, get_or, All, refl, sym, ◌∙◌, ap, ap₂, subst, arith, add-one}
+use Rattle.std.proofs.Common.{◌≡◌, ℕ, ◌+◌, ◌^◌, ◌<◌, ◌≤◌, ◌⊎◌, inl, inr, List, [], ◌∷◌, length, get_or, All, sym, ◌∙◌, ap, subst, arith}
 use Rattle.std.proofs.lemmas.Bool.{cases_lt, cases_eq}
 use Rattle.std.proofs.lemmas.List.{length-map}
 use Rattle.std.proofs.lemmas.Nat.{pow_below}
 use Rattle.field_ext.specs.Field.{F, K, embed_k}
 use Rattle.circuit_core.specs.declared.gate.CircuitGate.{CircuitGate}
 use Rattle.circuit_core.specs.Parts.{Parts, height, width_of, layer_values, IsOver}
-use Rattle.circuit_core.specs.Sound.{SoundCircuit, exponent_at, exponents}
+use Rattle.circuit_core.specs.Sound.{SoundCircuit, exponent_at}
 use Rattle.circuit_core.proofs.Faultless.{none_from_test, leaves_room}
 use Rattle.circuit_core.proofs.LayerValues.{length-layer, length-input}
 use Rattle.circuit_eval.specs.Tables.{AreTables}

@@ -5,7 +5,6 @@ use Rattle.field_ext.specs.Polynomial.{value_at}
 use Rattle.circuit_core.specs.declared.gate.CircuitGate.{CircuitGate}
 use Rattle.gkr_layers.specs.Layers.{GateLayer}
 use Rattle.transcript_fs.specs.Source.{Source, draws, state_after}
-use Rattle.gkr_layers.specs.declared.verdict.Verdict.{Verdict}
 use Rattle.gkr_layers.specs.declared.verdict.Verdict.TheVariants.{End}
 use Rattle.gkr_layers.specs.Equations.{Equation, end_equation, claim_after, sum_equations, equations, Answered, answer}
 use Rattle.gkr_verify.proofs.Choices.{first_holds, first_fails}

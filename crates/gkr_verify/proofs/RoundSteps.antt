@@ -1,5 +1,5 @@
 -- The rounds of a layer, one more at a time
-use Rattle.std.proofs.Common.{◌≡◌, ℕ, zero, suc, ◌+◌, ◌-◌, ◌<◌, ◌≤◌, List, [], ◌∷◌, ◌++◌, length, get_or, set, take, drop, Bool, true, false, if◌then◌else◌, IsTrue, refl, sym, ◌∙◌, ap, subst, arith, add-one, drop_of_length-le, append-nil, append_assoc, take-suc-set}
+use Rattle.std.proofs.Common.{◌≡◌, ℕ, suc, ◌+◌, ◌-◌, ◌<◌, ◌≤◌, List, [], ◌∷◌, ◌++◌, length, get_or, set, take, drop, true, false, IsTrue, refl, sym, ◌∙◌, ap, subst, arith, add-one, drop_of_length-le, append-nil, append_assoc, take-suc-set}
 use Rattle.std.proofs.lemmas.List.{drop_more, take_all, length-map, get_or-map}
 use Rattle.proof_wire.specs.declared.messages.Round.{Round}
 use Rattle.proof_wire.specs.Spelling.{coefficients_of}
@@ -9,9 +9,8 @@ use Rattle.field_ext.specs.Polynomial.{value_at}
 use Rattle.transcript_fs.specs.Source.{Source, draws, state_after}
 use Rattle.transcript_fs.proofs.Draws.{has_any}
 use Rattle.gkr_verify.proofs.Choices.{first_holds, first_fails}
-use Rattle.gkr_layers.specs.declared.verdict.Verdict.{Verdict}
 use Rattle.gkr_layers.specs.declared.verdict.Verdict.TheVariants.{Sum}
-use Rattle.gkr_layers.specs.Equations.{Equation, claim_after, sum_equations, Answered, answer}
+use Rattle.gkr_layers.specs.Equations.{Equation, claim_after, sum_equations, answer}
 
 -- a round's message as it is read
 pub message_read : (messages : List Round) (j : ℕ) (round : Round) (q : List K) → j < length messages → round ≡ get_or messages j round → q ≡ coefficients_of round → (j < length (round_messages messages)) × (q ≡ get_or (round_messages messages) j q)

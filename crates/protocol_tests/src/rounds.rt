@@ -28,20 +28,14 @@ fn binds_a_claim_by_rounds(rt: HostRuntime) {
 #[test]
 fn leads_a_copy_to_its_last_claim(rt: HostRuntime) {
     let mut rounds = Rounds::start(number(10));
-    let mut claims = [number(0); 2];
-    for (i, (message, challenge)) in [([0, -5, 15], 3), ([120, -80, -40], 4)]
-        .into_iter()
-        .enumerate()
-    {
-        if !rounds.waiting() {
-            assert_eq!(rt; rounds.take(message.map(number)), Ok(()));
-        }
-        if rounds.waiting() {
-            rounds.bind(number(challenge));
-        }
-        claims[i] = rounds.claim();
+    for (message, challenge, claim) in [([0, -5, 15], 3, 120), ([120, -80, -40], 4, -840)] {
+        let [c0, c1, c2] = message;
+        assert!(rt; !rounds.waiting());
+        assert_eq!(rt; rounds.take([number(c0), number(c1), number(c2)]), Ok(()));
+        assert!(rt; rounds.waiting());
+        rounds.bind(number(challenge));
+        assert_eq!(rt; rounds.claim(), number(claim));
     }
-    assert_eq!(rt; claims, [number(120), number(-840)]);
     let mut point = [number(0)];
     point_at(&[number(3)], &[number(4)], number(6), &mut point);
     assert_eq!(rt; point, [number(9)]);

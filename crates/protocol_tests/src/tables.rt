@@ -1,7 +1,7 @@
 //! The tables of a circuit of two layers, by hand.
 
 use crate::circuits::product;
-use crate::numbers::number;
+use crate::numbers::numbers;
 use circuit_eval::layer_values;
 use field_ext::Fp;
 use std::test::Fail;
@@ -17,11 +17,8 @@ fn holds_the_values_of_each_layer(rt: HostRuntime) -> Result<(), Fail> {
     }
     let values = layer_values(&rt, rt.alloc(), &circuit, &inputs)?;
     for (layer, want) in [(0, &[0, 12][..]), (1, &[0, 12]), (2, &[0, 3, 4, 0])] {
-        let table = values.table(layer);
-        assert_eq!(rt; 1usize << table.k(), want.len());
-        for (i, value) in want.iter().enumerate() {
-            assert_eq!(rt; table.at(i), number(*value));
-        }
+        let want = numbers(rt.alloc(), want)?;
+        assert_eq!(rt; values.table(layer).values(), want.as_slice());
     }
     Ok(())
 }

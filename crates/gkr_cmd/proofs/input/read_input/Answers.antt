@@ -1,6 +1,5 @@
-use Rattle.std.proofs.Common.{rules, arith, ◌≤◌, ◌+◌, length}
+use Rattle.std.proofs.Common.{rules, arith, ◌+◌, length}
 use Rattle.gkr_words.specs.Commands.{read_room}
-use Rattle.io_edge.specs.Calls.{CallsAtMost}
 use Rattle.gkr_cmd.proofs.InputReads.{kept_read, none_more, one_call, read_within, some_within}
 use Rattle.gkr_cmd.proofs.input.read_input.Goals as goal
 

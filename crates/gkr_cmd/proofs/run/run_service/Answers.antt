@@ -1,4 +1,4 @@
-use Rattle.std.proofs.Common.{map, Option, Some, None, ◌≡◌, sym, ◌∙◌}
+use Rattle.std.proofs.Common.{map, Option, Some, sym, ◌∙◌}
 use Rattle.std.proofs.lemmas.Result.{IfOk-weaker}
 use Rattle.std.specs.Prelude.{string_bytes}
 use Rattle.gkr_words.specs.declared.words.Command.{Command}

@@ -1,6 +1,5 @@
 -- The coordinates of the output point come first
 use Rattle.std.proofs.Common.{◌≡◌, ℕ, ◌++◌, List, IsTrue, length, take, drop, ◌∙◌, ap, sym, subst}
-use Rattle.field_ext.specs.Field.{K}
 use Rattle.circuit_core.specs.Parts.{Parts}
 use Rattle.circuit_core.specs.Sound.{exponent_at, exponents}
 use Rattle.gkr_layers.specs.Layers.{layers_of, message_count}
