@@ -1,4 +1,5 @@
 use io_edge::Gate;
+use std::hint::spin_loop;
 use std::sync::atomic::{AtomicU64, Ordering};
 
 /// Holds the first entry with a piece of number `from` or more until a second such entry, for at most 10,000,000 turns, and
@@ -40,6 +41,7 @@ impl Gate for MeetingGate {
             if self.entries.load(Ordering::SeqCst) > 1 {
                 return;
             }
+            spin_loop();
         }
         self.raised.store(1, Ordering::SeqCst);
     }
