@@ -29,7 +29,7 @@ pub fn places_play_no_part()
         → meaning a inputs ≡ meaning b inputs }
 {}
 
-/// White space between tokens changes no tree: texts that have other white space at one place behind whole tokens have the
+/// White space between tokens changes no tree: texts that have other white space at one place after whole tokens have the
 /// same tree, but for places.
 pub fn white_space()
     ensures { (front back blanks others : List ℕ) (tokens : List Token)
@@ -42,7 +42,7 @@ pub fn white_space()
     one_tree_of_words();
 }
 
-/// White space between tokens changes no meaning: texts that have other white space at one place behind whole tokens put out
+/// White space between tokens changes no meaning: texts that have other white space at one place after whole tokens put out
 /// the same for the same inputs.
 pub fn white_space_means_nothing()
     ensures { (front back blanks others : List ℕ) (tokens : List Token)

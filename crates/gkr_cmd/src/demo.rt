@@ -1,4 +1,4 @@
-//! The case that `demo` generates from a number, and what is told of its proof.
+//! The case that `demo` generates from a number, and the summary of its proof.
 
 ghost use Rattle.std.specs.Prelude.{◌≡◌, ◌≢◌, ◌++◌, ◌≤◌, ◌-◌, length, IfOk, OnOk, IsSome, Some};
 ghost use Rattle.sha2.specs.Sha256.{sha256};
@@ -53,7 +53,7 @@ pub fn demo<R: Threads + Sync, G: Gate>(
     Ok(Reply::Demo(summary(number, &sizes, &case, &proved)))
 }
 
-/// Why the case of a number wasn't laid out or proved, which is want of memory alone.
+/// Why the case of a number wasn't laid out or proved: memory ran out, and nothing else.
 fn want_of_memory(number: u32, refused: Refused) -> ReplyError
     requires { RefusesCircuit (demo_case number) refused }
     ensures { result ≡ ReplyError.Memory }
@@ -96,7 +96,7 @@ fn demo_program(alloc: Global, size: u32) -> Result<Vec<u8>, AllocError>
     Ok(program)
 }
 
-/// The declaration of a square matrix, behind its first words.
+/// The declaration of a square matrix, after its first words.
 #[tactic(auto, unfolding(crate::specs::Demo::square_text))]
 fn put_square(out: &mut Vec<u8>, words: &[u8], size: u32) -> Result<(), AllocError>
     ensures { OnOk result (out.new.items ≡ out.old.items ++ square_text words.now size) }
@@ -170,7 +170,7 @@ fn proof_of(proved: &Case) -> &[u8]
     }
 }
 
-/// What is told of the case of a number that was proved and accepted, where its circuit has these
+/// The summary of the case of a number that was proved and accepted, where its circuit has these
 /// sizes.
 fn summary(number: u32, sizes: &CircuitSizes, case: &Case, proved: &Case) -> DemoSummary
     requires case { case.now ≡ demo_case number }

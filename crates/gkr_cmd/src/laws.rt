@@ -67,7 +67,7 @@ pub fn provable_is_done()
     compiled_or_refused();
 }
 
-/// The reply of `demo` tells of a proof that is accepted.
+/// The reply of `demo` sums up a proof that is accepted.
 pub fn demo_is_done()
     ensures { (number : ℕ) (reply : Reply) → IsDemoAnswer number reply → status_of reply ≡ Done }
 {}

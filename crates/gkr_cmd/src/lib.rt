@@ -2,7 +2,7 @@
 //!
 //! `gkr_run` reads the whole input where the command reads a case, makes the whole reply, and then
 //! writes it. Its contract is the theorem of the program (`specs/Headline.antt`): status and bytes are
-//! the reply that the definitions give, and a failing source or sink is told exactly where it failed.
+//! the reply that the definitions give, and a failing source or sink is named exactly where it failed.
 //! `run_program` ends a process with the number of that status. `run_alone` runs all commands but
 //! `serve`, whose threads wait for each other, and returns.
 //!

@@ -24,7 +24,7 @@ use std::marker::Sync;
 use std::sync::Wait;
 use std::thread::Threads;
 
-// The laws that the promises of a run stand on.
+// The laws that the promises of a run rest on.
 fn run_laws()
     ensures { RunLaws }
 {

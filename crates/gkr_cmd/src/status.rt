@@ -24,7 +24,7 @@ pub enum Status {
     BadProof = 6,
     /// The source failed; nothing is written.
     ReadFault = 7,
-    /// The sink failed; a front of the reply may be written.
+    /// The sink failed; a prefix of the reply may be written.
     WriteFault = 8,
     /// No memory was found; nothing is written.
     Memory = 9,

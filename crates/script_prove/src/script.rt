@@ -22,7 +22,7 @@ pub struct Threading {
     pub clients: u32,
 }
 
-/// The replies to the jobs of a script, in its order. Want of memory in one job is that of all.
+/// The replies to the jobs of a script, in its order. Where one job runs out of memory, all have.
 pub fn serve_script<R: Threads + Wait + Sync, G: Gate>(
     rt: &R,
     alloc: Global,
@@ -59,7 +59,7 @@ fn numbered(alloc: Global, script: Vec<ScriptJob>) -> Result<Vec<(u32, ScriptJob
     Ok(jobs)
 }
 
-// The replies, where no outcome is want of memory.
+// The replies, where no job ran out of memory.
 fn served(alloc: Global, outcomes: Vec<Outcome<JobReply>>) -> Result<Vec<ServedJob>, AllocError>
     ensures { IfOk result (λ served. outcomes.items ≡ map answer_of served.items) }
 {
