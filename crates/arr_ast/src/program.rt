@@ -3,11 +3,12 @@
 use crate::expression::Expression;
 use crate::statement::Statement;
 
-/// A name, and the place of its first byte.
-#[derive(Debug, Drop)]
+/// A name: the place of its first byte, and its number. Names of one program have equal numbers exactly where they have equal
+/// bytes.
+#[derive(Clone, Copy, Debug)]
 pub struct Name {
     pub at: usize,
-    pub text: Vec<u8>,
+    pub number: usize,
 }
 
 /// `[ number ]`, with the number's place

@@ -1,5 +1,4 @@
 pub mod Answered
-pub mod Entries
 pub mod ExpressionRows
 pub mod IndexRows
 pub mod InputNodes

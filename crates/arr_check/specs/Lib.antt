@@ -2,7 +2,6 @@ pub mod Agrees
 pub mod Bounds
 pub mod Counting
 pub mod Element
-pub mod Entries
 pub mod Expression
 pub mod Index
 pub mod Places

@@ -36,10 +36,10 @@ expression_at (ExpressionOf first added) = term_at first
 
 -- what a name of the program stands for
 abbrev pub bound : NameTree → Run → Option Binding
-bound name run = binding_of name.text run.scope
+bound name run = binding_of name.number run.scope
 
-abbrev pub with_name : List ℕ → Binding → Run → Run
-with_name text binding run = record run { scope = run.scope ++ (text, binding) ∷ [] }
+abbrev pub with_name : ℕ → Binding → Run → Run
+with_name name binding run = record run { scope = run.scope ++ (name, binding) ∷ [] }
 
 -- the names that were there before a block
 abbrev pub without_block : ℕ → Run → Run
@@ -65,7 +65,7 @@ assigned shape value run =
 abbrev pub declared : NameTree → ExpressionTree → Run → Answer Run
 declared name value run =
     if_free name.at (bound name run) run >>= λ run. expression_shape value run >>= λ found.
-    Ok (with_name name.text (Value found.0) found.1)
+    Ok (with_name name.number (Value found.0) found.1)
 
 -- so many turns from one on, each a run of the body
 abbrev pub turns : ℕ → ℕ → (ℕ → Run → Answer Run) → Run → Answer Run
@@ -75,7 +75,7 @@ turns (suc left) turn body run = body turn run >>= turns left (turn + 1) body
 -- a turn is a step, and a block with the loop variable
 abbrev pub one_turn : ℕ → NameTree → (Run → Answer Run) → ℕ → Run → Answer Run
 one_turn at name body turn run =
-    step_at at run >>= λ run. body (with_name name.text (Turn turn) run) >>= λ after.
+    step_at at run >>= λ run. body (with_name name.number (Turn turn) run) >>= λ after.
     Ok (without_block (length run.scope) after)
 
 -- a loop with these bounds and this body

@@ -22,10 +22,10 @@ pub fn element_place(
 ) -> Result<(u64, u64), CheckRefused>
     ensures place { Agrees (λ place. place) result
         (element_at scope.now name.now.at (indices_tree indices.now)
-        (binding_of name.now.text.items scope.now)) }
+        (binding_of name.now.number scope.now)) }
     ensures small { IfOk result (λ place. (place.0 < 2 ^ 32) × (place.1 < 2 ^ 32)) }
 {
-    match scope.get(name.text.as_slice()) {
+    match scope.get(name.number) {
         Some(Binding::Value(shape)) => place_in(scope, name.at, indices, shape),
         Some(Binding::Turn(_)) => Err(CheckRefused::Bad {
             at: name.at,

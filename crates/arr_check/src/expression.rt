@@ -108,9 +108,9 @@ fn shape_of_constant(run: &mut Run, at: usize, value: u32) -> Result<ShapeOf, Ch
 
 fn shape_of_name(run: &mut Run, name: &Name) -> Result<ShapeOf, CheckRefused>
     ensures { Agrees (λ shape. (shape, run.new)) result
-        (name_shape name.now.at (binding_of name.now.text.items run.old.scope) run.old) }
+        (name_shape name.now.at (binding_of name.now.number run.old.scope) run.old) }
 {
-    match run.scope.get(name.text.as_slice()) {
+    match run.scope.get(name.number) {
         Some(Binding::Value(shape)) => Ok(shape),
         Some(Binding::Turn(number)) => shape_of_constant(run, name.at, number),
         None => Err(CheckRefused::Bad {

@@ -137,10 +137,10 @@ fn within(whole: usize, value: i64) -> Result<i64, CheckRefused>
 // The number of a loop's turn.
 fn turn(scope: &Scope, whole: usize, name: &Name) -> Result<i64, CheckRefused>
     ensures value { Agrees (λ z. z) result
-        (turn_of whole name.now.at (binding_of name.now.text.items scope.now)) }
+        (turn_of whole name.now.at (binding_of name.now.number scope.now)) }
     ensures small { IfOk result (λ z. nat_abs z ≤ 2 ^ 31) }
 {
-    match scope.get(name.text.as_slice()) {
+    match scope.get(name.number) {
         Some(Binding::Turn(number)) => within(whole, i64::from(number)),
         _ => Err(CheckRefused::Bad {
             at: name.at,

@@ -2,8 +2,8 @@
 //!
 //! The run goes through statements and loops as they would be evaluated, and counts steps, nodes of the circuit to come and outputs. The
 //! first thing that breaks a rule is the refusal, with the byte that it names; `docs/language.md` has the rules. A program that
-//! nothing refuses comes back as `Checked`, with its counts. A step costs the names that it looks up, each in time logarithmic in
-//! the names in scope, and a loop is run turn by turn, never unrolled in memory.
+//! nothing refuses comes back as `Checked`, with its counts. Names go by their numbers, so a look-up is an index into a list, however
+//! long the name and however many are in scope. A loop is run turn by turn, never unrolled in memory.
 //! The rules stand in `specs/Program.antt` and the files that it names; `laws` says that a loop's turns come in order.
 //!
 //! `input v[2]; output v+1;` is refused as Shape at the `+`, byte 20.

@@ -30,9 +30,9 @@ pub fn check(alloc: Global, program: Program) -> Result<Checked, CheckRefused>
     ensures same { IfOk result (λ checked. program_tree checked.program ≡ program_tree program) }
 {
     let mut run = start(alloc);
-    run_inputs(&mut run, alloc, &program.inputs)?;
+    run_inputs(&mut run, &program.inputs)?;
     let inputs = run.nodes;
-    run_top_statements(&mut run, alloc, &program.statements)?;
+    run_top_statements(&mut run, &program.statements)?;
     if run.outputs == 0 {
         return Err(CheckRefused::Bad {
             at: program.end,
@@ -59,23 +59,23 @@ fn start(alloc: Global) -> Run
     }
 }
 
-fn run_inputs(run: &mut Run, alloc: Global, inputs: &[Input]) -> Result<(), CheckRefused>
+fn run_inputs(run: &mut Run, inputs: &[Input]) -> Result<(), CheckRefused>
     ensures { Agrees (λ _. run.new) result (each after_input (map input_tree inputs.now) run.old) }
 {
     'each: for input in inputs {
-        run_input(run, alloc, input)?;
+        run_input(run, input)?;
     }
     Ok(())
 }
 
-fn run_input(run: &mut Run, alloc: Global, input: &Input) -> Result<(), CheckRefused>
+fn run_input(run: &mut Run, input: &Input) -> Result<(), CheckRefused>
     ensures { Agrees (λ _. run.new) result (after_input (input_tree input.now) run.old) }
 {
     step(run, input.at)?;
     require_free(run, &input.name)?;
     let shape = input_shape(input.dimensions)?;
     add_nodes(run, input.name.at, size(shape), 1)?;
-    declare(run, alloc, &input.name, Binding::Value(shape))
+    declare(run, &input.name, Binding::Value(shape))
 }
 
 fn input_shape(dimensions: Dimensions) -> Result<ShapeOf, CheckRefused>
@@ -104,24 +104,16 @@ fn size_of_dimension(dimension: Dimension) -> Result<u32, CheckRefused>
     }
 }
 
-fn run_top_statements(
-    run: &mut Run,
-    alloc: Global,
-    statements: &[TopStatement],
-) -> Result<(), CheckRefused>
+fn run_top_statements(run: &mut Run, statements: &[TopStatement]) -> Result<(), CheckRefused>
     ensures { Agrees (λ _. run.new) result (each after_top (map top_tree statements.now) run.old) }
 {
     'each: for statement in statements {
-        run_top_statement(run, alloc, statement)?;
+        run_top_statement(run, statement)?;
     }
     Ok(())
 }
 
-fn run_top_statement(
-    run: &mut Run,
-    alloc: Global,
-    statement: &TopStatement,
-) -> Result<(), CheckRefused>
+fn run_top_statement(run: &mut Run, statement: &TopStatement) -> Result<(), CheckRefused>
     ensures { Agrees (λ _. run.new) result (after_top (top_tree statement.now) run.old) }
 {
     match statement {
@@ -130,7 +122,7 @@ fn run_top_statement(
             let shape = expression_shape(run, value)?;
             add_outputs(run, *at, size(shape))
         }
-        TopStatement::Inner(statement) => run_statement(run, alloc, statement),
+        TopStatement::Inner(statement) => run_statement(run, statement),
     }
 }
 

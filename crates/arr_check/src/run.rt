@@ -7,7 +7,6 @@ ghost use Rattle.arr_check.specs.Agrees.{Agrees};
 use crate::constants::Constants;
 use crate::refused::{CheckKind, CheckRefused};
 use crate::scope::Scope;
-use std::alloc::Global;
 
 const MAX_STEPS: u64 = 1_048_576;
 

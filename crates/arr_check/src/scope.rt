@@ -1,41 +1,31 @@
 //! The names in scope.
 
-ghost use Rattle.std.specs.Prelude.{◌≡◌, ◌<◌, ◌-◌, [], ◌∷◌, ◌++◌, length, take, None, IsSome, OnOk};
+ghost use Rattle.std.specs.Prelude.{◌≡◌, ℕ, ◌<◌, ◌-◌, List, [], ◌∷◌, ◌++◌, length, take, get_or, set, Option, None, IsSome, OnOk};
 ghost use Rattle.arr_check.specs.Scope.{binding_of, place_of};
 
 use crate::binding::Binding;
 use std::alloc::{AllocError, Global};
-use std::collections::BTreeMap;
 use std::marker::Model;
 
-/// The names in scope with what they stand for, seen as a list, the oldest first.
+/// The names in scope by their numbers, with what they stand for, seen as a list, the oldest first.
 ///
-/// A map from each name to its oldest place stands beside the list, so a look-up takes time logarithmic in the number of names,
-/// and forgetting costs only the names forgotten.
+/// The oldest place of each name stands beside the list, so a look-up takes constant time, and forgetting costs only the names
+/// forgotten.
 #[derive(Drop)]
 pub struct Scope {
-    names: Vec<Entry>,
-    places: BTreeMap<Vec<u8>, usize>,
-}
-
-#[derive(Drop)]
-struct Entry {
-    name: Vec<u8>,
-    binding: Binding,
+    names: Vec<(usize, Binding)>,
+    places: Vec<Option<usize>>,
 }
 
 impl Model for Scope {
-    ghost use Rattle.std.specs.Prelude.{List, ℕ};
-    ghost use Rattle.arr_check.specs.declared.binding.Binding.{Binding};
-
-    ghost Value = { List (List ℕ × Binding) };
-
-    ghost use Rattle.arr_check.specs.Entries.{entries_of};
+    ghost use Rattle.arr_check.specs.Scope.{Names};
     ghost use Rattle.arr_check.specs.Places.{Answers};
 
-    ghost view = { λ s. entries_of s.names.items };
+    ghost Value = { Names };
 
-    ghost invariant = { λ s. Answers s.places (entries_of s.names.items) };
+    ghost view = { λ s. s.names.items };
+
+    ghost invariant = { λ s. Answers s.places.items s.names.items };
 }
 
 impl Scope {
@@ -45,7 +35,7 @@ impl Scope {
     {
         Scope {
             names: Vec::new(alloc),
-            places: BTreeMap::new(alloc),
+            places: Vec::new(alloc),
         }
     }
 
@@ -57,74 +47,52 @@ impl Scope {
     }
 
     /// What a name stands for, if it is in scope.
-    pub fn get(&self, name: &[u8]) -> Option<Binding>
-        ensures { result ≡ binding_of name.now self.now }
+    pub fn get(&self, name: usize) -> Option<Binding>
+        ensures { result ≡ binding_of name self.now }
     {
-        match self.places.get(name) {
-            Some(place) => Some(self.names[*place].binding),
+        match place_at(&self.places, name) {
+            Some(place) => Some(self.names[place].1),
             None => None,
         }
     }
 
     /// Where a name stands, if it is in scope.
-    pub fn place(&self, name: &[u8]) -> Option<usize>
-        ensures { result ≡ place_of name.now self.now }
+    pub fn place(&self, name: usize) -> Option<usize>
+        ensures { result ≡ place_of name self.now }
     {
-        self.places.get(name).copied()
+        place_at(&self.places, name)
     }
 
     /// Adds a name behind the others. Where the name was in scope already, the older one is still found first.
-    pub fn declare(
-        &mut self,
-        alloc: Global,
-        name: &[u8],
-        binding: Binding,
-    ) -> Result<(), AllocError>
-        ensures { OnOk result (self.new ≡ self.old ++ (name.now, binding) ∷ []) }
+    pub fn declare(&mut self, name: usize, binding: Binding) -> Result<(), AllocError>
+        ensures { OnOk result (self.new ≡ self.old ++ (name, binding) ∷ []) }
     {
-        if self.places.contains_key(name) {
-            self.declare_again(alloc, name, binding)
+        if self.place(name).is_some() {
+            self.declare_again(name, binding)
         } else {
-            self.declare_new(alloc, name, binding)
+            self.declare_new(name, binding)
         }
     }
 
     // Adds a name that is in scope.
-    fn declare_again(
-        &mut self,
-        alloc: Global,
-        name: &[u8],
-        binding: Binding,
-    ) -> Result<(), AllocError>
-        requires { IsSome (place_of name.now self.old) }
-        ensures { OnOk result (self.new ≡ self.old ++ (name.now, binding) ∷ []) }
+    fn declare_again(&mut self, name: usize, binding: Binding) -> Result<(), AllocError>
+        requires { IsSome (place_of name self.old) }
+        ensures { OnOk result (self.new ≡ self.old ++ (name, binding) ∷ []) }
     {
-        let name = Vec::from_slice(alloc, name)?;
-        self.names.push(Entry { name, binding })?;
+        self.names.push((name, binding))?;
         Ok(())
     }
 
     // Adds a name that isn't in scope.
-    fn declare_new(
-        &mut self,
-        alloc: Global,
-        name: &[u8],
-        binding: Binding,
-    ) -> Result<(), AllocError>
-        requires { place_of name.now self.old ≡ None }
-        ensures { OnOk result (self.new ≡ self.old ++ (name.now, binding) ∷ []) }
+    fn declare_new(&mut self, name: usize, binding: Binding) -> Result<(), AllocError>
+        requires { place_of name self.old ≡ None }
+        ensures { OnOk result (self.new ≡ self.old ++ (name, binding) ∷ []) }
     {
         let place = self.names.len();
-        let key = Vec::from_slice(alloc, name)?;
-        let name = Vec::from_slice(alloc, name)?;
-        self.names.push(Entry { name, binding })?;
-        match self.places.insert(key, place) {
-            Ok(_) => Ok(()),
-            Err(_) => {
-                self.names.pop();
-                Err(AllocError)
-            }
-        }
+        make_room(&mut self.places, name)?;
+        self.names.push((name, binding))?;
+        set_place(&mut self.places, name, Some(place));
+        Ok(())
     }
 
     /// Forgets all names but the oldest.
@@ -141,12 +109,42 @@ impl Scope {
         requires { 0 < length self.old }
         ensures { self.new ≡ take (length self.old - 1) self.old }
     {
-        if let Some(entry) = self.names.pop() {
+        if let Some((name, _)) = self.names.pop() {
             let place = self.names.len();
-            let name = entry.name.as_slice();
-            if self.places.get(name).copied() == Some(place) {
-                self.places.remove(name);
+            if place_at(&self.places, name) == Some(place) {
+                set_place(&mut self.places, name, None);
             }
         }
     }
+}
+
+// The place of a name, which is none behind the last.
+fn place_at(places: &[Option<usize>], name: usize) -> Option<usize>
+    ensures { result ≡ get_or places.now name None }
+{
+    match places.get(name) {
+        Some(place) => *place,
+        None => None,
+    }
+}
+
+// Sets the place of a name, where there is room.
+fn set_place(places: &mut Vec<Option<usize>>, name: usize, place: Option<usize>)
+    ensures { places.new.items ≡ set places.old.items name place }
+{
+    if name < places.len() {
+        places[name] = place;
+    }
+}
+
+// Makes room for the place of a name.
+fn make_room(places: &mut Vec<Option<usize>>, name: usize) -> Result<(), AllocError>
+    ensures same { (other : ℕ) → get_or places.new.items other None
+        ≡ get_or places.old.items other None }
+    ensures room { OnOk result (name < length places.new.items) }
+{
+    'each: while places.len() <= name {
+        places.push(None)?;
+    }
+    Ok(())
 }

@@ -16,24 +16,19 @@ use crate::run::{Run, step};
 use crate::scope::Scope;
 use crate::target::{assign, declare, declare_value, require_free, target};
 use arr_ast::{IndexExpression, Name, ShapeOf, Statement};
-use std::alloc::Global;
 
 const MODULUS: i64 = 2_147_483_647;
 
 /// The run of one statement.
 #[cycle(statement)]
 #[tactic(auto, using(crate::proofs::StatementRows::of_statements))]
-pub fn run_statement(
-    run: &mut Run,
-    alloc: Global,
-    statement: &Statement,
-) -> Result<(), CheckRefused>
+pub fn run_statement(run: &mut Run, statement: &Statement) -> Result<(), CheckRefused>
     ensures { Agrees (λ _. run.new) result (after_statement (statement_tree statement.now) run.old) }
 {
     match statement {
         Statement::Let { at, name, value } => {
             step(run, *at)?;
-            declare_value(run, alloc, name, value)
+            declare_value(run, name, value)
         }
         Statement::Set { name, value } => {
             step(run, name.at)?;
@@ -56,7 +51,7 @@ pub fn run_statement(
             low,
             high,
             body,
-        } => counted_loop(run, alloc, *at, name, body, low, high),
+        } => counted_loop(run, *at, name, body, low, high),
     }
 }
 
@@ -65,7 +60,6 @@ pub fn run_statement(
 #[tactic(auto, using(crate::proofs::StatementRows::of_statements))]
 fn counted_loop(
     run: &mut Run,
-    alloc: Global,
     at: usize,
     name: &Name,
     body: &[Statement],
@@ -79,7 +73,7 @@ fn counted_loop(
     step(run, at)?;
     require_free(run, name)?;
     let (first, end) = bounds(&run.scope, low, high)?;
-    all_turns(run, alloc, at, name, first, end, body)
+    all_turns(run, at, name, first, end, body)
 }
 
 // The turns of a loop from the first on, below the end.
@@ -87,7 +81,6 @@ fn counted_loop(
 #[tactic(auto, using(crate::proofs::StatementRows::of_statements))]
 fn all_turns(
     run: &mut Run,
-    alloc: Global,
     at: usize,
     name: &Name,
     first: u32,
@@ -101,7 +94,7 @@ fn all_turns(
         run.old) }
 {
     'each: for turn in first..end {
-        one_turn(run, alloc, at, name, turn, body)?;
+        one_turn(run, at, name, turn, body)?;
     }
     Ok(())
 }
@@ -111,7 +104,6 @@ fn all_turns(
 #[tactic(auto, using(crate::proofs::StatementRows::of_statements))]
 fn one_turn(
     run: &mut Run,
-    alloc: Global,
     at: usize,
     name: &Name,
     turn: u32,
@@ -123,8 +115,8 @@ fn one_turn(
 {
     step(run, at)?;
     let kept = run.scope.len();
-    declare(run, alloc, name, Binding::Turn(turn))?;
-    run_all(run, alloc, body)?;
+    declare(run, name, Binding::Turn(turn))?;
+    run_all(run, body)?;
     run.scope.forget(kept);
     Ok(())
 }
@@ -132,12 +124,12 @@ fn one_turn(
 // The run of statements, one after another.
 #[cycle(statement)]
 #[tactic(auto, using(crate::proofs::StatementRows::of_statements))]
-fn run_all(run: &mut Run, alloc: Global, statements: &[Statement]) -> Result<(), CheckRefused>
+fn run_all(run: &mut Run, statements: &[Statement]) -> Result<(), CheckRefused>
     ensures { Agrees (λ _. run.new) result
         (each after_statement (map statement_tree statements.now) run.old) }
 {
     'each: for statement in statements {
-        run_statement(run, alloc, statement)?;
+        run_statement(run, statement)?;
     }
     Ok(())
 }

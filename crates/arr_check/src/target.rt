@@ -14,14 +14,13 @@ use crate::run::Run;
 use crate::scope::Scope;
 use crate::shape::is_alike;
 use arr_ast::{Expression, Name, ShapeOf};
-use std::alloc::Global;
 
 /// Tests that a name may be declared.
 pub fn require_free(run: &Run, name: &Name) -> Result<(), CheckRefused>
     ensures { Agrees (λ _. run.now) result
         (if_free name.now.at (bound (name_tree name.now) run.now) run.now) }
 {
-    match run.scope.get(name.text.as_slice()) {
+    match run.scope.get(name.number) {
         None => Ok(()),
         Some(_) => Err(CheckRefused::Bad {
             at: name.at,
@@ -31,39 +30,29 @@ pub fn require_free(run: &Run, name: &Name) -> Result<(), CheckRefused>
 }
 
 /// A new name in scope.
-pub fn declare(
-    run: &mut Run,
-    alloc: Global,
-    name: &Name,
-    binding: Binding,
-) -> Result<(), CheckRefused>
-    ensures { Agrees (λ _. run.new) result (Ok (with_name name.now.text.items binding run.old)) }
+pub fn declare(run: &mut Run, name: &Name, binding: Binding) -> Result<(), CheckRefused>
+    ensures { Agrees (λ _. run.new) result (Ok (with_name name.now.number binding run.old)) }
 {
-    run.scope.declare(alloc, name.text.as_slice(), binding)?;
+    run.scope.declare(name.number, binding)?;
     Ok(())
 }
 
 /// Declares a name with a value.
-pub fn declare_value(
-    run: &mut Run,
-    alloc: Global,
-    name: &Name,
-    value: &Expression,
-) -> Result<(), CheckRefused>
+pub fn declare_value(run: &mut Run, name: &Name, value: &Expression) -> Result<(), CheckRefused>
     ensures { Agrees (λ _. run.new) result
         (declared (name_tree name.now) (expression_tree value.now) run.old) }
 {
     require_free(run, name)?;
     let shape = expression_shape(run, value)?;
-    declare(run, alloc, name, Binding::Value(shape))
+    declare(run, name, Binding::Value(shape))
 }
 
 /// The shape of a name that may be assigned.
 pub fn target(scope: &Scope, name: &Name) -> Result<ShapeOf, CheckRefused>
     ensures { Agrees (λ shape. shape) result
-        (target_shape name.now.at (binding_of name.now.text.items scope.now)) }
+        (target_shape name.now.at (binding_of name.now.number scope.now)) }
 {
-    match scope.get(name.text.as_slice()) {
+    match scope.get(name.number) {
         Some(Binding::Value(shape)) => Ok(shape),
         Some(Binding::Turn(_)) => Err(CheckRefused::Bad {
             at: name.at,

@@ -13,6 +13,7 @@ use Rattle.arr_lex.specs.Lexing.{tokens_from}
 use Rattle.arr_parse.specs.declared.refused.ParseRefused.{ParseRefused}
 use Rattle.arr_parse.specs.declared.refused.ParseRefused.TheVariants.{Syntax, Nesting}
 use Rattle.arr_parse.specs.Mark.{mark}
+use Rattle.arr_parse.specs.Names.{source_of}
 use Rattle.arr_parse.specs.Grammar.{Inputs}
 use Rattle.arr_parse.specs.ProgramSpelling.{program_marks}
 use Rattle.arr_parse.specs.Reading.{refusal}
@@ -30,7 +31,7 @@ one_list r a b is is' = cc
 pub one_tree : ((a b : ProgramTree) → program_marks a ≡ program_marks b → a.end ≡ b.end → a ≡ b) → OneTree
 one_tree law text a b read read' =
     let same = one_list (tokens_from 0 0 text) read.tokens read'.tokens read.lexed read'.lexed in
-    law a b (sym read.tree_of.spelled ∙ ap (map (mark text)) same ∙ read'.tree_of.spelled) (read.tree_of.end ∙ sym read'.tree_of.end)
+    law a b (sym read.tree_of.spelled ∙ ap (λ (tokens : List Token). map (mark (source_of text tokens)) tokens) same ∙ read'.tree_of.spelled) (read.tree_of.end ∙ sym read'.tree_of.end)
 
 same_lexing : (r : Result (List Token) ℕ) (a b : ℕ) → r ≡ Err a → r ≡ Err b → a ≡ b
 same_lexing r a b is is' = cc

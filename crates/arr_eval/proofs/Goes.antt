@@ -39,13 +39,13 @@ let-goes name value store run after agree e =
     let found = bind_ok (expression_shape value free.0) _ after free.2 in
     let kept : free.0.scope ≡ run.scope = ap (λ (r : Run). r.scope) (if_free-same name.at (bound name run) run free.0 free.1) in
     let there = expression-there value store free.0 found.0 (kept ∙ agree) found.1 in
-    let same : with_name name.text (Value found.0.0) found.0.1 ≡ after = same_ok _ after found.2 in
+    let same : with_name name.number (Value found.0.0) found.0.1 ≡ after = same_ok _ after found.2 in
     record {
-      store = with_value name.text (Value there.array.shape) there.array.items store;
-      is = ap (λ v. v >>? λ array. Some (with_value name.text (Value array.shape) array.items store)) there.is;
+      store = with_value name.number (Value there.array.shape) there.array.items store;
+      is = ap (λ v. v >>? λ array. Some (with_value name.number (Value array.shape) array.items store)) there.is;
       names = sym (ap (λ (r : Run). r.scope) same)
-          ∙ ap (λ scope. scope ++ (name.text, Value found.0.0) ∷ []) (there.scope ∙ (kept ∙ agree))
-          ∙ ap (λ shape. store.names ++ (name.text, Value shape) ∷ []) (sym there.shape);
+          ∙ ap (λ scope. scope ++ (name.number, Value found.0.0) ∷ []) (there.scope ∙ (kept ∙ agree))
+          ∙ ap (λ shape. store.names ++ (name.number, Value shape) ∷ []) (sym there.shape);
     }
 
 -- the value of an assignment that isn't refused
@@ -61,8 +61,8 @@ set-goes : (shape : ShapeOf) (name : NameTree) (value : ExpressionTree) (store :
 set-goes shape name value store run after agree e =
     let found = assigned-there shape value store run after agree e in
     record {
-      store = with_numbers name.text found.1.array.items store;
-      is = ap (λ v. v >>? λ array. Some (with_numbers name.text array.items store)) found.1.is;
+      store = with_numbers name.number found.1.array.items store;
+      is = ap (λ v. v >>? λ array. Some (with_numbers name.number array.items store)) found.1.is;
       names = found.2;
     }
 
@@ -70,9 +70,9 @@ set_element-goes : (name : NameTree) (indices : IndicesTree) (value : Expression
     element_at run.scope name.at indices (bound name run) ≡ Ok place → assigned Scalar value run ≡ Ok after → Goes (element_assigned name indices value store) after
 set_element-goes name indices value store place run after agree at e =
     let found = assigned-there Scalar value store run after agree e in
-    let here : element_at store.names name.at indices (binding_of name.text store.names) ≡ Ok place =
-    sym (ap (λ names. element_at names name.at indices (binding_of name.text names)) agree) ∙ at in
-    let offset = offset-there (binding_of name.text store.names) store.names name.at indices place here in
+    let here : element_at store.names name.at indices (binding_of name.number store.names) ≡ Ok place =
+    sym (ap (λ names. element_at names name.at indices (binding_of name.number names)) agree) ∙ at in
+    let offset = offset-there (binding_of name.number store.names) store.names name.at indices place here in
     record {
       store = with_number name offset.0 (element found.1.array.items 0) store;
       is = ap (λ k. k >>? λ k. value_of value store >>? λ array. Some (with_number name k (element array.items 0) store)) offset.1
@@ -87,10 +87,10 @@ Matches over_shapes over_values = (store : Store) (run after : Run) → run.scop
 turn-goes : (at : ℕ) (name : NameTree) (body : Run → Answer Run) (body_of : Store → Option Store) → Matches body body_of → (turn : ℕ) → Matches (one_turn at name body turn) (turn_of name body_of turn)
 turn-goes at name body body_of matches turn store run after agree e =
     let stepped = bind_ok (step_at at run) _ after e in
-    let ended = bind_ok (body (with_name name.text (Turn turn) stepped.0)) _ after stepped.2 in
+    let ended = bind_ok (body (with_name name.number (Turn turn) stepped.0)) _ after stepped.2 in
     let kept : stepped.0.scope ≡ store.names = (step_at-keeps at run stepped.0 stepped.1).0 ∙ agree in
-    let inner : Store = with_value name.text (Turn turn) (scalar turn).items store in
-    let goes = matches inner (with_name name.text (Turn turn) stepped.0) ended.0 (ap (λ scope. scope ++ (name.text, Turn turn) ∷ []) kept) ended.1 in
+    let inner : Store = with_value name.number (Turn turn) (scalar turn).items store in
+    let goes = matches inner (with_name name.number (Turn turn) stepped.0) ended.0 (ap (λ scope. scope ++ (name.number, Turn turn) ∷ []) kept) ended.1 in
     let same : without_block (length stepped.0.scope) ended.0 ≡ after = same_ok _ after ended.2 in
     record {
       store = without_values (length store.names) goes.store;

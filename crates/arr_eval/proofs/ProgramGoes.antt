@@ -28,14 +28,14 @@ input-names input numbers store run after agree e =
     let free = bind_ok (if_free input.name.at (bound input.name stepped.0) stepped.0) _ after stepped.2 in
     let shaped = bind_ok (input_shape input.dimensions) _ after free.2 in
     let counted = bind_ok (nodes_at input.name.at (size_of shaped.0 * 1) free.0) _ after shaped.2 in
-    let same : with_name input.name.text (Value shaped.0) counted.0 ≡ after = same_ok _ after counted.2 in
+    let same : with_name input.name.number (Value shaped.0) counted.0 ≡ after = same_ok _ after counted.2 in
     let kept : counted.0.scope ≡ store.names =
     nodes_at-keeps input.name.at (size_of shaped.0 * 1) free.0 counted.0 counted.1
     ∙ (ap (λ (r : Run). r.scope) (if_free-same input.name.at (bound input.name stepped.0) stepped.0 free.0 free.1)
     ∙ ((step_at-keeps input.at run stepped.0 stepped.1).0 ∙ agree)) in
     sym (ap (λ (r : Run). r.scope) same)
-    ∙ ap (λ scope. scope ++ (input.name.text, Value shaped.0) ∷ []) kept
-    ∙ ap (λ shape. store.names ++ (input.name.text, Value shape) ∷ []) (input_shape-declared input.dimensions shaped.0 shaped.1)
+    ∙ ap (λ scope. scope ++ (input.name.number, Value shaped.0) ∷ []) kept
+    ∙ ap (λ shape. store.names ++ (input.name.number, Value shape) ∷ []) (input_shape-declared input.dimensions shaped.0 shaped.1)
 
 inputs-names : (inputs : List InputTree) (numbers : List F) (store : Store) (run after : Run) → run.scope ≡ store.names → each run_input inputs run ≡ Ok after → after.scope ≡ (store_of inputs numbers store).names
 inputs-names [] numbers store run after agree e = sym (ap (λ (r : Run). r.scope) (same_ok run after e)) ∙ agree

@@ -95,15 +95,15 @@ offset-there (Some (Value shape)) names at indices place e =
     (offset shape place, ap (λ found. if_there found >>? λ place. Some (offset shape place)) e)
 
 element-there : (name : NameTree) (indices : IndicesTree) (store : Store) (run : Run) (found : ShapeOf × Run) →
-    (element_at store.names name.at indices (binding_of name.text store.names) >>= λ place. Ok (Scalar, run)) ≡ Ok found →
+    (element_at store.names name.at indices (binding_of name.number store.names) >>= λ place. Ok (Scalar, run)) ≡ Ok found →
     There (element_value name indices store) run found
 element-there name indices store run found e =
-    let parts = bind_ok (element_at store.names name.at indices (binding_of name.text store.names)) (λ place. Ok (Scalar, run)) found e in
-    let place = offset-there (binding_of name.text store.names) store.names name.at indices parts.0 parts.1 in
+    let parts = bind_ok (element_at store.names name.at indices (binding_of name.number store.names)) (λ place. Ok (Scalar, run)) found e in
+    let place = offset-there (binding_of name.number store.names) store.names name.at indices parts.0 parts.1 in
     let pair = pair_ok found Scalar run parts.2 in
     record {
-      array = record { shape = Scalar; items = element (numbers_of name.text store) place.0 ∷ [] };
-      is = ap (λ found. found >>? λ place. Some (record { shape = Scalar; items = element (numbers_of name.text store) place ∷ [] })) place.1;
+      array = record { shape = Scalar; items = element (numbers_of name.number store) place.0 ∷ [] };
+      is = ap (λ found. found >>? λ place. Some (record { shape = Scalar; items = element (numbers_of name.number store) place ∷ [] })) place.1;
       shape = sym pair.0;
       scope = ap (λ (r : Run). r.scope) pair.1;
     }
@@ -178,11 +178,11 @@ mutual
   factor-there : (factor : FactorTree) (store : Store) (run : Run) (found : ShapeOf × Run) → run.scope ≡ store.names → factor_shape factor run ≡ Ok found → There (factor_value factor store) run found
   factor-there (Number at value) store run found agree e = constant-there at value run found e
   factor-there (Name name) store run found agree e =
-      name-there (binding_of name.text store.names) (numbers_of name.text store) name.at run found
-      (sym (ap (λ names. name_shape name.at (binding_of name.text names) run) agree) ∙ e)
+      name-there (binding_of name.number store.names) (numbers_of name.number store) name.at run found
+      (sym (ap (λ names. name_shape name.at (binding_of name.number names) run) agree) ∙ e)
   factor-there (Element name indices) store run found agree e =
       element-there name indices store run found
-      (sym (ap (λ names. element_at names name.at indices (binding_of name.text names) >>= λ place. Ok (Scalar, run)) agree) ∙ e)
+      (sym (ap (λ names. element_at names name.at indices (binding_of name.number names) >>= λ place. Ok (Scalar, run)) agree) ∙ e)
   factor-there (Negation at operand) store run found agree e =
       let parts = bind_ok (factor_shape operand run) _ found e in
       let head = factor-there operand store run parts.0 agree parts.1 in

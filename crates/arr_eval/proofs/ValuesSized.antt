@@ -117,10 +117,10 @@ mutual
 
   factor-sized : (factor : FactorTree) (store : Store) (array : Array) → AllSized store → factor_value factor store ≡ Some array → IsSized array
   factor-sized (Number at value) store array all e = along (scalar value) array refl e
-  factor-sized (Name name) store array all e = all name.text array e
+  factor-sized (Name name) store array all e = all name.number array e
   factor-sized (Element name indices) store array all e =
       let parts = bind_some (element_offset name indices store) _ array e in
-      along (record { shape = Scalar; items = element (numbers_of name.text store) parts.0 ∷ [] }) array refl parts.2
+      along (record { shape = Scalar; items = element (numbers_of name.number store) parts.0 ∷ [] }) array refl parts.2
   factor-sized (Negation at operand) store array all e =
       let parts = bind_some (factor_value operand store) (λ array. Some (opposite_of array)) array e in
       along (opposite_of parts.0) array (length-map parts.0.items neg_f ∙ factor-sized operand store parts.0 all parts.1) parts.2

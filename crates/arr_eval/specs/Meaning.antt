@@ -68,15 +68,15 @@ if_there (Err refused) = None
 -- where an element of a name stands in its list
 abbrev pub element_offset : NameTree → IndicesTree → Store → Option ℕ
 element_offset name indices store =
-    if_there (element_at store.names name.at indices (binding_of name.text store.names)) >>=
+    if_there (element_at store.names name.at indices (binding_of name.number store.names)) >>=
     λ place.
-    option_map shape_of (binding_of name.text store.names) >>= λ shape. Some (offset shape place)
+    option_map shape_of (binding_of name.number store.names) >>= λ shape. Some (offset shape place)
 
 abbrev pub element_value : NameTree → IndicesTree → Store → Option Array
 element_value name indices store =
     element_offset name indices store >>= λ place. Some (record {
       shape = Scalar;
-      items = element (numbers_of name.text store) place ∷ [];
+      items = element (numbers_of name.number store) place ∷ [];
     })
 
 abbrev mutual
@@ -98,7 +98,7 @@ abbrev mutual
 
   pub factor_value : FactorTree → Store → Option Array
   factor_value (Number at value) store = Some (scalar value)
-  factor_value (Name name) store = array_of name.text store
+  factor_value (Name name) store = array_of name.number store
   factor_value (Element name indices) store = element_value name indices store
   factor_value (Negation at operand) store =
       factor_value operand store >>= λ array. Some (opposite_of array)
@@ -125,7 +125,7 @@ turns (suc left) turn body store = body turn store >>= turns left (turn + 1) bod
 -- a turn is a block with the loop variable
 abbrev pub one_turn : NameTree → (Store → Option Store) → ℕ → Store → Option Store
 one_turn name body turn store =
-    body (with_name name.text (Turn turn) (scalar turn).items store) >>= λ after.
+    body (with_name name.number (Turn turn) (scalar turn).items store) >>= λ after.
     Some (without_block (length store.names) after)
 
 abbrev pub counted_loop : NameTree → IndexSum → IndexSum → (Store → Option Store) → Store
@@ -137,16 +137,16 @@ counted_loop name low high body store =
 abbrev pub declared : NameTree → ExpressionTree → Store → Option Store
 declared name value store =
     value_of value store >>= λ array.
-    Some (with_name name.text (Value array.shape) array.items store)
+    Some (with_name name.number (Value array.shape) array.items store)
 
 abbrev pub assigned : NameTree → ExpressionTree → Store → Option Store
 assigned name value store =
-    value_of value store >>= λ array. Some (with_numbers name.text array.items store)
+    value_of value store >>= λ array. Some (with_numbers name.number array.items store)
 
 -- with one number of a name set
 abbrev pub with_number : NameTree → ℕ → F → Store → Store
 with_number name place number store =
-    with_numbers name.text (set (numbers_of name.text store) place number) store
+    with_numbers name.number (set (numbers_of name.number store) place number) store
 
 abbrev pub element_assigned : NameTree → IndicesTree → ExpressionTree → Store → Option Store
 element_assigned name indices value store =
@@ -180,7 +180,7 @@ after_top (Inner statement) progress =
 
 abbrev pub with_input : InputTree → List F → Store → Store
 with_input input numbers store =
-    with_name input.name.text (Value (declared_shape input.dimensions)) numbers store
+    with_name input.name.number (Value (declared_shape input.dimensions)) numbers store
 
 -- the store of the inputs, which take the numbers in order
 abbrev pub store_of : List InputTree → List F → Store → Store

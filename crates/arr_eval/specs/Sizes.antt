@@ -8,4 +8,4 @@ IsSized array = length array.items ≡ size_of array.shape
 
 -- the array of each name in scope is sized
 abbrev pub AllSized : Store → Type 0
-AllSized store = (name : List ℕ) (array : Array) → array_of name store ≡ Some array → IsSized array
+AllSized store = (name : ℕ) (array : Array) → array_of name store ≡ Some array → IsSized array

@@ -25,7 +25,7 @@ numbers_at None numbers = []
 numbers_at (Some place) numbers = get_or numbers place []
 
 -- the numbers of a name
-abbrev pub numbers_of : List ℕ → Store → List F
+abbrev pub numbers_of : ℕ → Store → List F
 numbers_of name store = numbers_at (place_of name store.names) store.numbers
 
 -- a loop variable is a scalar
@@ -34,7 +34,7 @@ shape_of (Value shape) = shape
 shape_of (Turn number) = Scalar
 
 -- what a name stands for, if it is in scope
-abbrev pub array_of : List ℕ → Store → Option Array
+abbrev pub array_of : ℕ → Store → Option Array
 array_of name store = option_map (λ binding. record {
   shape = shape_of binding;
   items = numbers_of name store;
@@ -45,12 +45,12 @@ set_at None new numbers = numbers
 set_at (Some place) new numbers = set numbers place new
 
 -- with other numbers of a name
-abbrev pub with_numbers : List ℕ → List F → Store → Store
+abbrev pub with_numbers : ℕ → List F → Store → Store
 with_numbers name new store =
     record store { numbers = set_at (place_of name store.names) new store.numbers }
 
 -- with one more name
-abbrev pub with_name : List ℕ → Binding → List F → Store → Store
+abbrev pub with_name : ℕ → Binding → List F → Store → Store
 with_name name binding new store =
     record { names = store.names ++ (name, binding) ∷ []; numbers = store.numbers ++ new ∷ [] }
 

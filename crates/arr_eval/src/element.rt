@@ -16,7 +16,7 @@ pub fn element_offset(store: &Store, name: &Name, indices: &Indices) -> Result<u
         (offset_of_element (name_tree name.now) (indices_tree indices.now) store.now) }
 {
     let (row, column) = element_place(store.names(), name, indices)?;
-    match store.shape(name.text.as_slice()) {
+    match store.shape(name.number) {
         Some(shape) => Ok(offset(shape, row, column)),
         None => Err(Stopped::Stuck),
     }

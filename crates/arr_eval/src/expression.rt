@@ -122,9 +122,9 @@ fn pair_with(
 
 // The value of a name, whose numbers are shared.
 fn named_value(store: &Store, alloc: Global, name: &Name) -> Result<Array, Stopped>
-    ensures { Follows (λ array. array) result (array_of name.now.text.items store.now) }
+    ensures { Follows (λ array. array) result (array_of name.now.number store.now) }
 {
-    match store.array(alloc, name.text.as_slice())? {
+    match store.array(alloc, name.number)? {
         Some(array) => Ok(array),
         None => Err(Stopped::Stuck),
     }
@@ -136,5 +136,5 @@ fn element_value(store: &Store, name: &Name, indices: &Indices) -> Result<Array,
         (value_at (name_tree name.now) (indices_tree indices.now) store.now) }
 {
     let place = element_offset(store, name, indices)?;
-    Ok(one_number(store.number(name.text.as_slice(), place)))
+    Ok(one_number(store.number(name.number, place)))
 }

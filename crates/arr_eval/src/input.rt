@@ -46,12 +46,7 @@ fn store_input(
 {
     let shape = declared_shape(input.dimensions);
     let numbers = SharedList::new(alloc, Vec::from_slice(alloc, numbers)?)?;
-    store.declare(
-        alloc,
-        input.name.text.as_slice(),
-        Binding::Value(shape),
-        numbers,
-    )?;
+    store.declare(input.name.number, Binding::Value(shape), numbers)?;
     Ok(())
 }
 

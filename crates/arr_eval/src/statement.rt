@@ -107,7 +107,7 @@ fn one_turn(
 {
     let kept = store.len();
     let numbers = SharedList::one(Fp::reduce(u64::from(turn)));
-    store.declare(alloc, name.text.as_slice(), Binding::Turn(turn), numbers)?;
+    store.declare(name.number, Binding::Turn(turn), numbers)?;
     run_all(store, alloc, body)?;
     store.forget(kept);
     Ok(())
@@ -137,12 +137,7 @@ fn declare(
         (declared (name_tree name.now) (expression_tree expression.now) store.old) }
 {
     let array = value(store, alloc, expression)?;
-    store.declare(
-        alloc,
-        name.text.as_slice(),
-        Binding::Value(array.shape),
-        array.items,
-    )?;
+    store.declare(name.number, Binding::Value(array.shape), array.items)?;
     Ok(())
 }
 
@@ -157,7 +152,7 @@ fn assign(
         (assigned (name_tree name.now) (expression_tree expression.now) store.old) }
 {
     let array = value(store, alloc, expression)?;
-    store.set(name.text.as_slice(), array.items);
+    store.set(name.number, array.items);
     Ok(())
 }
 
@@ -176,6 +171,6 @@ fn assign_element(
     let place = element_offset(store, name, indices)?;
     let array = value(store, alloc, expression)?;
     let number = array.items.item_or(0, Fp::zero());
-    store.set_number(alloc, name.text.as_slice(), place, number)?;
+    store.set_number(alloc, name.number, place, number)?;
     Ok(())
 }

@@ -55,8 +55,8 @@ impl Store {
     }
 
     /// The array of a name, if it is in scope. Its elements are shared.
-    pub fn array(&self, alloc: Global, name: &[u8]) -> Result<Option<Array>, AllocError>
-        ensures { IfOk result (λ found. found ≡ array_of name.now self.now) }
+    pub fn array(&self, alloc: Global, name: usize) -> Result<Option<Array>, AllocError>
+        ensures { IfOk result (λ found. found ≡ array_of name self.now) }
     {
         match self.shape(name) {
             Some(shape) => {
@@ -68,8 +68,8 @@ impl Store {
     }
 
     /// The shape of a name, if it is in scope.
-    pub fn shape(&self, name: &[u8]) -> Option<ShapeOf>
-        ensures { result ≡ option_map shape_of (binding_of name.now self.now.names) }
+    pub fn shape(&self, name: usize) -> Option<ShapeOf>
+        ensures { result ≡ option_map shape_of (binding_of name self.now.names) }
     {
         match self.names.get(name) {
             Some(Binding::Value(shape)) => Some(shape),
@@ -79,8 +79,8 @@ impl Store {
     }
 
     // The numbers of a name, of which there are none where it isn't in scope.
-    fn numbers(&self, alloc: Global, name: &[u8]) -> Result<SharedList<Fp>, AllocError>
-        ensures { IfOk result (λ numbers. numbers ≡ numbers_of name.now self.now) }
+    fn numbers(&self, alloc: Global, name: usize) -> Result<SharedList<Fp>, AllocError>
+        ensures { IfOk result (λ numbers. numbers ≡ numbers_of name self.now) }
     {
         match self.names.place(name) {
             Some(place) => numbers_at(alloc, &self.numbers, place),
@@ -89,8 +89,8 @@ impl Store {
     }
 
     /// One number of a name, or zero where there is none.
-    pub fn number(&self, name: &[u8], place: usize) -> Fp
-        ensures { result ≡ element (numbers_of name.now self.now) place }
+    pub fn number(&self, name: usize, place: usize) -> Fp
+        ensures { result ≡ element (numbers_of name self.now) place }
     {
         match self.names.place(name) {
             Some(at) => number_at(&self.numbers, at, place),
@@ -101,21 +101,20 @@ impl Store {
     /// Declares one more name, with its elements.
     pub fn declare(
         &mut self,
-        alloc: Global,
-        name: &[u8],
+        name: usize,
         binding: Binding,
         numbers: SharedList<Fp>,
     ) -> Result<(), AllocError>
-        ensures { OnOk result (self.new ≡ with_name name.now binding numbers self.old) }
+        ensures { OnOk result (self.new ≡ with_name name binding numbers self.old) }
     {
-        self.names.declare(alloc, name, binding)?;
+        self.names.declare(name, binding)?;
         self.numbers.push(numbers)?;
         Ok(())
     }
 
     /// Sets the numbers of a name.
-    pub fn set(&mut self, name: &[u8], numbers: SharedList<Fp>)
-        ensures { self.new ≡ with_numbers name.now numbers self.old }
+    pub fn set(&mut self, name: usize, numbers: SharedList<Fp>)
+        ensures { self.new ≡ with_numbers name numbers self.old }
     {
         if let Some(place) = self.names.place(name) {
             set_numbers(&mut self.numbers, place, numbers);
@@ -126,12 +125,12 @@ impl Store {
     pub fn set_number(
         &mut self,
         alloc: Global,
-        name: &[u8],
+        name: usize,
         place: usize,
         number: Fp,
     ) -> Result<(), AllocError>
-        ensures { OnOk result (self.new ≡ with_numbers name.now
-            (set (numbers_of name.now self.old) place number) self.old) }
+        ensures { OnOk result (self.new ≡ with_numbers name
+            (set (numbers_of name self.old) place number) self.old) }
     {
         match self.names.place(name) {
             Some(at) => set_number_at(alloc, &mut self.numbers, at, place, number),

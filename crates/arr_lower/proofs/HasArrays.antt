@@ -91,12 +91,12 @@ name-there (Some (Value shape)) items nodes at run found sized e =
     there (bound_array (Some (Value shape)) items nodes) shape items nodes run found (pair-gives shape run run found (keeps_all run) e) refl (sized shape refl)
 
 pub element-there : (name : NameTree) (indices : IndicesTree) (store : NodeStore) (nodes : List Node) (run : Run) (found : ShapeOf × Run) → AllSized store →
-    (element_at store.names name.at indices (binding_of name.text store.names) >>= λ place. Ok (Scalar, run)) ≡ Ok found → There (element_array name indices store nodes) run found
+    (element_at store.names name.at indices (binding_of name.number store.names) >>= λ place. Ok (Scalar, run)) ≡ Ok found → There (element_array name indices store nodes) run found
 element-there name indices store nodes run found sized e =
-    let parts = bind_ok (element_at store.names name.at indices (binding_of name.text store.names)) (λ place. Ok (Scalar, run)) found e in
-    let placed = element-placed (binding_of name.text store.names) store.names name.at indices parts.0 parts.1 in
-    let items : List ℕ = items_of name.text store in
-    let size : length items ≡ size_of placed.shape = items_of-size name.text store placed.shape sized placed.bound in
+    let parts = bind_ok (element_at store.names name.at indices (binding_of name.number store.names)) (λ place. Ok (Scalar, run)) found e in
+    let placed = element-placed (binding_of name.number store.names) store.names name.at indices parts.0 parts.1 in
+    let items : List ℕ = items_of name.number store in
+    let size : length items ≡ size_of placed.shape = items_of-size name.number store placed.shape sized placed.bound in
     let item : slice_get items placed.place ≡ Some (get_or items placed.place 0) = slice_get-get_or items placed.place 0 (omega (arith, size, placed.below)) in
     there (element_array name indices store nodes) Scalar (get_or items placed.place 0 ∷ []) nodes run found (pair-gives Scalar run run found (keeps_all run) parts.2)
     (ap (λ k. k >>? λ k. slice_get items k >>? λ item. Some (of_made Scalar (item ∷ []) nodes)) placed.is ∙ ap (λ i. i >>? λ item. Some (of_made Scalar (item ∷ []) nodes)) item) refl

@@ -61,13 +61,13 @@ let-goes name value lowering run after sized agree e =
     let kept = if_free-keeps name.at (bound name run) run free.0 free.1 in
     let store : NodeStore = lowering.store in
     let there = expression-there value store lowering.nodes free.0 found.0 sized (kept.scope ∙ agree) found.1 in
-    let same : with_name name.text (Value found.0.0) found.0.1 ≡ after = same_ok _ after found.2 in
-    let go_on : Lowered → Option Lowering = λ found. Some (record { store = with_nodes name.text (Value found.array.shape) found.array.items store; nodes = found.nodes }) in
+    let same : with_name name.number (Value found.0.0) found.0.1 ≡ after = same_ok _ after found.2 in
+    let go_on : Lowered → Option Lowering = λ found. Some (record { store = with_nodes name.number (Value found.array.shape) found.array.items store; nodes = found.nodes }) in
     record {
-      lowering = record { store = with_nodes name.text (Value found.0.0) there.items store; nodes = there.nodes };
+      lowering = record { store = with_nodes name.number (Value found.0.0) there.items store; nodes = there.nodes };
       is = and_some (expression_array value store lowering.nodes) go_on (of_made found.0.0 there.items there.nodes) there.is;
-      names = sym (ap (λ (r : Run). r.scope) same) ∙ ap (λ scope. scope ++ (name.text, Value found.0.0) ∷ []) (there.keeps.scope ∙ (kept.scope ∙ agree));
-      sized = with_name-sized name.text (Value found.0.0) there.items store sized there.sized;
+      names = sym (ap (λ (r : Run). r.scope) same) ∙ ap (λ scope. scope ++ (name.number, Value found.0.0) ∷ []) (there.keeps.scope ∙ (kept.scope ∙ agree));
+      sized = with_name-sized name.number (Value found.0.0) there.items store sized there.sized;
       outputs = sym (ap (λ (r : Run). r.outputs) same) ∙ (there.keeps.outputs ∙ kept.outputs);
     }
 
@@ -101,14 +101,14 @@ pub set-goes : (name : NameTree) (shape : ShapeOf) (value : ExpressionTree) (low
 set-goes name shape value lowering run after sized agree target e =
     let assigns = assigned-there shape value lowering run after sized agree e in
     let store : NodeStore = lowering.store in
-    let here : binding_of name.text store.names ≡ Some (Value shape) = sym (ap (binding_of name.text) agree) ∙ target in
-    let go_on : Lowered → Option Lowering = λ found. Some (record { store = with_items name.text found.array.items store; nodes = found.nodes }) in
+    let here : binding_of name.number store.names ≡ Some (Value shape) = sym (ap (binding_of name.number) agree) ∙ target in
+    let go_on : Lowered → Option Lowering = λ found. Some (record { store = with_items name.number found.array.items store; nodes = found.nodes }) in
     record {
-      lowering = record { store = with_items name.text assigns.there.items store; nodes = assigns.there.nodes };
+      lowering = record { store = with_items name.number assigns.there.items store; nodes = assigns.there.nodes };
       is = ap (λ b. value_shape b >>? λ shape. expression_array value store lowering.nodes >>? go_on) here
           ∙ and_some (expression_array value store lowering.nodes) go_on (of_made assigns.found.0 assigns.there.items assigns.there.nodes) assigns.there.is;
       names = assigns.keeps.scope ∙ agree;
-      sized = with_items-sized name.text assigns.there.items store shape sized assigns.sized here;
+      sized = with_items-sized name.number assigns.there.items store shape sized assigns.sized here;
       outputs = assigns.keeps.outputs;
     }
 
@@ -123,19 +123,19 @@ pub set_element-goes : (name : NameTree) (indices : IndicesTree) (value : Expres
 set_element-goes name indices value place lowering run after sized agree at e =
     let assigns = assigned-there Scalar value lowering run after sized agree e in
     let store : NodeStore = lowering.store in
-    let here : element_at store.names name.at indices (binding_of name.text store.names) ≡ Ok place = sym (ap (λ names. element_at names name.at indices (binding_of name.text names)) agree) ∙ at in
-    let placed = element-placed (binding_of name.text store.names) store.names name.at indices place here in
+    let here : element_at store.names name.at indices (binding_of name.number store.names) ≡ Ok place = sym (ap (λ names. element_at names name.at indices (binding_of name.number names)) agree) ∙ at in
+    let placed = element-placed (binding_of name.number store.names) store.names name.at indices place here in
     let one = one_item assigns.there.items assigns.sized in
-    let new : List ℕ = set (items_of name.text store) placed.place one.0 in
-    let size : length new ≡ size_of placed.shape = length-set (items_of name.text store) placed.place one.0 ∙ items_of-size name.text store placed.shape sized placed.bound in
+    let new : List ℕ = set (items_of name.number store) placed.place one.0 in
+    let size : length new ≡ size_of placed.shape = length-set (items_of name.number store) placed.place one.0 ∙ items_of-size name.number store placed.shape sized placed.bound in
     let nodes : List Node = assigns.there.nodes in
     let go_on : ℕ → Lowered → Option Lowering = λ k found. with_item name k found.array.items store >>? λ store. Some (record { store = store; nodes = found.nodes }) in
     record {
-      lowering = record { store = with_items name.text new store; nodes = nodes };
+      lowering = record { store = with_items name.number new store; nodes = nodes };
       is = and_some (element_place name indices store) (λ k. expression_array value store lowering.nodes >>? go_on k) placed.place placed.is
           ∙ and_some (expression_array value store lowering.nodes) (go_on placed.place) (of_made assigns.found.0 assigns.there.items nodes) assigns.there.is
           ∙ ap (λ items. with_item name placed.place items store >>? λ store. Some (record { store = store; nodes = nodes })) one.1;
       names = assigns.keeps.scope ∙ agree;
-      sized = with_items-sized name.text new store placed.shape sized size placed.bound;
+      sized = with_items-sized name.number new store placed.shape sized size placed.bound;
       outputs = assigns.keeps.outputs;
     }

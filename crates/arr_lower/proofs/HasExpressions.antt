@@ -80,11 +80,11 @@ mutual
       factor_shape factor run ≡ Ok found → There (factor_array factor store nodes) run found
   factor-there (Number at value) store nodes run found sized agree e = constant-there at value nodes run found e
   factor-there (Name name) store nodes run found sized agree e =
-      name-there (binding_of name.text store.names) (items_of name.text store) nodes name.at run found (λ shape. items_of-size name.text store shape sized)
-      (sym (ap (λ names. name_shape name.at (binding_of name.text names) run) agree) ∙ e)
+      name-there (binding_of name.number store.names) (items_of name.number store) nodes name.at run found (λ shape. items_of-size name.number store shape sized)
+      (sym (ap (λ names. name_shape name.at (binding_of name.number names) run) agree) ∙ e)
   factor-there (Element name indices) store nodes run found sized agree e =
       element-there name indices store nodes run found sized
-      (sym (ap (λ names. element_at names name.at indices (binding_of name.text names) >>= λ place. Ok (Scalar, run)) agree) ∙ e)
+      (sym (ap (λ names. element_at names name.at indices (binding_of name.number names) >>= λ place. Ok (Scalar, run)) agree) ∙ e)
   factor-there (Negation at operand) store nodes run found sized agree e =
       let parts = bind_ok (factor_shape operand run) _ found e in
       let head = factor-there operand store nodes run parts.0 sized agree parts.1 in

@@ -22,12 +22,12 @@ use Rattle.arr_lower.proofs.HasNames.{with_name-sized, without_block-sized}
 turn-goes : (at : ℕ) (name : NameTree) (body : Run → Answer Run) (body_of : Lowering → Option Lowering) → Matches body body_of → (turn : ℕ) → Matches (one_turn at name body turn) (turn_of name body_of turn)
 turn-goes at name body body_of matches turn lowering run after sized agree e =
     let stepped = bind_ok (step_at at run) _ after e in
-    let ended = bind_ok (body (with_name name.text (Turn turn) stepped.0)) _ after stepped.2 in
+    let ended = bind_ok (body (with_name name.number (Turn turn) stepped.0)) _ after stepped.2 in
     let kept = step_at-keeps at run stepped.0 stepped.1 in
     let names : stepped.0.scope ≡ lowering.store.names = kept.scope ∙ agree in
-    let inner : Lowering = record { store = with_nodes name.text (Turn turn) [] lowering.store; nodes = lowering.nodes } in
-    let goes = matches inner (with_name name.text (Turn turn) stepped.0) ended.0 (with_name-sized name.text (Turn turn) [] lowering.store sized tt)
-    (ap (λ scope. scope ++ (name.text, Turn turn) ∷ []) names) ended.1 in
+    let inner : Lowering = record { store = with_nodes name.number (Turn turn) [] lowering.store; nodes = lowering.nodes } in
+    let goes = matches inner (with_name name.number (Turn turn) stepped.0) ended.0 (with_name-sized name.number (Turn turn) [] lowering.store sized tt)
+    (ap (λ scope. scope ++ (name.number, Turn turn) ∷ []) names) ended.1 in
     let same : without_block (length stepped.0.scope) ended.0 ≡ after = same_ok _ after ended.2 in
     let count : ℕ = length lowering.store.names in
     record {

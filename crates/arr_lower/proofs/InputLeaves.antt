@@ -72,9 +72,9 @@ module _ (inputs : List F) where
   inputs-begin (input ∷ trees) first store numbers within s =
       let n = numbers_of_input input in
       let xs = take n (drop first inputs) in
-      let next = with_name input.name.text (Value (declared_shape input.dimensions)) (range_with_len first n) store in
+      let next = with_name input.name.number (Value (declared_shape input.dimensions)) (range_with_len first n) store in
       let stand = range-stands first n (omega (arith, within, total-above trees (first + n))) in
-      let pushed = store-push inputs (leaves (length inputs)) store numbers input.name.text (Value (declared_shape input.dimensions)) (range_with_len first n) xs stand s in
+      let pushed = store-push inputs (leaves (length inputs)) store numbers input.name.number (Value (declared_shape input.dimensions)) (range_with_len first n) xs stand s in
       let rest = inputs-begin trees (first + n) next (numbers ++ xs ∷ []) within pushed in
       record {
         held = rest.held;

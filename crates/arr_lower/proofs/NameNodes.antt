@@ -31,13 +31,13 @@ value_bound (Some (Value other)) shape e = ap (λ shape. Some (Value shape)) (sa
 
 -- where an element of nodes stands, the element of numbers does too
 pub place-there : (name : NameTree) (indices : IndicesTree) (store : NodeStore) (numbers : List (List F)) (place : ℕ) → element_place name indices store ≡ Some place →
-    (shape : ShapeOf) × (binding_of name.text store.names ≡ Some (Value shape)) × (element_offset name indices (meant store numbers) ≡ Some place)
+    (shape : ShapeOf) × (binding_of name.number store.names ≡ Some (Value shape)) × (element_offset name indices (meant store numbers) ≡ Some place)
 place-there name indices store numbers place e =
-    let parts = bind_some (if_there (element_at store.names name.at indices (binding_of name.text store.names))) _ place e in
-    let shaped = bind_some (value_shape (binding_of name.text store.names)) _ place parts.2 in
-    let bound = value_bound (binding_of name.text store.names) shaped.0 shaped.1 in
+    let parts = bind_some (if_there (element_at store.names name.at indices (binding_of name.number store.names))) _ place e in
+    let shaped = bind_some (value_shape (binding_of name.number store.names)) _ place parts.2 in
+    let bound = value_bound (binding_of name.number store.names) shaped.0 shaped.1 in
     let is : element_offset name indices (meant store numbers) ≡ Some (offset shaped.0 parts.0) =
-    ap (λ found. found >>= λ place. option_map shape_of (binding_of name.text store.names) >>= λ shape. Some (offset shape place)) parts.1
+    ap (λ found. found >>= λ place. option_map shape_of (binding_of name.number store.names) >>= λ shape. Some (offset shape place)) parts.1
     ∙ ap (λ binding. option_map shape_of binding >>= λ shape. Some (offset shape parts.0)) bound in
     (shaped.0, bound, is ∙ shaped.2)
 
@@ -54,10 +54,10 @@ module _ (inputs : List F) where
       subst (HasArray inputs (Some (array shape xs)) nodes) (same_some (of_made shape items nodes) found e) (same-array inputs shape items nodes xs (held (Value shape) refl))
 
   pub name-has : (name : NameTree) (store : NodeStore) (numbers : List (List F)) (nodes : List Node) (found : Lowered) → IsStore inputs nodes store numbers →
-      name_array name store nodes ≡ Some found → HasArray inputs (array_of name.text (meant store numbers)) nodes found
+      name_array name store nodes ≡ Some found → HasArray inputs (array_of name.number (meant store numbers)) nodes found
   name-has name store numbers nodes found s e =
-      bound-has (binding_of name.text store.names) (items_of name.text store) nodes (numbers_of name.text (meant store numbers)) found
-      (λ b bound. name-holds inputs nodes name.text store numbers b bound s) e
+      bound-has (binding_of name.number store.names) (items_of name.number store) nodes (numbers_of name.number (meant store numbers)) found
+      (λ b bound. name-holds inputs nodes name.number store numbers b bound s) e
 
   got-stands : (nodes : List Node) (items : List ℕ) (xs : List F) (place item : ℕ) → AllStand inputs nodes items xs → slice_get items place ≡ Some item → Stands inputs nodes item (element xs place)
   got-stands nodes [] xs place item s e = cc
@@ -68,16 +68,16 @@ module _ (inputs : List F) where
   pub element-has : (name : NameTree) (indices : IndicesTree) (store : NodeStore) (numbers : List (List F)) (nodes : List Node) (found : Lowered) → IsStore inputs nodes store numbers →
       element_array name indices store nodes ≡ Some found → HasArray inputs (element_value name indices (meant store numbers)) nodes found
   element-has name indices store numbers nodes found s e =
-      let xs = numbers_of name.text (meant store numbers) in
+      let xs = numbers_of name.number (meant store numbers) in
       let parts = bind_some (element_place name indices store) _ found e in
-      let got = bind_some (slice_get (items_of name.text store) parts.0) _ found parts.2 in
+      let got = bind_some (slice_get (items_of name.number store) parts.0) _ found parts.2 in
       let there = place-there name indices store numbers parts.0 parts.1 in
-      let stand = name-holds inputs nodes name.text store numbers (Value there.0) there.1 s in
+      let stand = name-holds inputs nodes name.number store numbers (Value there.0) there.1 s in
       let x = element xs parts.0 in
       let has : HasArray inputs (element_value name indices (meant store numbers)) nodes (of_made Scalar (got.0 ∷ []) nodes) = record {
         numbers = x ∷ [];
         is = ap (λ found. found >>= λ place. Some (array Scalar (element xs place ∷ []))) there.2;
         grows = grows-none inputs nodes;
-        stand = (got-stands nodes (items_of name.text store) xs parts.0 got.0 stand got.1, tt);
+        stand = (got-stands nodes (items_of name.number store) xs parts.0 got.0 stand got.1, tt);
       } in
       subst (HasArray inputs (element_value name indices (meant store numbers)) nodes) (same_some (of_made Scalar (got.0 ∷ []) nodes) found got.2) has

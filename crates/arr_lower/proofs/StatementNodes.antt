@@ -54,31 +54,31 @@ module _ (inputs : List F) where
       let store = lowering.store in
       let found = bind_some (expression_array value store lowering.nodes) _ after e in
       let there = expression-has inputs value store numbers lowering.nodes found.0 s found.1 in
-      let made : Lowering = record { store = with_named name.text (Value found.0.array.shape) found.0.array.items store; nodes = found.0.nodes } in
+      let made : Lowering = record { store = with_named name.number (Value found.0.array.shape) found.0.array.items store; nodes = found.0.nodes } in
       let kept = store-kept inputs lowering.nodes found.0.nodes there.grows store numbers s in
       subst (Goes (declared name value (meant store numbers)) lowering.nodes) (same_some made after found.2)
       (record {
         numbers = numbers ++ there.numbers ∷ [];
-        is = ap (λ v. v >>= λ array. Some (with_name name.text (Value array.shape) array.items (meant store numbers))) there.is;
+        is = ap (λ v. v >>= λ array. Some (with_name name.number (Value array.shape) array.items (meant store numbers))) there.is;
         grows = there.grows;
-        stands = store-push inputs found.0.nodes store numbers name.text (Value found.0.array.shape) found.0.array.items there.numbers there.stand kept;
+        stands = store-push inputs found.0.nodes store numbers name.number (Value found.0.array.shape) found.0.array.items there.numbers there.stand kept;
       })
 
   set-goes : (name : NameTree) (value : ExpressionTree) → Matches (assigned_nodes name value) (assigned name value)
   set-goes name value lowering after numbers s e =
       let store = lowering.store in
-      let shaped = bind_some (value_shape (binding_of name.text store.names)) _ after e in
+      let shaped = bind_some (value_shape (binding_of name.number store.names)) _ after e in
       let found = bind_some (expression_array value store lowering.nodes) _ after shaped.2 in
       let there = expression-has inputs value store numbers lowering.nodes found.0 s found.1 in
-      let made : Lowering = record { store = with_items name.text found.0.array.items store; nodes = found.0.nodes } in
+      let made : Lowering = record { store = with_items name.number found.0.array.items store; nodes = found.0.nodes } in
       let kept = store-kept inputs lowering.nodes found.0.nodes there.grows store numbers s in
-      let bound = value_bound (binding_of name.text store.names) shaped.0 shaped.1 in
+      let bound = value_bound (binding_of name.number store.names) shaped.0 shaped.1 in
       subst (Goes (assigned name value (meant store numbers)) lowering.nodes) (same_some made after found.2)
       (record {
-        numbers = set_at (place_of name.text store.names) there.numbers numbers;
-        is = ap (λ v. v >>= λ array. Some (with_numbers name.text array.items (meant store numbers))) there.is;
+        numbers = set_at (place_of name.number store.names) there.numbers numbers;
+        is = ap (λ v. v >>= λ array. Some (with_numbers name.number array.items (meant store numbers))) there.is;
         grows = there.grows;
-        stands = store-set inputs found.0.nodes store numbers name.text shaped.0 found.0.array.items there.numbers bound there.stand kept;
+        stands = store-set inputs found.0.nodes store numbers name.number shaped.0 found.0.array.items there.numbers bound there.stand kept;
       })
 
   same-lowering : (nodes : List Node) (made found : NodeStore) (after : Lowering) → made ≡ found → ◌≡◌ {A = Option Lowering} (Some (record { store = found; nodes = nodes })) (Some after) →
@@ -87,11 +87,11 @@ module _ (inputs : List F) where
 
   -- the only node of a list, which is set into those of a name
   one-item : (nodes : List Node) (name : NameTree) (place : ℕ) (items : List ℕ) (xs : List F) (store after : NodeStore) → AllStand inputs nodes items xs → with_item name place items store ≡ Some after →
-      (item : ℕ) × Stands inputs nodes item (element xs 0) × (with_items name.text (set (items_of name.text store) place item) store ≡ after)
+      (item : ℕ) × Stands inputs nodes item (element xs 0) × (with_items name.number (set (items_of name.number store) place item) store ≡ after)
   one-item nodes name place [] xs store after s e = cc
   one-item nodes name place (item ∷ next ∷ items) xs store after s e = cc
   one-item nodes name place (item ∷ []) [] store after s e = absurd s
-  one-item nodes name place (item ∷ []) (x ∷ xs) store after s e = (item, s.0, same_some (with_items name.text (set (items_of name.text store) place item) store) after e)
+  one-item nodes name place (item ∷ []) (x ∷ xs) store after s e = (item, s.0, same_some (with_items name.number (set (items_of name.number store) place item) store) after e)
 
   set_element-goes : (name : NameTree) (indices : IndicesTree) (value : ExpressionTree) → Matches (element_nodes name indices value) (element_assigned name indices value)
   set_element-goes name indices value lowering after numbers s e =
@@ -101,29 +101,29 @@ module _ (inputs : List F) where
       let changed = bind_some (with_item name places.0 found.0.array.items store) _ after found.2 in
       let there = expression-has inputs value store numbers lowering.nodes found.0 s found.1 in
       let one = one-item found.0.nodes name places.0 found.0.array.items there.numbers store changed.0 there.stand changed.1 in
-      let items = set (items_of name.text store) places.0 one.0 in
-      let made : Lowering = record { store = with_items name.text items store; nodes = found.0.nodes } in
-      let same : made ≡ after = same-lowering found.0.nodes (with_items name.text items store) changed.0 after one.2 changed.2 in
+      let items = set (items_of name.number store) places.0 one.0 in
+      let made : Lowering = record { store = with_items name.number items store; nodes = found.0.nodes } in
+      let same : made ≡ after = same-lowering found.0.nodes (with_items name.number items store) changed.0 after one.2 changed.2 in
       let kept = store-kept inputs lowering.nodes found.0.nodes there.grows store numbers s in
       let at = place-there name indices store numbers places.0 places.1 in
-      let old = numbers_of name.text (meant store numbers) in
+      let old = numbers_of name.number (meant store numbers) in
       let stand : AllStand inputs found.0.nodes items (set old places.0 (element there.numbers 0)) =
-      each-set (Stands inputs found.0.nodes) (items_of name.text store) old places.0 one.0 (element there.numbers 0) (name-holds inputs found.0.nodes name.text store numbers (Value at.0) at.1 kept) one.1 in
+      each-set (Stands inputs found.0.nodes) (items_of name.number store) old places.0 one.0 (element there.numbers 0) (name-holds inputs found.0.nodes name.number store numbers (Value at.0) at.1 kept) one.1 in
       subst (Goes (element_assigned name indices value (meant store numbers)) lowering.nodes) same
       (record {
-        numbers = set_at (place_of name.text store.names) (set old places.0 (element there.numbers 0)) numbers;
+        numbers = set_at (place_of name.number store.names) (set old places.0 (element there.numbers 0)) numbers;
         is = ap (λ k. k >>= λ k. value_of value (meant store numbers) >>= λ array. Some (with_number name k (element array.items 0) (meant store numbers))) at.2
             ∙ ap (λ v. v >>= λ array. Some (with_number name places.0 (element array.items 0) (meant store numbers))) there.is;
         grows = there.grows;
-        stands = store-set inputs found.0.nodes store numbers name.text at.0 items (set old places.0 (element there.numbers 0)) at.1 stand kept;
+        stands = store-set inputs found.0.nodes store numbers name.number at.0 items (set old places.0 (element there.numbers 0)) at.1 stand kept;
       })
 
   turn-goes : (name : NameTree) (body : Lowering → Option Lowering) (body_of : Store → Option Store) → Matches body body_of → (turn : ℕ) → Matches (turn_of name body turn) (one_turn name body_of turn)
   turn-goes name body body_of matches turn lowering after numbers s e =
       let store = lowering.store in
-      let inner : Lowering = record { store = with_named name.text (Turn turn) [] store; nodes = lowering.nodes } in
+      let inner : Lowering = record { store = with_named name.number (Turn turn) [] store; nodes = lowering.nodes } in
       let ended = bind_some (body inner) _ after e in
-      let begun = store-push inputs lowering.nodes store numbers name.text (Turn turn) [] (of turn ∷ []) refl s in
+      let begun = store-push inputs lowering.nodes store numbers name.number (Turn turn) [] (of turn ∷ []) refl s in
       let goes = matches inner ended.0 (numbers ++ (of turn ∷ []) ∷ []) begun ended.1 in
       let made : Lowering = record { store = without_nodes (length store.names) ended.0.store; nodes = ended.0.nodes } in
       subst (Goes (one_turn name body_of turn (meant store numbers)) lowering.nodes) (same_some made after ended.2)

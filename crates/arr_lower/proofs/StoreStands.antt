@@ -1,7 +1,6 @@
 -- The nodes of the names in scope have the numbers of the names, as a run adds names, sets them and leaves blocks.
-use Rattle.std.proofs.Common.{◌≡◌, ℕ, suc, ◌+◌, ◌<◌, Bool, true, false, List, [], ◌∷◌, ◌++◌, take, set, length, get_or, Option, Some, refl, sym, ap, ◌∙◌, subst, inl, inr, arith}
+use Rattle.std.proofs.Common.{◌≡◌, ◌==◌, ℕ, suc, ◌+◌, ◌<◌, Bool, true, false, List, [], ◌∷◌, ◌++◌, take, set, length, get_or, Option, Some, refl, sym, ap, ◌∙◌, subst, inl, inr, arith}
 use Rattle.std.specs.Prelude.{if◌then◌else◌}
-use Rattle.std.specs.Str.{bytes_eq}
 use Rattle.std.proofs.lemmas.Bool.{cases_lt, cases_eq}
 use Rattle.std.proofs.lemmas.List.{length_push, length-take, length-set, get_or_append_left, get_or_push, get_or-take, get_or-set_same, get_or-set_other}
 use Rattle.arr_ast.specs.declared.shape.ShapeOf.{ShapeOf}
@@ -15,8 +14,8 @@ use Rattle.arr_lower.specs.NodeStore.{NodeStore, items_at, items_of, set_at, wit
 use Rattle.arr_lower.proofs.Grown.{Grows}
 use Rattle.arr_lower.proofs.MadeEach.{AllStand, all-kept}
 
-abbrev no_entry : List ℕ × Binding
-no_entry = ([], Turn 0)
+abbrev no_entry : ℕ × Binding
+no_entry = (0, Turn 0)
 
 abbrev binding_at : Names → ℕ → Binding
 binding_at names k = (get_or names k no_entry).1
@@ -28,7 +27,7 @@ record IsAt (names : Names) (p : ℕ) (found : Option ℕ) (binding : Binding) :
   inside : place < length names
   bound : binding_at names place ≡ binding
 
-at-step : (test : Bool) (name : List ℕ) (entry : List ℕ × Binding) (names : Names) (p : ℕ) (binding : Binding) →
+at-step : (test : Bool) (name : ℕ) (entry : ℕ × Binding) (names : Names) (p : ℕ) (binding : Binding) →
     (binding_of name names ≡ Some binding → IsAt names (p + 1) (place_from (p + 1) name names) binding) →
     (if test then Some entry.1 else binding_of name names) ≡ Some binding → IsAt (entry ∷ names) p (if test then Some p else place_from (p + 1) name names) binding
 at-step true name entry names p binding rest e = record { place = 0; is = ap Some (omega arith); inside = omega arith; bound = cc }
@@ -37,12 +36,12 @@ at-step false name entry names p binding rest e =
     let inside = found.inside in
     record { place = suc found.place; is = found.is ∙ ap Some (omega arith); inside = omega arith; bound = found.bound }
 
-at-from : (name : List ℕ) (names : Names) (p : ℕ) (binding : Binding) → binding_of name names ≡ Some binding → IsAt names p (place_from p name names) binding
+at-from : (name : ℕ) (names : Names) (p : ℕ) (binding : Binding) → binding_of name names ≡ Some binding → IsAt names p (place_from p name names) binding
 at-from name [] p binding e = cc
-at-from name (entry ∷ names) p binding e = at-step (bytes_eq entry.0 name) name entry names p binding (at-from name names (p + 1) binding) e
+at-from name (entry ∷ names) p binding e = at-step (entry.0 == name) name entry names p binding (at-from name names (p + 1) binding) e
 
 -- a name that is bound has a place
-name-at : (name : List ℕ) (names : Names) (binding : Binding) → binding_of name names ≡ Some binding → (k : ℕ) × (place_of name names ≡ Some k) × (k < length names) × (binding_at names k ≡ binding)
+name-at : (name : ℕ) (names : Names) (binding : Binding) → binding_of name names ≡ Some binding → (k : ℕ) × (place_of name names ≡ Some k) × (k < length names) × (binding_at names k ≡ binding)
 name-at name names binding e =
     let found = at-from name names 0 binding e in
     (found.place, found.is ∙ ap Some (omega arith), found.inside, found.bound)
@@ -80,17 +79,17 @@ module _ (inputs : List F) where
   pub store-none : (nodes : List Node) → IsStore nodes (record { names = []; items = [] }) []
   store-none nodes = record { items_long = refl; numbers_long = refl; holds = λ k inside. absurd (omega arith) }
 
-  pub name-holds : (nodes : List Node) (name : List ℕ) (store : NodeStore) (numbers : List (List F)) (binding : Binding) → binding_of name store.names ≡ Some binding →
+  pub name-holds : (nodes : List Node) (name : ℕ) (store : NodeStore) (numbers : List (List F)) (binding : Binding) → binding_of name store.names ≡ Some binding →
       IsStore nodes store numbers → Holds nodes binding (items_of name store) (numbers_of name (meant store numbers))
   name-holds nodes name store numbers binding e s =
       let found = name-at name store.names binding e in
       holds-same nodes (binding_at store.names found.0) binding (get_or store.items found.0 []) (items_of name store) (get_or numbers found.0 []) (numbers_of name (meant store numbers))
       found.3 (ap (λ p. items_at p store.items) (sym found.1)) (ap (λ p. numbers_at p numbers) (sym found.1)) (s.holds found.0 found.2)
 
-  pub store-push : (nodes : List Node) (store : NodeStore) (numbers : List (List F)) (name : List ℕ) (binding : Binding) (items : List ℕ) (xs : List F) → Holds nodes binding items xs →
+  pub store-push : (nodes : List Node) (store : NodeStore) (numbers : List (List F)) (name : ℕ) (binding : Binding) (items : List ℕ) (xs : List F) → Holds nodes binding items xs →
       IsStore nodes store numbers → IsStore nodes (with_name name binding items store) (numbers ++ xs ∷ [])
   store-push nodes store numbers name binding items xs h s =
-      let entry : List ℕ × Binding = (name, binding) in
+      let entry : ℕ × Binding = (name, binding) in
       let items_long = s.items_long in
       let numbers_long = s.numbers_long in
       let names_more : length (store.names ++ entry ∷ []) ≡ length store.names + 1 = length_push store.names entry in
@@ -100,13 +99,13 @@ module _ (inputs : List F) where
         holds = λ k inside. elim (cases_lt k (length store.names)) [
           | inl u ↦
               holds-same nodes (binding_at store.names k) (binding_at (store.names ++ entry ∷ []) k) (get_or store.items k []) (get_or (store.items ++ items ∷ []) k []) (get_or numbers k []) (get_or (numbers ++ xs ∷ []) k [])
-              (ap (λ (e : List ℕ × Binding). e.1) (sym (get_or_append_left store.names (entry ∷ []) no_entry k u)))
+              (ap (λ (e : ℕ × Binding). e.1) (sym (get_or_append_left store.names (entry ∷ []) no_entry k u)))
               (sym (get_or_append_left store.items (items ∷ []) [] k (omega arith)))
               (sym (get_or_append_left numbers (xs ∷ []) [] k (omega arith)))
               (s.holds k u)
           | inr u ↦
               holds-same nodes binding (binding_at (store.names ++ entry ∷ []) k) items (get_or (store.items ++ items ∷ []) k []) xs (get_or (numbers ++ xs ∷ []) k [])
-              (ap (λ (e : List ℕ × Binding). e.1) (sym (get_or_push store.names entry no_entry k (omega arith))))
+              (ap (λ (e : ℕ × Binding). e.1) (sym (get_or_push store.names entry no_entry k (omega arith))))
               (sym (get_or_push store.items items [] k (omega arith)))
               (sym (get_or_push numbers xs [] k (omega arith)))
               h
@@ -124,7 +123,7 @@ module _ (inputs : List F) where
         holds = λ k inside.
             let front : k < kept = omega arith in
             holds-same nodes (binding_at store.names k) (binding_at (take kept store.names) k) (get_or store.items k []) (get_or (take kept store.items) k []) (get_or numbers k []) (get_or (take kept numbers) k [])
-            (ap (λ (e : List ℕ × Binding). e.1) (sym (get_or-take kept store.names k no_entry front)))
+            (ap (λ (e : ℕ × Binding). e.1) (sym (get_or-take kept store.names k no_entry front)))
             (sym (get_or-take kept store.items k [] front))
             (sym (get_or-take kept numbers k [] front))
             (s.holds k (omega arith));
@@ -154,7 +153,7 @@ module _ (inputs : List F) where
         ];
       }
 
-  pub store-set : (nodes : List Node) (store : NodeStore) (numbers : List (List F)) (name : List ℕ) (shape : ShapeOf) (items : List ℕ) (xs : List F) → binding_of name store.names ≡ Some (Value shape) →
+  pub store-set : (nodes : List Node) (store : NodeStore) (numbers : List (List F)) (name : ℕ) (shape : ShapeOf) (items : List ℕ) (xs : List F) → binding_of name store.names ≡ Some (Value shape) →
       AllStand inputs nodes items xs → IsStore nodes store numbers → IsStore nodes (with_items name items store) (set_numbers_at (place_of name store.names) xs numbers)
   store-set nodes store numbers name shape items xs e h s =
       let found = name-at name store.names (Value shape) e in

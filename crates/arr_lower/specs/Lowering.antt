@@ -103,7 +103,7 @@ bound_array (Some (Value shape)) items nodes = Some (of_made shape items nodes)
 
 abbrev pub name_array : NameTree → NodeStore → List Node → Option Lowered
 name_array name store nodes =
-    bound_array (binding_of name.text store.names) (items_of name.text store) nodes
+    bound_array (binding_of name.number store.names) (items_of name.number store) nodes
 
 -- the shape of a name that has nodes
 abbrev pub value_shape : Option Binding → Option ShapeOf
@@ -113,13 +113,13 @@ value_shape binding = None
 -- where an element of a name stands in its list
 abbrev pub element_place : NameTree → IndicesTree → NodeStore → Option ℕ
 element_place name indices store =
-    if_there (element_at store.names name.at indices (binding_of name.text store.names)) >>=
+    if_there (element_at store.names name.at indices (binding_of name.number store.names)) >>=
     λ place.
-    value_shape (binding_of name.text store.names) >>= λ shape. Some (offset shape place)
+    value_shape (binding_of name.number store.names) >>= λ shape. Some (offset shape place)
 
 abbrev pub element_array : NameTree → IndicesTree → NodeStore → List Node → Option Lowered
 element_array name indices store nodes =
-    element_place name indices store >>= λ place. slice_get (items_of name.text store) place >>=
+    element_place name indices store >>= λ place. slice_get (items_of name.number store) place >>=
     λ item. Some (of_made Scalar (item ∷ []) nodes)
 
 abbrev mutual
@@ -183,7 +183,7 @@ turns (suc left) turn body lowering = body turn lowering >>= turns left (turn + 
 abbrev pub one_turn : NameTree → (Lowering → Option Lowering) → ℕ → Lowering → Option Lowering
 one_turn name body turn lowering =
     body (record {
-      store = with_name name.text (Turn turn) [] lowering.store;
+      store = with_name name.number (Turn turn) [] lowering.store;
       nodes = lowering.nodes;
     }) >>= λ after.
     Some (record {
@@ -201,7 +201,7 @@ abbrev pub declared : NameTree → ExpressionTree → Lowering → Option Loweri
 declared name value lowering =
     expression_array value lowering.store lowering.nodes >>= λ found.
     Some (record {
-      store = with_name name.text (Value found.array.shape) found.array.items
+      store = with_name name.number (Value found.array.shape) found.array.items
           lowering.store;
       nodes = found.nodes;
     })
@@ -209,17 +209,17 @@ declared name value lowering =
 -- only a name that has nodes may be assigned
 abbrev pub assigned : NameTree → ExpressionTree → Lowering → Option Lowering
 assigned name value lowering =
-    value_shape (binding_of name.text lowering.store.names) >>= λ shape.
+    value_shape (binding_of name.number lowering.store.names) >>= λ shape.
     expression_array value lowering.store lowering.nodes >>= λ found.
     Some (record {
-      store = with_items name.text found.array.items lowering.store;
+      store = with_items name.number found.array.items lowering.store;
       nodes = found.nodes;
     })
 
 -- with one node of a name set, to the only one of a list
 abbrev pub with_item : NameTree → ℕ → List ℕ → NodeStore → Option NodeStore
 with_item name place (item ∷ []) store =
-    Some (with_items name.text (set (items_of name.text store) place item) store)
+    Some (with_items name.number (set (items_of name.number store) place item) store)
 with_item name place items store = None
 
 abbrev pub element_assigned : NameTree → IndicesTree → ExpressionTree → Lowering → Option Lowering
@@ -268,7 +268,7 @@ abbrev pub store_from : ℕ → List InputTree → NodeStore → NodeStore
 store_from first [] store = store
 store_from first (input ∷ inputs) store =
     store_from (first + numbers_of_input input) inputs
-    (with_name input.name.text (Value (declared_shape input.dimensions))
+    (with_name input.name.number (Value (declared_shape input.dimensions))
     (range_with_len first (numbers_of_input input)) store)
 
 -- each input element is a leaf, in order

@@ -19,7 +19,7 @@ items_at None items = []
 items_at (Some place) items = get_or items place []
 
 -- the nodes of a name
-abbrev pub items_of : List ℕ → NodeStore → List ℕ
+abbrev pub items_of : ℕ → NodeStore → List ℕ
 items_of name store = items_at (place_of name store.names) store.items
 
 abbrev pub set_at : Option ℕ → List ℕ → List (List ℕ) → List (List ℕ)
@@ -27,12 +27,12 @@ set_at None new items = items
 set_at (Some place) new items = set items place new
 
 -- with other nodes of a name
-abbrev pub with_items : List ℕ → List ℕ → NodeStore → NodeStore
+abbrev pub with_items : ℕ → List ℕ → NodeStore → NodeStore
 with_items name new store =
     record store { items = set_at (place_of name store.names) new store.items }
 
 -- with one more name
-abbrev pub with_name : List ℕ → Binding → List ℕ → NodeStore → NodeStore
+abbrev pub with_name : ℕ → Binding → List ℕ → NodeStore → NodeStore
 with_name name binding new store =
     record { names = store.names ++ (name, binding) ∷ []; items = store.items ++ new ∷ [] }
 

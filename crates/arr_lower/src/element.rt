@@ -17,7 +17,7 @@ pub fn element_offset(store: &Store, name: &Name, indices: &Indices) -> Result<u
         (place_of_element (name_tree name.now) (indices_tree indices.now) store.now) }
 {
     let (row, column) = element_place(store.names(), name, indices)?;
-    match store.names().get(name.text.as_slice()) {
+    match store.names().get(name.number) {
         Some(Binding::Value(shape)) => Ok(offset(shape, row, column)),
         _ => Err(Stopped::Stuck),
     }

@@ -165,9 +165,9 @@ fn named(store: &Store, nodes: &mut Nodes, alloc: Global, name: &Name) -> Result
       nodes = nodes.new;
     }) result (name_array (name_tree name.now) store.now nodes.old) }
 {
-    match store.names().get(name.text.as_slice()) {
+    match store.names().get(name.number) {
         Some(Binding::Value(shape)) => {
-            let items = store.items(alloc, name.text.as_slice())?;
+            let items = store.items(alloc, name.number)?;
             Ok(NodeArray { shape, items })
         }
         Some(Binding::Turn(number)) => Ok(constant(nodes, number)?),
@@ -184,7 +184,7 @@ fn element(store: &Store, name: &Name, indices: &Indices) -> Result<NodeArray, S
         (element_array (name_tree name.now) (indices_tree indices.now) store.now nodes) }
 {
     let place = element_offset(store, name, indices)?;
-    match store.item(name.text.as_slice(), place) {
+    match store.item(name.number, place) {
         Some(item) => Ok(one_node(item)),
         None => Err(Stopped::Stuck),
     }

@@ -49,7 +49,7 @@ fn store_input(
     ensures next { IfOk result
         (λ next. next ≡ first + size_of (shape_of_input input.now.dimensions)) }
     ensures store { OnOk result
-        (store.new ≡ with_name input.now.name.text.items
+        (store.new ≡ with_name input.now.name.number
         (Value (shape_of_input input.now.dimensions))
         (range_with_len first (size_of (shape_of_input input.now.dimensions))) store.old) }
 {
@@ -60,7 +60,7 @@ fn store_input(
     let end = first + size as u32;
     let items = SharedList::new(alloc, numbers_between(alloc, first, end)?)?;
     let binding = Binding::Value(declared_shape(input.dimensions));
-    store.declare(alloc, input.name.text.as_slice(), binding, items)?;
+    store.declare(input.name.number, binding, items)?;
     Ok(end)
 }
 

@@ -14,9 +14,9 @@ use std::alloc::{AllocError, Global};
 
 /// The nodes of a program: its leaves, then constants and operations in the order of their making.
 ///
-/// The only error is want of memory. The time is linear in the elements that are computed and the
-/// steps that are run, but for the search of constants and of names, which is logarithmic in their
-/// number.
+/// The only error is want of memory. The time is meant to be linear in the elements that are
+/// computed, the steps that are run and the parts of index expressions, but for the search of
+/// constants, which is logarithmic in their number.
 pub fn lower(alloc: Global, checked: &Checked) -> Result<NodeList, AllocError>
     ensures nodes { IfOk result (λ list. nodes_of (program_tree checked.now.program) ≡ Some list) }
     ensures in_order { IfOk result (λ list. IsNodeList list) }

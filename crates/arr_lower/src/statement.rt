@@ -106,7 +106,7 @@ fn one_turn(
     let items = SharedList::new(alloc, Vec::new(alloc))?;
     lowering
         .store
-        .declare(alloc, name.text.as_slice(), Binding::Turn(turn), items)?;
+        .declare(name.number, Binding::Turn(turn), items)?;
     run_all(lowering, alloc, body)?;
     lowering.store.forget(kept);
     Ok(())
@@ -137,9 +137,7 @@ fn declare(
 {
     let array = array(&lowering.store, &mut lowering.nodes, alloc, value)?;
     let binding = Binding::Value(array.shape);
-    lowering
-        .store
-        .declare(alloc, name.text.as_slice(), binding, array.items)?;
+    lowering.store.declare(name.number, binding, array.items)?;
     Ok(())
 }
 
@@ -153,11 +151,11 @@ fn assign(
     ensures { Follows (λ _. lowering.new) result
         (assigned (name_tree name.now) (expression_tree value.now) lowering.old) }
 {
-    let Some(Binding::Value(_)) = lowering.store.names().get(name.text.as_slice()) else {
+    let Some(Binding::Value(_)) = lowering.store.names().get(name.number) else {
         return Err(Stopped::Stuck);
     };
     let array = array(&lowering.store, &mut lowering.nodes, alloc, value)?;
-    lowering.store.set(name.text.as_slice(), array.items);
+    lowering.store.set(name.number, array.items);
     Ok(())
 }
 
@@ -179,8 +177,6 @@ fn assign_element(
         return Err(Stopped::Stuck);
     }
     let item = array.items.item_or(0, 0);
-    lowering
-        .store
-        .set_item(alloc, name.text.as_slice(), place, item)?;
+    lowering.store.set_item(alloc, name.number, place, item)?;
     Ok(())
 }

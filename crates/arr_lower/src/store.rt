@@ -50,8 +50,8 @@ impl Store {
     }
 
     /// The nodes of a name, of which there are none where it isn't in scope. They are shared.
-    pub fn items(&self, alloc: Global, name: &[u8]) -> Result<SharedList<u32>, AllocError>
-        ensures { IfOk result (λ items. items ≡ items_of name.now self.now) }
+    pub fn items(&self, alloc: Global, name: usize) -> Result<SharedList<u32>, AllocError>
+        ensures { IfOk result (λ items. items ≡ items_of name self.now) }
     {
         match self.names.place(name) {
             Some(place) => items_at(alloc, &self.items, place),
@@ -60,8 +60,8 @@ impl Store {
     }
 
     /// One node of a name, if there is one at this place.
-    pub fn item(&self, name: &[u8], place: usize) -> Option<u32>
-        ensures { result ≡ slice_get (items_of name.now self.now) place }
+    pub fn item(&self, name: usize, place: usize) -> Option<u32>
+        ensures { result ≡ slice_get (items_of name self.now) place }
     {
         match self.names.place(name) {
             Some(at) => item_at(&self.items, at, place),
@@ -72,21 +72,20 @@ impl Store {
     /// Declares one more name, with its nodes.
     pub fn declare(
         &mut self,
-        alloc: Global,
-        name: &[u8],
+        name: usize,
         binding: Binding,
         items: SharedList<u32>,
     ) -> Result<(), AllocError>
-        ensures { OnOk result (self.new ≡ with_name name.now binding items self.old) }
+        ensures { OnOk result (self.new ≡ with_name name binding items self.old) }
     {
-        self.names.declare(alloc, name, binding)?;
+        self.names.declare(name, binding)?;
         self.items.push(items)?;
         Ok(())
     }
 
     /// Sets the nodes of a name.
-    pub fn set(&mut self, name: &[u8], items: SharedList<u32>)
-        ensures { self.new ≡ with_items name.now items self.old }
+    pub fn set(&mut self, name: usize, items: SharedList<u32>)
+        ensures { self.new ≡ with_items name items self.old }
     {
         if let Some(place) = self.names.place(name) {
             set_items(&mut self.items, place, items);
@@ -97,12 +96,12 @@ impl Store {
     pub fn set_item(
         &mut self,
         alloc: Global,
-        name: &[u8],
+        name: usize,
         place: usize,
         item: u32,
     ) -> Result<(), AllocError>
-        ensures { OnOk result (self.new ≡ with_items name.now
-            (set (items_of name.now self.old) place item) self.old) }
+        ensures { OnOk result (self.new ≡ with_items name
+            (set (items_of name self.old) place item) self.old) }
     {
         match self.names.place(name) {
             Some(at) => set_item_at(alloc, &mut self.items, at, place, item),

@@ -5,41 +5,41 @@ use Rattle.std.specs.List.{list_all}
 use Rattle.arr_lex.specs.declared.token.Symbol.{Symbol}
 use Rattle.arr_lex.specs.declared.token.Symbol.TheVariants as symbol
 use Rattle.arr_lex.specs.declared.token.Token.{Token}
-use Rattle.arr_parse.specs.Mark.{Mark, Separator, mark, mark_of, part_of}
+use Rattle.arr_parse.specs.Mark.{Mark, Separator, mark, mark_of, number_at, Source}
 use Rattle.arr_parse.specs.Grammar.{Part, The, row, may_be_empty, is_the}
 use Rattle.arr_parse.specs.Reading.{levels, taken, due_after, unless_refused, refusal}
 use Rattle.arr_parse.specs.declared.refused.ParseRefused.{ParseRefused}
 use Rattle.arr_parse.specs.declared.refused.ParseRefused.TheVariants.{Syntax, Nesting}
 
 -- A tree whose spelling the tokens begin with, and the tokens behind it, with which reading goes on.
-pub record Found (X : Type 0) (marks : X → List Mark) (text : List ℕ) (due : List Part) (tokens : List Token) : Type 0 where
+pub record Found (X : Type 0) (marks : X → List Mark) (source : Source) (due : List Part) (tokens : List Token) : Type 0 where
   pub tree : X
   pub rest : List Token
-  pub spelled : map (mark text) tokens ≡ marks tree ++ map (mark text) rest
-  pub goes_on : refusal (length text) due rest ≡ None
+  pub spelled : map (mark source) tokens ≡ marks tree ++ map (mark source) rest
+  pub goes_on : refusal (length source.text) due rest ≡ None
   pub shorter : length rest < length tokens
 
 -- Where a part is due and nothing is refused, fewer than so many tokens begin with a tree of the part.
-abbrev pub Finds : (X : Type 0) → (X → List Mark) → Part → List ℕ → ℕ → Type 0
-Finds X marks part text n = (due : List Part) (tokens : List Token) → length tokens < n → refusal (length text) (part ∷ due) tokens ≡ None → Found X marks text due tokens
+abbrev pub Finds : (X : Type 0) → (X → List Mark) → Part → Source → ℕ → Type 0
+Finds X marks part source n = (due : List Part) (tokens : List Token) → length tokens < n → refusal (length source.text) (part ∷ due) tokens ≡ None → Found X marks source due tokens
 
 -- what a token of this symbol is in a spelling
-pub marked : (text : List ℕ) (token : Token) (s : Symbol) → token.symbol ≡ s → mark text token ≡ mark_of s token.start (part_of text token.start token.end)
-marked text token s is = ap (λ t. mark_of t token.start (part_of text token.start token.end)) is
+pub marked : (source : Source) (token : Token) (s : Symbol) → token.symbol ≡ s → mark source token ≡ mark_of s token.start (number_at source token)
+marked source token s is = ap (λ t. mark_of t token.start (number_at source token)) is
 
 pub rowed : (part : Part) (token : Token) (s : Symbol) (new : Option (List Part)) → token.symbol ≡ s → row part s ≡ new → row part token.symbol ≡ new
 rowed part token s new is at = ap (row part) is ∙ at
 
 -- The same, where the tree may have no token.
-pub record FoundUpTo (X : Type 0) (marks : X → List Mark) (text : List ℕ) (due : List Part) (tokens : List Token) : Type 0 where
+pub record FoundUpTo (X : Type 0) (marks : X → List Mark) (source : Source) (due : List Part) (tokens : List Token) : Type 0 where
   pub tree : X
   pub rest : List Token
-  pub spelled : map (mark text) tokens ≡ marks tree ++ map (mark text) rest
-  pub goes_on : refusal (length text) due rest ≡ None
+  pub spelled : map (mark source) tokens ≡ marks tree ++ map (mark source) rest
+  pub goes_on : refusal (length source.text) due rest ≡ None
   pub within : length rest < suc (length tokens)
 
-abbrev pub FindsUpTo : (X : Type 0) → (X → List Mark) → Part → List ℕ → ℕ → Type 0
-FindsUpTo X marks part text n = (due : List Part) (tokens : List Token) → length tokens < n → refusal (length text) (part ∷ due) tokens ≡ None → FoundUpTo X marks text due tokens
+abbrev pub FindsUpTo : (X : Type 0) → (X → List Mark) → Part → Source → ℕ → Type 0
+FindsUpTo X marks part source n = (due : List Part) (tokens : List Token) → length tokens < n → refusal (length source.text) (part ∷ due) tokens ≡ None → FoundUpTo X marks source due tokens
 
 passed : (b : Bool) (x : ParseRefused) (y : Option ParseRefused) → (if b then Some x else y) ≡ None → y ≡ None
 passed true x y e = cc
@@ -73,7 +73,7 @@ skipped end part due token tokens is empty =
     let next : taken token.symbol (part ∷ due) ≡ taken token.symbol due = ap (λ r. due_after r due (if may_be_empty part then taken token.symbol due else None)) is ∙ ap (λ b. if b then taken token.symbol due else None) empty in
     ap (λ n. unless_refused token.start n (λ due. refusal end due tokens)) next
 
--- at the text's end
+-- at the source's end
 pub none_left : (end : ℕ) (part : Part) (due : List Part) → may_be_empty part ≡ false → refusal end (part ∷ due) [] ≡ None → ⊥
 none_left end part due full h =
     let there : (if (may_be_empty part && list_all may_be_empty due) then None else Some (Syntax end)) ≡ None = h in
@@ -92,24 +92,24 @@ same_separator symbol.Range symbol.Range e = refl
 same_separator s t e = cc
 
 -- The tokens begin with this separator, and reading goes on behind it.
-pub record Separated (s : Symbol) (text : List ℕ) (due : List Part) (tokens : List Token) : Type 0 where
+pub record Separated (s : Symbol) (source : Source) (due : List Part) (tokens : List Token) : Type 0 where
   pub rest : List Token
-  pub spelled : map (mark text) tokens ≡ Separator s ∷ map (mark text) rest
-  pub goes_on : refusal (length text) due rest ≡ None
+  pub spelled : map (mark source) tokens ≡ Separator s ∷ map (mark source) rest
+  pub goes_on : refusal (length source.text) due rest ≡ None
   pub shorter : length rest < length tokens
 
 is_or_not : (b : Bool) → (b ≡ true) ⊎ (b ≡ false)
 is_or_not true = inl refl
 is_or_not false = inr refl
 
-pub separator : (s : Symbol) (text : List ℕ) (due : List Part) (tokens : List Token) → ((at : ℕ) (word : List ℕ) → mark_of s at word ≡ Separator s) →
-    refusal (length text) (The s ∷ due) tokens ≡ None → Separated s text due tokens
-separator s text due [] separates h = absurd (none_left (length text) (The s) due refl h)
-separator s text due (token ∷ tokens) separates h = elim (is_or_not (is_the s token.symbol)) [
+pub separator : (s : Symbol) (source : Source) (due : List Part) (tokens : List Token) → ((at word : ℕ) → mark_of s at word ≡ Separator s) →
+    refusal (length source.text) (The s ∷ due) tokens ≡ None → Separated s source due tokens
+separator s source due [] separates h = absurd (none_left (length source.text) (The s) due refl h)
+separator s source due (token ∷ tokens) separates h = elim (is_or_not (is_the s token.symbol)) [
   | inl is ↦
       let same : token.symbol ≡ s = same_separator s token.symbol is in
       let rowed : row (The s) token.symbol ≡ Some [] = ap (λ b. if b then Some [] else None) is in
-      let marked : mark text token ≡ Separator s = ap (λ t. mark_of t token.start (part_of text token.start token.end)) same ∙ separates token.start (part_of text token.start token.end) in
-      record { rest = tokens; spelled = ap (λ m. m ∷ map (mark text) tokens) marked; goes_on = after (length text) (The s) due token tokens [] rowed h; shorter = omega arith }
-  | inr is_not ↦ absurd (no_row (length text) (The s) due token tokens (ap (λ b. if b then Some [] else None) is_not) refl h)
+      let marked : mark source token ≡ Separator s = ap (λ t. mark_of t token.start (number_at source token)) same ∙ separates token.start (number_at source token) in
+      record { rest = tokens; spelled = ap (λ m. m ∷ map (mark source) tokens) marked; goes_on = after (length source.text) (The s) due token tokens [] rowed h; shorter = omega arith }
+  | inr is_not ↦ absurd (no_row (length source.text) (The s) due token tokens (ap (λ b. if b then Some [] else None) is_not) refl h)
 ]

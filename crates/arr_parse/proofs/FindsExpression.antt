@@ -11,7 +11,7 @@ use Rattle.arr_ast.specs.ExpressionTree.{NameTree, IndicesTree, ExpressionTree, 
 use Rattle.arr_lex.specs.declared.token.Symbol.{Symbol}
 use Rattle.arr_lex.specs.declared.token.Symbol.TheVariants as symbol
 use Rattle.arr_lex.specs.declared.token.Token.{Token}
-use Rattle.arr_parse.specs.Mark.{Mark, Separator, Placed, Named, mark, mark_of, part_of}
+use Rattle.arr_parse.specs.Mark.{Mark, Separator, Placed, Named, mark, mark_of, number_at, Source}
 use Rattle.arr_parse.specs.Grammar.{Part, The, AnExpression, MoreTerms, ATerm, MoreFactors, AFactor, EndOfNegation, OneArgument, TwoArguments, FirstIndex, SecondIndex, AnIndex, row}
 use Rattle.arr_parse.specs.Reading.{refusal}
 use Rattle.arr_parse.specs.IndexSpelling.{sign_symbol, name_marks, sum_marks, bracket_marks, second_marks, indices_marks}
@@ -21,123 +21,123 @@ use Rattle.arr_parse.proofs.Finding.{Found, Finds, FoundUpTo, FindsUpTo, after, 
 use Rattle.arr_parse.proofs.FindsIndex.{finds_index}
 
 -- an index behind its bracket, up to the closing one
-closed_index : (text : List ℕ) (due : List Part) (token : Token) (tokens : List Token) → token.symbol ≡ symbol.OpenSquare →
-    refusal (length text) (AnIndex ∷ The symbol.CloseSquare ∷ due) tokens ≡ None → Found Sum bracket_marks text due (token ∷ tokens)
-closed_index text due token tokens is h =
-    let inner = finds_index text (The symbol.CloseSquare ∷ due) tokens h in
-    let shut = separator symbol.CloseSquare text due inner.rest (λ at word. refl) inner.goes_on in
+closed_index : (source : Source) (due : List Part) (token : Token) (tokens : List Token) → token.symbol ≡ symbol.OpenSquare →
+    refusal (length source.text) (AnIndex ∷ The symbol.CloseSquare ∷ due) tokens ≡ None → Found Sum bracket_marks source due (token ∷ tokens)
+closed_index source due token tokens is h =
+    let inner = finds_index source (The symbol.CloseSquare ∷ due) tokens h in
+    let shut = separator symbol.CloseSquare source due inner.rest (λ at word. refl) inner.goes_on in
     let a : length inner.rest < length tokens = inner.shorter in
     let b : length shut.rest < length inner.rest = shut.shorter in
     record {
       tree = inner.tree;
       rest = shut.rest;
-      spelled = ap (λ m. m ∷ map (mark text) tokens) (marked text token symbol.OpenSquare is)
-          ∙ ap (λ ms. Separator symbol.OpenSquare ∷ ms) (inner.spelled ∙ ap (λ ms. sum_marks inner.tree ++ ms) shut.spelled ∙ sym (append_assoc (sum_marks inner.tree) (Separator symbol.CloseSquare ∷ []) (map (mark text) shut.rest)));
+      spelled = ap (λ m. m ∷ map (mark source) tokens) (marked source token symbol.OpenSquare is)
+          ∙ ap (λ ms. Separator symbol.OpenSquare ∷ ms) (inner.spelled ∙ ap (λ ms. sum_marks inner.tree ++ ms) shut.spelled ∙ sym (append_assoc (sum_marks inner.tree) (Separator symbol.CloseSquare ∷ []) (map (mark source) shut.rest)));
       goes_on = shut.goes_on;
       shorter = omega arith;
     }
 
-second_at : (text : List ℕ) (due : List Part) (token : Token) (tokens : List Token) (s : Symbol) → token.symbol ≡ s →
-    refusal (length text) (SecondIndex ∷ due) (token ∷ tokens) ≡ None → FoundUpTo (Option Sum) second_marks text due (token ∷ tokens)
-second_at text due token tokens symbol.OpenSquare is h =
+second_at : (source : Source) (due : List Part) (token : Token) (tokens : List Token) (s : Symbol) → token.symbol ≡ s →
+    refusal (length source.text) (SecondIndex ∷ due) (token ∷ tokens) ≡ None → FoundUpTo (Option Sum) second_marks source due (token ∷ tokens)
+second_at source due token tokens symbol.OpenSquare is h =
     let new : List Part = AnIndex ∷ The symbol.CloseSquare ∷ [] in
-    let index = closed_index text due token tokens is (after (length text) SecondIndex due token tokens new (rowed SecondIndex token symbol.OpenSquare (Some new) is refl) h) in
+    let index = closed_index source due token tokens is (after (length source.text) SecondIndex due token tokens new (rowed SecondIndex token symbol.OpenSquare (Some new) is refl) h) in
     record { tree = Some index.tree; rest = index.rest; spelled = index.spelled; goes_on = index.goes_on; within = let a : length index.rest < suc (length tokens) = index.shorter in omega arith }
-second_at text due token tokens s is h = record {
+second_at source due token tokens s is h = record {
   tree = None;
   rest = token ∷ tokens;
   spelled = refl;
-  goes_on = sym (skipped (length text) SecondIndex due token tokens (rowed SecondIndex token s None is refl) refl) ∙ h;
+  goes_on = sym (skipped (length source.text) SecondIndex due token tokens (rowed SecondIndex token s None is refl) refl) ∙ h;
   within = omega arith;
 }
 
-second : (text : List ℕ) (due : List Part) (tokens : List Token) → refusal (length text) (SecondIndex ∷ due) tokens ≡ None → FoundUpTo (Option Sum) second_marks text due tokens
-second text due [] h = record { tree = None; rest = []; spelled = refl; goes_on = h; within = omega arith }
-second text due (token ∷ tokens) h = second_at text due token tokens token.symbol refl h
+second : (source : Source) (due : List Part) (tokens : List Token) → refusal (length source.text) (SecondIndex ∷ due) tokens ≡ None → FoundUpTo (Option Sum) second_marks source due tokens
+second source due [] h = record { tree = None; rest = []; spelled = refl; goes_on = h; within = omega arith }
+second source due (token ∷ tokens) h = second_at source due token tokens token.symbol refl h
 
 -- the indices of an element, or none
 abbrev pub maybe_indices_marks : Option IndicesTree → List Mark
 maybe_indices_marks None = []
 maybe_indices_marks (Some indices) = indices_marks indices
 
-indices_at : (text : List ℕ) (due : List Part) (token : Token) (tokens : List Token) (s : Symbol) → token.symbol ≡ s →
-    refusal (length text) (FirstIndex ∷ due) (token ∷ tokens) ≡ None → FoundUpTo (Option IndicesTree) maybe_indices_marks text due (token ∷ tokens)
-indices_at text due token tokens symbol.OpenSquare is h =
+indices_at : (source : Source) (due : List Part) (token : Token) (tokens : List Token) (s : Symbol) → token.symbol ≡ s →
+    refusal (length source.text) (FirstIndex ∷ due) (token ∷ tokens) ≡ None → FoundUpTo (Option IndicesTree) maybe_indices_marks source due (token ∷ tokens)
+indices_at source due token tokens symbol.OpenSquare is h =
     let new : List Part = AnIndex ∷ The symbol.CloseSquare ∷ SecondIndex ∷ [] in
-    let first = closed_index text (SecondIndex ∷ due) token tokens is (after (length text) FirstIndex due token tokens new (rowed FirstIndex token symbol.OpenSquare (Some new) is refl) h) in
-    let more = second text due first.rest first.goes_on in
+    let first = closed_index source (SecondIndex ∷ due) token tokens is (after (length source.text) FirstIndex due token tokens new (rowed FirstIndex token symbol.OpenSquare (Some new) is refl) h) in
+    let more = second source due first.rest first.goes_on in
     let a : length first.rest < suc (length tokens) = first.shorter in
     let b : length more.rest < suc (length first.rest) = more.within in
     record {
       tree = Some record { first = first.tree; second = more.tree };
       rest = more.rest;
-      spelled = first.spelled ∙ ap (λ ms. bracket_marks first.tree ++ ms) more.spelled ∙ sym (append_assoc (bracket_marks first.tree) (second_marks more.tree) (map (mark text) more.rest));
+      spelled = first.spelled ∙ ap (λ ms. bracket_marks first.tree ++ ms) more.spelled ∙ sym (append_assoc (bracket_marks first.tree) (second_marks more.tree) (map (mark source) more.rest));
       goes_on = more.goes_on;
       within = omega arith;
     }
-indices_at text due token tokens s is h = record {
+indices_at source due token tokens s is h = record {
   tree = None;
   rest = token ∷ tokens;
   spelled = refl;
-  goes_on = sym (skipped (length text) FirstIndex due token tokens (rowed FirstIndex token s None is refl) refl) ∙ h;
+  goes_on = sym (skipped (length source.text) FirstIndex due token tokens (rowed FirstIndex token s None is refl) refl) ∙ h;
   within = omega arith;
 }
 
-pub finds_indices : (text : List ℕ) (due : List Part) (tokens : List Token) → refusal (length text) (FirstIndex ∷ due) tokens ≡ None → FoundUpTo (Option IndicesTree) maybe_indices_marks text due tokens
-finds_indices text due [] h = record { tree = None; rest = []; spelled = refl; goes_on = h; within = omega arith }
-finds_indices text due (token ∷ tokens) h = indices_at text due token tokens token.symbol refl h
+pub finds_indices : (source : Source) (due : List Part) (tokens : List Token) → refusal (length source.text) (FirstIndex ∷ due) tokens ≡ None → FoundUpTo (Option IndicesTree) maybe_indices_marks source due tokens
+finds_indices source due [] h = record { tree = None; rest = []; spelled = refl; goes_on = h; within = omega arith }
+finds_indices source due (token ∷ tokens) h = indices_at source due token tokens token.symbol refl h
 
-abbrev pub name_at : List ℕ → Token → NameTree
-name_at text token = record { at = token.start; text = part_of text token.start token.end }
+abbrev pub name_at : Source → Token → NameTree
+name_at source token = record { at = token.start; number = number_at source token }
 
-record Below (text : List ℕ) (n : ℕ) : Type 0 where
-  factor : Finds FactorTree factor_marks AFactor text n
-  times : FindsUpTo TimesTree times_marks MoreFactors text n
-  term : Finds TermTree term_marks ATerm text n
-  added : FindsUpTo AddedTree added_marks MoreTerms text n
-  expression : Finds ExpressionTree expression_marks AnExpression text n
+record Below (source : Source) (n : ℕ) : Type 0 where
+  factor : Finds FactorTree factor_marks AFactor source n
+  times : FindsUpTo TimesTree times_marks MoreFactors source n
+  term : Finds TermTree term_marks ATerm source n
+  added : FindsUpTo AddedTree added_marks MoreTerms source n
+  expression : Finds ExpressionTree expression_marks AnExpression source n
 
 -- an expression up to a separator
-ended : (text : List ℕ) (n : ℕ) → Below text n → (s : Symbol) → ((at : ℕ) (word : List ℕ) → mark_of s at word ≡ Separator s) → (due : List Part) (tokens : List Token) → length tokens < n →
-    refusal (length text) (AnExpression ∷ The s ∷ due) tokens ≡ None → Found ExpressionTree (λ e. expression_marks e ++ Separator s ∷ []) text due tokens
-ended text n below s separates due tokens few h =
+ended : (source : Source) (n : ℕ) → Below source n → (s : Symbol) → ((at word : ℕ) → mark_of s at word ≡ Separator s) → (due : List Part) (tokens : List Token) → length tokens < n →
+    refusal (length source.text) (AnExpression ∷ The s ∷ due) tokens ≡ None → Found ExpressionTree (λ e. expression_marks e ++ Separator s ∷ []) source due tokens
+ended source n below s separates due tokens few h =
     let inner = below.expression (The s ∷ due) tokens few h in
-    let shut = separator s text due inner.rest separates inner.goes_on in
+    let shut = separator s source due inner.rest separates inner.goes_on in
     let a : length inner.rest < length tokens = inner.shorter in
     let b : length shut.rest < length inner.rest = shut.shorter in
     record {
       tree = inner.tree;
       rest = shut.rest;
-      spelled = inner.spelled ∙ ap (λ ms. expression_marks inner.tree ++ ms) shut.spelled ∙ sym (append_assoc (expression_marks inner.tree) (Separator s ∷ []) (map (mark text) shut.rest));
+      spelled = inner.spelled ∙ ap (λ ms. expression_marks inner.tree ++ ms) shut.spelled ∙ sym (append_assoc (expression_marks inner.tree) (Separator s ∷ []) (map (mark source) shut.rest));
       goes_on = shut.goes_on;
       shorter = omega arith;
     }
 
 -- what stands behind the opening bracket of a call
-single_at : (text : List ℕ) (n : ℕ) → Below text n → (due : List Part) (token : Token) (tokens : List Token) (s : Symbol) → token.symbol ≡ s → length tokens < n →
-    refusal (length text) (OneArgument ∷ due) (token ∷ tokens) ≡ None →
-    Found ExpressionTree (λ e. Placed token.start symbol.OpenRound ∷ (expression_marks e ++ Separator symbol.CloseRound ∷ [])) text due (token ∷ tokens)
-single_at text n below due token tokens symbol.OpenRound is few h =
+single_at : (source : Source) (n : ℕ) → Below source n → (due : List Part) (token : Token) (tokens : List Token) (s : Symbol) → token.symbol ≡ s → length tokens < n →
+    refusal (length source.text) (OneArgument ∷ due) (token ∷ tokens) ≡ None →
+    Found ExpressionTree (λ e. Placed token.start symbol.OpenRound ∷ (expression_marks e ++ Separator symbol.CloseRound ∷ [])) source due (token ∷ tokens)
+single_at source n below due token tokens symbol.OpenRound is few h =
     let new : List Part = AnExpression ∷ The symbol.CloseRound ∷ [] in
-    let inner = ended text n below symbol.CloseRound (λ at word. refl) due tokens few (after (length text) OneArgument due token tokens new (rowed OneArgument token symbol.OpenRound (Some new) is refl) h) in
+    let inner = ended source n below symbol.CloseRound (λ at word. refl) due tokens few (after (length source.text) OneArgument due token tokens new (rowed OneArgument token symbol.OpenRound (Some new) is refl) h) in
     record {
       tree = inner.tree;
       rest = inner.rest;
-      spelled = ap (λ m. m ∷ map (mark text) tokens) (marked text token symbol.OpenRound is) ∙ ap (λ ms. Placed token.start symbol.OpenRound ∷ ms) inner.spelled;
+      spelled = ap (λ m. m ∷ map (mark source) tokens) (marked source token symbol.OpenRound is) ∙ ap (λ ms. Placed token.start symbol.OpenRound ∷ ms) inner.spelled;
       goes_on = inner.goes_on;
       shorter = let a : length inner.rest < length tokens = inner.shorter in omega arith;
     }
-single_at text n below due token tokens s is few h = absurd (no_row (length text) OneArgument due token tokens (rowed OneArgument token s None is refl) refl h)
+single_at source n below due token tokens s is few h = absurd (no_row (length source.text) OneArgument due token tokens (rowed OneArgument token s None is refl) refl h)
 
-single : (text : List ℕ) (n : ℕ) → Below text n → (function : SingleFunction) (due : List Part) (word : Token) (tokens : List Token) → mark text word ≡ Placed word.start (single_symbol function) → length tokens < n →
-    refusal (length text) (OneArgument ∷ due) tokens ≡ None → Found FactorTree factor_marks text due (word ∷ tokens)
-single text n below function due word [] placed few h = absurd (none_left (length text) OneArgument due refl h)
-single text n below function due word (token ∷ tokens) placed few h =
-    let inner = single_at text n below due token tokens token.symbol refl (omega arith) h in
+single : (source : Source) (n : ℕ) → Below source n → (function : SingleFunction) (due : List Part) (word : Token) (tokens : List Token) → mark source word ≡ Placed word.start (single_symbol function) → length tokens < n →
+    refusal (length source.text) (OneArgument ∷ due) tokens ≡ None → Found FactorTree factor_marks source due (word ∷ tokens)
+single source n below function due word [] placed few h = absurd (none_left (length source.text) OneArgument due refl h)
+single source n below function due word (token ∷ tokens) placed few h =
+    let inner = single_at source n below due token tokens token.symbol refl (omega arith) h in
     record {
       tree = Single function word.start token.start inner.tree;
       rest = inner.rest;
-      spelled = ap (λ m. m ∷ map (mark text) (token ∷ tokens)) placed ∙ ap (λ ms. Placed word.start (single_symbol function) ∷ ms) inner.spelled;
+      spelled = ap (λ m. m ∷ map (mark source) (token ∷ tokens)) placed ∙ ap (λ ms. Placed word.start (single_symbol function) ∷ ms) inner.spelled;
       goes_on = inner.goes_on;
       shorter = let a : length inner.rest < suc (length tokens) = inner.shorter in omega arith;
     }
@@ -149,48 +149,48 @@ record Both : Type 0 where
 abbrev both_marks : Both → List Mark
 both_marks both = expression_marks both.left ++ (Separator symbol.Comma ∷ (expression_marks both.right ++ Separator symbol.CloseRound ∷ []))
 
-both : (text : List ℕ) (n : ℕ) → Below text n → (due : List Part) (tokens : List Token) → length tokens < n →
-    refusal (length text) (AnExpression ∷ The symbol.Comma ∷ AnExpression ∷ The symbol.CloseRound ∷ due) tokens ≡ None → Found Both both_marks text due tokens
-both text n below due tokens few h =
-    let first = ended text n below symbol.Comma (λ at word. refl) (AnExpression ∷ The symbol.CloseRound ∷ due) tokens few h in
+both : (source : Source) (n : ℕ) → Below source n → (due : List Part) (tokens : List Token) → length tokens < n →
+    refusal (length source.text) (AnExpression ∷ The symbol.Comma ∷ AnExpression ∷ The symbol.CloseRound ∷ due) tokens ≡ None → Found Both both_marks source due tokens
+both source n below due tokens few h =
+    let first = ended source n below symbol.Comma (λ at word. refl) (AnExpression ∷ The symbol.CloseRound ∷ due) tokens few h in
     let a : length first.rest < length tokens = first.shorter in
-    let next = ended text n below symbol.CloseRound (λ at word. refl) due first.rest (omega arith) first.goes_on in
+    let next = ended source n below symbol.CloseRound (λ at word. refl) due first.rest (omega arith) first.goes_on in
     let b : length next.rest < length first.rest = next.shorter in
     let tail : List Mark = expression_marks next.tree ++ Separator symbol.CloseRound ∷ [] in
     record {
       tree = record { left = first.tree; right = next.tree };
       rest = next.rest;
       spelled = first.spelled ∙ ap (λ ms. (expression_marks first.tree ++ Separator symbol.Comma ∷ []) ++ ms) next.spelled
-          ∙ append_assoc (expression_marks first.tree) (Separator symbol.Comma ∷ []) (tail ++ map (mark text) next.rest)
-          ∙ sym (append_assoc (expression_marks first.tree) (Separator symbol.Comma ∷ tail) (map (mark text) next.rest));
+          ∙ append_assoc (expression_marks first.tree) (Separator symbol.Comma ∷ []) (tail ++ map (mark source) next.rest)
+          ∙ sym (append_assoc (expression_marks first.tree) (Separator symbol.Comma ∷ tail) (map (mark source) next.rest));
       goes_on = next.goes_on;
       shorter = omega arith;
     }
 
-pair_at : (text : List ℕ) (n : ℕ) → Below text n → (due : List Part) (token : Token) (tokens : List Token) (s : Symbol) → token.symbol ≡ s → length tokens < n →
-    refusal (length text) (TwoArguments ∷ due) (token ∷ tokens) ≡ None →
-    Found Both (λ b. Placed token.start symbol.OpenRound ∷ both_marks b) text due (token ∷ tokens)
-pair_at text n below due token tokens symbol.OpenRound is few h =
+pair_at : (source : Source) (n : ℕ) → Below source n → (due : List Part) (token : Token) (tokens : List Token) (s : Symbol) → token.symbol ≡ s → length tokens < n →
+    refusal (length source.text) (TwoArguments ∷ due) (token ∷ tokens) ≡ None →
+    Found Both (λ b. Placed token.start symbol.OpenRound ∷ both_marks b) source due (token ∷ tokens)
+pair_at source n below due token tokens symbol.OpenRound is few h =
     let new : List Part = AnExpression ∷ The symbol.Comma ∷ AnExpression ∷ The symbol.CloseRound ∷ [] in
-    let inner = both text n below due tokens few (after (length text) TwoArguments due token tokens new (rowed TwoArguments token symbol.OpenRound (Some new) is refl) h) in
+    let inner = both source n below due tokens few (after (length source.text) TwoArguments due token tokens new (rowed TwoArguments token symbol.OpenRound (Some new) is refl) h) in
     record {
       tree = inner.tree;
       rest = inner.rest;
-      spelled = ap (λ m. m ∷ map (mark text) tokens) (marked text token symbol.OpenRound is) ∙ ap (λ ms. Placed token.start symbol.OpenRound ∷ ms) inner.spelled;
+      spelled = ap (λ m. m ∷ map (mark source) tokens) (marked source token symbol.OpenRound is) ∙ ap (λ ms. Placed token.start symbol.OpenRound ∷ ms) inner.spelled;
       goes_on = inner.goes_on;
       shorter = let a : length inner.rest < length tokens = inner.shorter in omega arith;
     }
-pair_at text n below due token tokens s is few h = absurd (no_row (length text) TwoArguments due token tokens (rowed TwoArguments token s None is refl) refl h)
+pair_at source n below due token tokens s is few h = absurd (no_row (length source.text) TwoArguments due token tokens (rowed TwoArguments token s None is refl) refl h)
 
-pair : (text : List ℕ) (n : ℕ) → Below text n → (function : PairFunction) (due : List Part) (word : Token) (tokens : List Token) → mark text word ≡ Placed word.start (pair_symbol function) → length tokens < n →
-    refusal (length text) (TwoArguments ∷ due) tokens ≡ None → Found FactorTree factor_marks text due (word ∷ tokens)
-pair text n below function due word [] placed few h = absurd (none_left (length text) TwoArguments due refl h)
-pair text n below function due word (token ∷ tokens) placed few h =
-    let inner = pair_at text n below due token tokens token.symbol refl (omega arith) h in
+pair : (source : Source) (n : ℕ) → Below source n → (function : PairFunction) (due : List Part) (word : Token) (tokens : List Token) → mark source word ≡ Placed word.start (pair_symbol function) → length tokens < n →
+    refusal (length source.text) (TwoArguments ∷ due) tokens ≡ None → Found FactorTree factor_marks source due (word ∷ tokens)
+pair source n below function due word [] placed few h = absurd (none_left (length source.text) TwoArguments due refl h)
+pair source n below function due word (token ∷ tokens) placed few h =
+    let inner = pair_at source n below due token tokens token.symbol refl (omega arith) h in
     record {
       tree = Pair function word.start token.start inner.tree.left inner.tree.right;
       rest = inner.rest;
-      spelled = ap (λ m. m ∷ map (mark text) (token ∷ tokens)) placed ∙ ap (λ ms. Placed word.start (pair_symbol function) ∷ ms) inner.spelled;
+      spelled = ap (λ m. m ∷ map (mark source) (token ∷ tokens)) placed ∙ ap (λ ms. Placed word.start (pair_symbol function) ∷ ms) inner.spelled;
       goes_on = inner.goes_on;
       shorter = let a : length inner.rest < suc (length tokens) = inner.shorter in omega arith;
     }
@@ -201,111 +201,111 @@ named name None = (Name name, refl)
 named name (Some indices) = (Element name indices, refl)
 
 -- what is due behind the symbol that begins a factor
-behind : (text : List ℕ) (due : List Part) (token : Token) (tokens : List Token) (s : Symbol) (new : List Part) → token.symbol ≡ s → row AFactor s ≡ Some new →
-    refusal (length text) (AFactor ∷ due) (token ∷ tokens) ≡ None → refusal (length text) (new ++ due) tokens ≡ None
-behind text due token tokens s new is at h = after (length text) AFactor due token tokens new (rowed AFactor token s (Some new) is at) h
+behind : (source : Source) (due : List Part) (token : Token) (tokens : List Token) (s : Symbol) (new : List Part) → token.symbol ≡ s → row AFactor s ≡ Some new →
+    refusal (length source.text) (AFactor ∷ due) (token ∷ tokens) ≡ None → refusal (length source.text) (new ++ due) tokens ≡ None
+behind source due token tokens s new is at h = after (length source.text) AFactor due token tokens new (rowed AFactor token s (Some new) is at) h
 
-factor_at : (text : List ℕ) (n : ℕ) → Below text n → (due : List Part) (token : Token) (tokens : List Token) (s : Symbol) → token.symbol ≡ s → length tokens < n →
-    refusal (length text) (AFactor ∷ due) (token ∷ tokens) ≡ None → Found FactorTree factor_marks text due (token ∷ tokens)
-factor_at text n below due token tokens (symbol.Number value) is few h = record {
+factor_at : (source : Source) (n : ℕ) → Below source n → (due : List Part) (token : Token) (tokens : List Token) (s : Symbol) → token.symbol ≡ s → length tokens < n →
+    refusal (length source.text) (AFactor ∷ due) (token ∷ tokens) ≡ None → Found FactorTree factor_marks source due (token ∷ tokens)
+factor_at source n below due token tokens (symbol.Number value) is few h = record {
   tree = Number token.start value;
   rest = tokens;
-  spelled = ap (λ m. m ∷ map (mark text) tokens) (marked text token (symbol.Number value) is);
-  goes_on = behind text due token tokens (symbol.Number value) [] is refl h;
+  spelled = ap (λ m. m ∷ map (mark source) tokens) (marked source token (symbol.Number value) is);
+  goes_on = behind source due token tokens (symbol.Number value) [] is refl h;
   shorter = omega arith;
 }
-factor_at text n below due token tokens symbol.Name is few h =
-    let found = finds_indices text due tokens (behind text due token tokens symbol.Name (FirstIndex ∷ []) is refl h) in
-    let made = named (name_at text token) found.tree in
+factor_at source n below due token tokens symbol.Name is few h =
+    let found = finds_indices source due tokens (behind source due token tokens symbol.Name (FirstIndex ∷ []) is refl h) in
+    let made = named (name_at source token) found.tree in
     record {
       tree = made.0;
       rest = found.rest;
-      spelled = ap (λ m. m ∷ map (mark text) tokens) (marked text token symbol.Name is)
-          ∙ ap (λ ms. Named token.start (part_of text token.start token.end) ∷ ms) found.spelled
-          ∙ ap (λ ms. ms ++ map (mark text) found.rest) (sym made.1);
+      spelled = ap (λ m. m ∷ map (mark source) tokens) (marked source token symbol.Name is)
+          ∙ ap (λ ms. Named token.start (number_at source token) ∷ ms) found.spelled
+          ∙ ap (λ ms. ms ++ map (mark source) found.rest) (sym made.1);
       goes_on = found.goes_on;
       shorter = let a : length found.rest < suc (length tokens) = found.within in omega arith;
     }
-factor_at text n below due token tokens symbol.Minus is few h =
-    let inner = below.factor (EndOfNegation ∷ due) tokens few (behind text due token tokens symbol.Minus (AFactor ∷ EndOfNegation ∷ []) is refl h) in
+factor_at source n below due token tokens symbol.Minus is few h =
+    let inner = below.factor (EndOfNegation ∷ due) tokens few (behind source due token tokens symbol.Minus (AFactor ∷ EndOfNegation ∷ []) is refl h) in
     record {
       tree = Negation token.start inner.tree;
       rest = inner.rest;
-      spelled = ap (λ m. m ∷ map (mark text) tokens) (marked text token symbol.Minus is) ∙ ap (λ ms. Placed token.start symbol.Minus ∷ ms) inner.spelled;
-      goes_on = sym (refusal-negation (length text) due inner.rest) ∙ inner.goes_on;
+      spelled = ap (λ m. m ∷ map (mark source) tokens) (marked source token symbol.Minus is) ∙ ap (λ ms. Placed token.start symbol.Minus ∷ ms) inner.spelled;
+      goes_on = sym (refusal-negation (length source.text) due inner.rest) ∙ inner.goes_on;
       shorter = let a : length inner.rest < length tokens = inner.shorter in omega arith;
     }
-factor_at text n below due token tokens symbol.OpenRound is few h =
-    let inner = ended text n below symbol.CloseRound (λ at word. refl) due tokens few (behind text due token tokens symbol.OpenRound (AnExpression ∷ The symbol.CloseRound ∷ []) is refl h) in
+factor_at source n below due token tokens symbol.OpenRound is few h =
+    let inner = ended source n below symbol.CloseRound (λ at word. refl) due tokens few (behind source due token tokens symbol.OpenRound (AnExpression ∷ The symbol.CloseRound ∷ []) is refl h) in
     record {
       tree = Parenthesized token.start inner.tree;
       rest = inner.rest;
-      spelled = ap (λ m. m ∷ map (mark text) tokens) (marked text token symbol.OpenRound is) ∙ ap (λ ms. Placed token.start symbol.OpenRound ∷ ms) inner.spelled;
+      spelled = ap (λ m. m ∷ map (mark source) tokens) (marked source token symbol.OpenRound is) ∙ ap (λ ms. Placed token.start symbol.OpenRound ∷ ms) inner.spelled;
       goes_on = inner.goes_on;
       shorter = let a : length inner.rest < length tokens = inner.shorter in omega arith;
     }
-factor_at text n below due token tokens symbol.Sum is few h =
-    single text n below SumWord due token tokens (marked text token symbol.Sum is) few (behind text due token tokens symbol.Sum (OneArgument ∷ []) is refl h)
-factor_at text n below due token tokens symbol.Transpose is few h =
-    single text n below Transpose due token tokens (marked text token symbol.Transpose is) few (behind text due token tokens symbol.Transpose (OneArgument ∷ []) is refl h)
-factor_at text n below due token tokens symbol.Scale is few h =
-    pair text n below Scale due token tokens (marked text token symbol.Scale is) few (behind text due token tokens symbol.Scale (TwoArguments ∷ []) is refl h)
-factor_at text n below due token tokens symbol.Dot is few h =
-    pair text n below Dot due token tokens (marked text token symbol.Dot is) few (behind text due token tokens symbol.Dot (TwoArguments ∷ []) is refl h)
-factor_at text n below due token tokens symbol.MatMul is few h =
-    pair text n below MatMul due token tokens (marked text token symbol.MatMul is) few (behind text due token tokens symbol.MatMul (TwoArguments ∷ []) is refl h)
-factor_at text n below due token tokens s is few h = absurd (no_row (length text) AFactor due token tokens (rowed AFactor token s None is refl) refl h)
+factor_at source n below due token tokens symbol.Sum is few h =
+    single source n below SumWord due token tokens (marked source token symbol.Sum is) few (behind source due token tokens symbol.Sum (OneArgument ∷ []) is refl h)
+factor_at source n below due token tokens symbol.Transpose is few h =
+    single source n below Transpose due token tokens (marked source token symbol.Transpose is) few (behind source due token tokens symbol.Transpose (OneArgument ∷ []) is refl h)
+factor_at source n below due token tokens symbol.Scale is few h =
+    pair source n below Scale due token tokens (marked source token symbol.Scale is) few (behind source due token tokens symbol.Scale (TwoArguments ∷ []) is refl h)
+factor_at source n below due token tokens symbol.Dot is few h =
+    pair source n below Dot due token tokens (marked source token symbol.Dot is) few (behind source due token tokens symbol.Dot (TwoArguments ∷ []) is refl h)
+factor_at source n below due token tokens symbol.MatMul is few h =
+    pair source n below MatMul due token tokens (marked source token symbol.MatMul is) few (behind source due token tokens symbol.MatMul (TwoArguments ∷ []) is refl h)
+factor_at source n below due token tokens s is few h = absurd (no_row (length source.text) AFactor due token tokens (rowed AFactor token s None is refl) refl h)
 
-factor : (text : List ℕ) (n : ℕ) → Below text n → Finds FactorTree factor_marks AFactor text (suc n)
-factor text n below due [] few h = absurd (none_left (length text) AFactor due refl h)
-factor text n below due (token ∷ tokens) few h = factor_at text n below due token tokens token.symbol refl (omega arith) h
+factor : (source : Source) (n : ℕ) → Below source n → Finds FactorTree factor_marks AFactor source (suc n)
+factor source n below due [] few h = absurd (none_left (length source.text) AFactor due refl h)
+factor source n below due (token ∷ tokens) few h = factor_at source n below due token tokens token.symbol refl (omega arith) h
 
-times_at : (text : List ℕ) (n : ℕ) → Below text n → (due : List Part) (token : Token) (tokens : List Token) (s : Symbol) → token.symbol ≡ s → length tokens < n →
-    refusal (length text) (MoreFactors ∷ due) (token ∷ tokens) ≡ None → FoundUpTo TimesTree times_marks text due (token ∷ tokens)
-times_at text n below due token tokens symbol.Star is few h =
+times_at : (source : Source) (n : ℕ) → Below source n → (due : List Part) (token : Token) (tokens : List Token) (s : Symbol) → token.symbol ≡ s → length tokens < n →
+    refusal (length source.text) (MoreFactors ∷ due) (token ∷ tokens) ≡ None → FoundUpTo TimesTree times_marks source due (token ∷ tokens)
+times_at source n below due token tokens symbol.Star is few h =
     let new : List Part = AFactor ∷ MoreFactors ∷ [] in
-    let first = below.factor (MoreFactors ∷ due) tokens few (after (length text) MoreFactors due token tokens new (rowed MoreFactors token symbol.Star (Some new) is refl) h) in
+    let first = below.factor (MoreFactors ∷ due) tokens few (after (length source.text) MoreFactors due token tokens new (rowed MoreFactors token symbol.Star (Some new) is refl) h) in
     let a : length first.rest < length tokens = first.shorter in
     let more = below.times due first.rest (omega arith) first.goes_on in
     let b : length more.rest < suc (length first.rest) = more.within in
     record {
       tree = Times token.start first.tree more.tree;
       rest = more.rest;
-      spelled = ap (λ m. m ∷ map (mark text) tokens) (marked text token symbol.Star is)
-          ∙ ap (λ ms. Placed token.start symbol.Star ∷ ms) (first.spelled ∙ ap (λ ms. factor_marks first.tree ++ ms) more.spelled ∙ sym (append_assoc (factor_marks first.tree) (times_marks more.tree) (map (mark text) more.rest)));
+      spelled = ap (λ m. m ∷ map (mark source) tokens) (marked source token symbol.Star is)
+          ∙ ap (λ ms. Placed token.start symbol.Star ∷ ms) (first.spelled ∙ ap (λ ms. factor_marks first.tree ++ ms) more.spelled ∙ sym (append_assoc (factor_marks first.tree) (times_marks more.tree) (map (mark source) more.rest)));
       goes_on = more.goes_on;
       within = omega arith;
     }
-times_at text n below due token tokens s is few h = record {
+times_at source n below due token tokens s is few h = record {
   tree = NoFactor;
   rest = token ∷ tokens;
   spelled = refl;
-  goes_on = sym (skipped (length text) MoreFactors due token tokens (rowed MoreFactors token s None is refl) refl) ∙ h;
+  goes_on = sym (skipped (length source.text) MoreFactors due token tokens (rowed MoreFactors token s None is refl) refl) ∙ h;
   within = omega arith;
 }
 
-times : (text : List ℕ) (n : ℕ) → Below text n → FindsUpTo TimesTree times_marks MoreFactors text (suc n)
-times text n below due [] few h = record { tree = NoFactor; rest = []; spelled = refl; goes_on = h; within = omega arith }
-times text n below due (token ∷ tokens) few h = times_at text n below due token tokens token.symbol refl (omega arith) h
+times : (source : Source) (n : ℕ) → Below source n → FindsUpTo TimesTree times_marks MoreFactors source (suc n)
+times source n below due [] few h = record { tree = NoFactor; rest = []; spelled = refl; goes_on = h; within = omega arith }
+times source n below due (token ∷ tokens) few h = times_at source n below due token tokens token.symbol refl (omega arith) h
 
-term : (text : List ℕ) (n : ℕ) → Below text n → Finds TermTree term_marks ATerm text (suc n)
-term text n below due tokens few h =
-    let first = factor text n below (MoreFactors ∷ due) tokens few (sym (refusal-term (length text) due tokens) ∙ h) in
+term : (source : Source) (n : ℕ) → Below source n → Finds TermTree term_marks ATerm source (suc n)
+term source n below due tokens few h =
+    let first = factor source n below (MoreFactors ∷ due) tokens few (sym (refusal-term (length source.text) due tokens) ∙ h) in
     let a : length first.rest < length tokens = first.shorter in
     let more = below.times due first.rest (omega arith) first.goes_on in
     let b : length more.rest < suc (length first.rest) = more.within in
     record {
       tree = TermOf first.tree more.tree;
       rest = more.rest;
-      spelled = first.spelled ∙ ap (λ ms. factor_marks first.tree ++ ms) more.spelled ∙ sym (append_assoc (factor_marks first.tree) (times_marks more.tree) (map (mark text) more.rest));
+      spelled = first.spelled ∙ ap (λ ms. factor_marks first.tree ++ ms) more.spelled ∙ sym (append_assoc (factor_marks first.tree) (times_marks more.tree) (map (mark source) more.rest));
       goes_on = more.goes_on;
       shorter = omega arith;
     }
 
-term_behind : (text : List ℕ) (n : ℕ) → Below text n → (due : List Part) (token : Token) (tokens : List Token) (sign : Sign) →
-    mark text token ≡ Placed token.start (sign_symbol sign) → length tokens < n →
-    refusal (length text) (ATerm ∷ (MoreTerms ∷ due)) tokens ≡ None → FoundUpTo AddedTree added_marks text due (token ∷ tokens)
-term_behind text n below due token tokens sign placed few h =
+term_behind : (source : Source) (n : ℕ) → Below source n → (due : List Part) (token : Token) (tokens : List Token) (sign : Sign) →
+    mark source token ≡ Placed token.start (sign_symbol sign) → length tokens < n →
+    refusal (length source.text) (ATerm ∷ (MoreTerms ∷ due)) tokens ≡ None → FoundUpTo AddedTree added_marks source due (token ∷ tokens)
+term_behind source n below due token tokens sign placed few h =
     let first = below.term (MoreTerms ∷ due) tokens few h in
     let a : length first.rest < length tokens = first.shorter in
     let more = below.added due first.rest (omega arith) first.goes_on in
@@ -313,63 +313,63 @@ term_behind text n below due token tokens sign placed few h =
     record {
       tree = Added sign token.start first.tree more.tree;
       rest = more.rest;
-      spelled = ap (λ m. m ∷ map (mark text) tokens) placed
-          ∙ ap (λ ms. Placed token.start (sign_symbol sign) ∷ ms) (first.spelled ∙ ap (λ ms. term_marks first.tree ++ ms) more.spelled ∙ sym (append_assoc (term_marks first.tree) (added_marks more.tree) (map (mark text) more.rest)));
+      spelled = ap (λ m. m ∷ map (mark source) tokens) placed
+          ∙ ap (λ ms. Placed token.start (sign_symbol sign) ∷ ms) (first.spelled ∙ ap (λ ms. term_marks first.tree ++ ms) more.spelled ∙ sym (append_assoc (term_marks first.tree) (added_marks more.tree) (map (mark source) more.rest)));
       goes_on = more.goes_on;
       within = omega arith;
     }
 
-added_at : (text : List ℕ) (n : ℕ) → Below text n → (due : List Part) (token : Token) (tokens : List Token) (s : Symbol) → token.symbol ≡ s → length tokens < n →
-    refusal (length text) (MoreTerms ∷ due) (token ∷ tokens) ≡ None → FoundUpTo AddedTree added_marks text due (token ∷ tokens)
-added_at text n below due token tokens symbol.Plus is few h =
+added_at : (source : Source) (n : ℕ) → Below source n → (due : List Part) (token : Token) (tokens : List Token) (s : Symbol) → token.symbol ≡ s → length tokens < n →
+    refusal (length source.text) (MoreTerms ∷ due) (token ∷ tokens) ≡ None → FoundUpTo AddedTree added_marks source due (token ∷ tokens)
+added_at source n below due token tokens symbol.Plus is few h =
     let new : List Part = ATerm ∷ MoreTerms ∷ [] in
-    term_behind text n below due token tokens PlusSign (marked text token symbol.Plus is) few (after (length text) MoreTerms due token tokens new (rowed MoreTerms token symbol.Plus (Some new) is refl) h)
-added_at text n below due token tokens symbol.Minus is few h =
+    term_behind source n below due token tokens PlusSign (marked source token symbol.Plus is) few (after (length source.text) MoreTerms due token tokens new (rowed MoreTerms token symbol.Plus (Some new) is refl) h)
+added_at source n below due token tokens symbol.Minus is few h =
     let new : List Part = ATerm ∷ MoreTerms ∷ [] in
-    term_behind text n below due token tokens MinusSign (marked text token symbol.Minus is) few (after (length text) MoreTerms due token tokens new (rowed MoreTerms token symbol.Minus (Some new) is refl) h)
-added_at text n below due token tokens s is few h = record {
+    term_behind source n below due token tokens MinusSign (marked source token symbol.Minus is) few (after (length source.text) MoreTerms due token tokens new (rowed MoreTerms token symbol.Minus (Some new) is refl) h)
+added_at source n below due token tokens s is few h = record {
   tree = NoTerm;
   rest = token ∷ tokens;
   spelled = refl;
-  goes_on = sym (skipped (length text) MoreTerms due token tokens (rowed MoreTerms token s None is refl) refl) ∙ h;
+  goes_on = sym (skipped (length source.text) MoreTerms due token tokens (rowed MoreTerms token s None is refl) refl) ∙ h;
   within = omega arith;
 }
 
-added : (text : List ℕ) (n : ℕ) → Below text n → FindsUpTo AddedTree added_marks MoreTerms text (suc n)
-added text n below due [] few h = record { tree = NoTerm; rest = []; spelled = refl; goes_on = h; within = omega arith }
-added text n below due (token ∷ tokens) few h = added_at text n below due token tokens token.symbol refl (omega arith) h
+added : (source : Source) (n : ℕ) → Below source n → FindsUpTo AddedTree added_marks MoreTerms source (suc n)
+added source n below due [] few h = record { tree = NoTerm; rest = []; spelled = refl; goes_on = h; within = omega arith }
+added source n below due (token ∷ tokens) few h = added_at source n below due token tokens token.symbol refl (omega arith) h
 
-expression : (text : List ℕ) (n : ℕ) → Below text n → Finds ExpressionTree expression_marks AnExpression text (suc n)
-expression text n below due tokens few h =
-    let first = term text n below (MoreTerms ∷ due) tokens few (sym (refusal-expression (length text) due tokens) ∙ h) in
+expression : (source : Source) (n : ℕ) → Below source n → Finds ExpressionTree expression_marks AnExpression source (suc n)
+expression source n below due tokens few h =
+    let first = term source n below (MoreTerms ∷ due) tokens few (sym (refusal-expression (length source.text) due tokens) ∙ h) in
     let a : length first.rest < length tokens = first.shorter in
     let more = below.added due first.rest (omega arith) first.goes_on in
     let b : length more.rest < suc (length first.rest) = more.within in
     record {
       tree = ExpressionOf first.tree more.tree;
       rest = more.rest;
-      spelled = first.spelled ∙ ap (λ ms. term_marks first.tree ++ ms) more.spelled ∙ sym (append_assoc (term_marks first.tree) (added_marks more.tree) (map (mark text) more.rest));
+      spelled = first.spelled ∙ ap (λ ms. term_marks first.tree ++ ms) more.spelled ∙ sym (append_assoc (term_marks first.tree) (added_marks more.tree) (map (mark source) more.rest));
       goes_on = more.goes_on;
       shorter = omega arith;
     }
 
-found_below : (text : List ℕ) (n : ℕ) → Below text n
-found_below text zero = record {
+found_below : (source : Source) (n : ℕ) → Below source n
+found_below source zero = record {
   factor = λ due tokens few h. absurd (omega arith);
   times = λ due tokens few h. absurd (omega arith);
   term = λ due tokens few h. absurd (omega arith);
   added = λ due tokens few h. absurd (omega arith);
   expression = λ due tokens few h. absurd (omega arith);
 }
-found_below text (suc n) = let below = found_below text n in record {
-  factor = factor text n below;
-  times = times text n below;
-  term = term text n below;
-  added = added text n below;
-  expression = expression text n below;
+found_below source (suc n) = let below = found_below source n in record {
+  factor = factor source n below;
+  times = times source n below;
+  term = term source n below;
+  added = added source n below;
+  expression = expression source n below;
 }
 
 -- an expression up to its semicolon
-pub finds_ended : (text : List ℕ) (due : List Part) (tokens : List Token) → refusal (length text) (AnExpression ∷ The symbol.Semicolon ∷ due) tokens ≡ None →
-    Found ExpressionTree (λ e. expression_marks e ++ Separator symbol.Semicolon ∷ []) text due tokens
-finds_ended text due tokens h = ended text (suc (length tokens)) (found_below text (suc (length tokens))) symbol.Semicolon (λ at word. refl) due tokens (omega arith) h
+pub finds_ended : (source : Source) (due : List Part) (tokens : List Token) → refusal (length source.text) (AnExpression ∷ The symbol.Semicolon ∷ due) tokens ≡ None →
+    Found ExpressionTree (λ e. expression_marks e ++ Separator symbol.Semicolon ∷ []) source due tokens
+finds_ended source due tokens h = ended source (suc (length tokens)) (found_below source (suc (length tokens))) symbol.Semicolon (λ at word. refl) due tokens (omega arith) h

@@ -10,7 +10,8 @@ use Rattle.arr_ast.specs.ProgramTree.{StatementTree, Let, Set, SetElement, For, 
 use Rattle.arr_lex.specs.declared.token.Symbol.{Symbol}
 use Rattle.arr_lex.specs.declared.token.Symbol.TheVariants as symbol
 use Rattle.arr_lex.specs.declared.token.Token.{Token}
-use Rattle.arr_parse.specs.Mark.{Mark, Separator, Placed, Named, mark, mark_of, part_of}
+use Rattle.arr_parse.specs.Mark.{Mark, Separator, Placed, Named, mark, mark_of, number_at, Source}
+use Rattle.arr_parse.specs.Names.{source_of}
 use Rattle.arr_parse.specs.Grammar.{Part, The, Inputs, FirstDimension, SecondDimension, TopStatements, Statements, AStatement, Block, AnExpression, FirstIndex, AnIndex, AName, ANumber, row}
 use Rattle.arr_parse.specs.Reading.{due_after, unless_refused, refusal}
 use Rattle.arr_parse.specs.Parsed.{IsTreeOf}
@@ -21,29 +22,29 @@ use Rattle.arr_parse.proofs.Finding.{Found, Finds, FoundUpTo, FindsUpTo, after, 
 use Rattle.arr_parse.proofs.FindsIndex.{finds_index}
 use Rattle.arr_parse.proofs.FindsExpression.{name_at, maybe_indices_marks, finds_indices, finds_ended}
 
-name_of : (text : List ℕ) (due : List Part) (token : Token) (tokens : List Token) (s : Symbol) → token.symbol ≡ s →
-    refusal (length text) (AName ∷ due) (token ∷ tokens) ≡ None → Found NameTree name_marks text due (token ∷ tokens)
-name_of text due token tokens symbol.Name is h = record {
-  tree = name_at text token;
+name_of : (source : Source) (due : List Part) (token : Token) (tokens : List Token) (s : Symbol) → token.symbol ≡ s →
+    refusal (length source.text) (AName ∷ due) (token ∷ tokens) ≡ None → Found NameTree name_marks source due (token ∷ tokens)
+name_of source due token tokens symbol.Name is h = record {
+  tree = name_at source token;
   rest = tokens;
-  spelled = ap (λ m. m ∷ map (mark text) tokens) (marked text token symbol.Name is);
-  goes_on = after (length text) AName due token tokens [] (rowed AName token symbol.Name (Some []) is refl) h;
+  spelled = ap (λ m. m ∷ map (mark source) tokens) (marked source token symbol.Name is);
+  goes_on = after (length source.text) AName due token tokens [] (rowed AName token symbol.Name (Some []) is refl) h;
   shorter = omega arith;
 }
-name_of text due token tokens s is h = absurd (no_row (length text) AName due token tokens (rowed AName token s None is refl) refl h)
+name_of source due token tokens s is h = absurd (no_row (length source.text) AName due token tokens (rowed AName token s None is refl) refl h)
 
-finds_name : (text : List ℕ) (due : List Part) (tokens : List Token) → refusal (length text) (AName ∷ due) tokens ≡ None → Found NameTree name_marks text due tokens
-finds_name text due [] h = absurd (none_left (length text) AName due refl h)
-finds_name text due (token ∷ tokens) h = name_of text due token tokens token.symbol refl h
+finds_name : (source : Source) (due : List Part) (tokens : List Token) → refusal (length source.text) (AName ∷ due) tokens ≡ None → Found NameTree name_marks source due tokens
+finds_name source due [] h = absurd (none_left (length source.text) AName due refl h)
+finds_name source due (token ∷ tokens) h = name_of source due token tokens token.symbol refl h
 
 -- `= e ;`
 abbrev value_marks : ExpressionTree → List Mark
 value_marks value = Separator symbol.Equals ∷ (expression_marks value ++ Separator symbol.Semicolon ∷ [])
 
-finds_value : (text : List ℕ) (due : List Part) (tokens : List Token) → refusal (length text) (The symbol.Equals ∷ AnExpression ∷ The symbol.Semicolon ∷ due) tokens ≡ None → Found ExpressionTree value_marks text due tokens
-finds_value text due tokens h =
-    let equals = separator symbol.Equals text (AnExpression ∷ The symbol.Semicolon ∷ due) tokens (λ at word. refl) h in
-    let value = finds_ended text due equals.rest equals.goes_on in
+finds_value : (source : Source) (due : List Part) (tokens : List Token) → refusal (length source.text) (The symbol.Equals ∷ AnExpression ∷ The symbol.Semicolon ∷ due) tokens ≡ None → Found ExpressionTree value_marks source due tokens
+finds_value source due tokens h =
+    let equals = separator symbol.Equals source (AnExpression ∷ The symbol.Semicolon ∷ due) tokens (λ at word. refl) h in
+    let value = finds_ended source due equals.rest equals.goes_on in
     let a : length equals.rest < length tokens = equals.shorter in
     let b : length value.rest < length equals.rest = value.shorter in
     record {
@@ -55,49 +56,49 @@ finds_value text due tokens h =
     }
 
 -- an index expression up to a separator
-index_ended : (text : List ℕ) (s : Symbol) → ((at : ℕ) (word : List ℕ) → mark_of s at word ≡ Separator s) → (due : List Part) (tokens : List Token) →
-    refusal (length text) (AnIndex ∷ The s ∷ due) tokens ≡ None → Found Sum (λ e. sum_marks e ++ Separator s ∷ []) text due tokens
-index_ended text s separates due tokens h =
-    let inner = finds_index text (The s ∷ due) tokens h in
-    let shut = separator s text due inner.rest separates inner.goes_on in
+index_ended : (source : Source) (s : Symbol) → ((at word : ℕ) → mark_of s at word ≡ Separator s) → (due : List Part) (tokens : List Token) →
+    refusal (length source.text) (AnIndex ∷ The s ∷ due) tokens ≡ None → Found Sum (λ e. sum_marks e ++ Separator s ∷ []) source due tokens
+index_ended source s separates due tokens h =
+    let inner = finds_index source (The s ∷ due) tokens h in
+    let shut = separator s source due inner.rest separates inner.goes_on in
     let a : length inner.rest < length tokens = inner.shorter in
     let b : length shut.rest < length inner.rest = shut.shorter in
     record {
       tree = inner.tree;
       rest = shut.rest;
-      spelled = inner.spelled ∙ ap (λ ms. sum_marks inner.tree ++ ms) shut.spelled ∙ sym (append_assoc (sum_marks inner.tree) (Separator s ∷ []) (map (mark text) shut.rest));
+      spelled = inner.spelled ∙ ap (λ ms. sum_marks inner.tree ++ ms) shut.spelled ∙ sym (append_assoc (sum_marks inner.tree) (Separator s ∷ []) (map (mark source) shut.rest));
       goes_on = shut.goes_on;
       shorter = omega arith;
     }
 
-record Below (text : List ℕ) (n : ℕ) : Type 0 where
-  statement : Finds StatementTree statement_marks AStatement text n
-  statements : FindsUpTo BlockTree block_marks Statements text n
+record Below (source : Source) (n : ℕ) : Type 0 where
+  statement : Finds StatementTree statement_marks AStatement source n
+  statements : FindsUpTo BlockTree block_marks Statements source n
 
 -- what stands behind the bracket that opens a block
-block_at : (text : List ℕ) (n : ℕ) → Below text n → (due : List Part) (token : Token) (tokens : List Token) (s : Symbol) → token.symbol ≡ s → length tokens < n →
-    refusal (length text) (Block ∷ due) (token ∷ tokens) ≡ None →
-    Found BlockTree (λ b. Separator symbol.OpenCurly ∷ (block_marks b ++ Separator symbol.CloseCurly ∷ [])) text due (token ∷ tokens)
-block_at text n below due token tokens symbol.OpenCurly is few h =
+block_at : (source : Source) (n : ℕ) → Below source n → (due : List Part) (token : Token) (tokens : List Token) (s : Symbol) → token.symbol ≡ s → length tokens < n →
+    refusal (length source.text) (Block ∷ due) (token ∷ tokens) ≡ None →
+    Found BlockTree (λ b. Separator symbol.OpenCurly ∷ (block_marks b ++ Separator symbol.CloseCurly ∷ [])) source due (token ∷ tokens)
+block_at source n below due token tokens symbol.OpenCurly is few h =
     let new : List Part = Statements ∷ The symbol.CloseCurly ∷ [] in
-    let inner = below.statements (The symbol.CloseCurly ∷ due) tokens few (after (length text) Block due token tokens new (rowed Block token symbol.OpenCurly (Some new) is refl) h) in
-    let shut = separator symbol.CloseCurly text due inner.rest (λ at word. refl) inner.goes_on in
+    let inner = below.statements (The symbol.CloseCurly ∷ due) tokens few (after (length source.text) Block due token tokens new (rowed Block token symbol.OpenCurly (Some new) is refl) h) in
+    let shut = separator symbol.CloseCurly source due inner.rest (λ at word. refl) inner.goes_on in
     let a : length inner.rest < suc (length tokens) = inner.within in
     let b : length shut.rest < length inner.rest = shut.shorter in
     record {
       tree = inner.tree;
       rest = shut.rest;
-      spelled = ap (λ m. m ∷ map (mark text) tokens) (marked text token symbol.OpenCurly is)
-          ∙ ap (λ ms. Separator symbol.OpenCurly ∷ ms) (inner.spelled ∙ ap (λ ms. block_marks inner.tree ++ ms) shut.spelled ∙ sym (append_assoc (block_marks inner.tree) (Separator symbol.CloseCurly ∷ []) (map (mark text) shut.rest)));
+      spelled = ap (λ m. m ∷ map (mark source) tokens) (marked source token symbol.OpenCurly is)
+          ∙ ap (λ ms. Separator symbol.OpenCurly ∷ ms) (inner.spelled ∙ ap (λ ms. block_marks inner.tree ++ ms) shut.spelled ∙ sym (append_assoc (block_marks inner.tree) (Separator symbol.CloseCurly ∷ []) (map (mark source) shut.rest)));
       goes_on = shut.goes_on;
       shorter = omega arith;
     }
-block_at text n below due token tokens s is few h = absurd (no_row (length text) Block due token tokens (rowed Block token s None is refl) refl h)
+block_at source n below due token tokens s is few h = absurd (no_row (length source.text) Block due token tokens (rowed Block token s None is refl) refl h)
 
-block : (text : List ℕ) (n : ℕ) → Below text n → (due : List Part) (tokens : List Token) → length tokens < n →
-    refusal (length text) (Block ∷ due) tokens ≡ None → Found BlockTree (λ b. Separator symbol.OpenCurly ∷ (block_marks b ++ Separator symbol.CloseCurly ∷ [])) text due tokens
-block text n below due [] few h = absurd (none_left (length text) Block due refl h)
-block text n below due (token ∷ tokens) few h = block_at text n below due token tokens token.symbol refl (omega arith) h
+block : (source : Source) (n : ℕ) → Below source n → (due : List Part) (tokens : List Token) → length tokens < n →
+    refusal (length source.text) (Block ∷ due) tokens ≡ None → Found BlockTree (λ b. Separator symbol.OpenCurly ∷ (block_marks b ++ Separator symbol.CloseCurly ∷ [])) source due tokens
+block source n below due [] few h = absurd (none_left (length source.text) Block due refl h)
+block source n below due (token ∷ tokens) few h = block_at source n below due token tokens token.symbol refl (omega arith) h
 
 -- an assignment behind its name
 set_behind : (name : NameTree) (indices : Option IndicesTree) (value : ExpressionTree) →
@@ -105,167 +106,167 @@ set_behind : (name : NameTree) (indices : Option IndicesTree) (value : Expressio
 set_behind name None value = (Set name value, refl)
 set_behind name (Some indices) value = (SetElement name indices value, refl)
 
-let_at : (text : List ℕ) (due : List Part) (token : Token) (tokens : List Token) → token.symbol ≡ symbol.Let →
-    refusal (length text) (AName ∷ The symbol.Equals ∷ AnExpression ∷ The symbol.Semicolon ∷ due) tokens ≡ None → Found StatementTree statement_marks text due (token ∷ tokens)
-let_at text due token tokens is h =
-    let name = finds_name text (The symbol.Equals ∷ AnExpression ∷ The symbol.Semicolon ∷ due) tokens h in
-    let value = finds_value text due name.rest name.goes_on in
+let_at : (source : Source) (due : List Part) (token : Token) (tokens : List Token) → token.symbol ≡ symbol.Let →
+    refusal (length source.text) (AName ∷ The symbol.Equals ∷ AnExpression ∷ The symbol.Semicolon ∷ due) tokens ≡ None → Found StatementTree statement_marks source due (token ∷ tokens)
+let_at source due token tokens is h =
+    let name = finds_name source (The symbol.Equals ∷ AnExpression ∷ The symbol.Semicolon ∷ due) tokens h in
+    let value = finds_value source due name.rest name.goes_on in
     let a : length name.rest < length tokens = name.shorter in
     let b : length value.rest < length name.rest = value.shorter in
     record {
       tree = Let token.start name.tree value.tree;
       rest = value.rest;
-      spelled = ap (λ m. m ∷ map (mark text) tokens) (marked text token symbol.Let is)
+      spelled = ap (λ m. m ∷ map (mark source) tokens) (marked source token symbol.Let is)
           ∙ ap (λ ms. Placed token.start symbol.Let ∷ ms) (name.spelled ∙ ap (λ ms. name_marks name.tree ++ ms) value.spelled);
       goes_on = value.goes_on;
       shorter = omega arith;
     }
 
-set_at : (text : List ℕ) (due : List Part) (token : Token) (tokens : List Token) → token.symbol ≡ symbol.Name →
-    refusal (length text) (FirstIndex ∷ The symbol.Equals ∷ AnExpression ∷ The symbol.Semicolon ∷ due) tokens ≡ None → Found StatementTree statement_marks text due (token ∷ tokens)
-set_at text due token tokens is h =
-    let indices = finds_indices text (The symbol.Equals ∷ AnExpression ∷ The symbol.Semicolon ∷ due) tokens h in
-    let value = finds_value text due indices.rest indices.goes_on in
+set_at : (source : Source) (due : List Part) (token : Token) (tokens : List Token) → token.symbol ≡ symbol.Name →
+    refusal (length source.text) (FirstIndex ∷ The symbol.Equals ∷ AnExpression ∷ The symbol.Semicolon ∷ due) tokens ≡ None → Found StatementTree statement_marks source due (token ∷ tokens)
+set_at source due token tokens is h =
+    let indices = finds_indices source (The symbol.Equals ∷ AnExpression ∷ The symbol.Semicolon ∷ due) tokens h in
+    let value = finds_value source due indices.rest indices.goes_on in
     let a : length indices.rest < suc (length tokens) = indices.within in
     let b : length value.rest < length indices.rest = value.shorter in
-    let made = set_behind (name_at text token) indices.tree value.tree in
+    let made = set_behind (name_at source token) indices.tree value.tree in
     record {
       tree = made.0;
       rest = value.rest;
-      spelled = ap (λ m. m ∷ map (mark text) tokens) (marked text token symbol.Name is)
-          ∙ ap (λ ms. Named token.start (part_of text token.start token.end) ∷ ms)
-          (indices.spelled ∙ ap (λ ms. maybe_indices_marks indices.tree ++ ms) value.spelled ∙ sym (append_assoc (maybe_indices_marks indices.tree) (value_marks value.tree) (map (mark text) value.rest)))
-          ∙ ap (λ ms. ms ++ map (mark text) value.rest) (sym made.1);
+      spelled = ap (λ m. m ∷ map (mark source) tokens) (marked source token symbol.Name is)
+          ∙ ap (λ ms. Named token.start (number_at source token) ∷ ms)
+          (indices.spelled ∙ ap (λ ms. maybe_indices_marks indices.tree ++ ms) value.spelled ∙ sym (append_assoc (maybe_indices_marks indices.tree) (value_marks value.tree) (map (mark source) value.rest)))
+          ∙ ap (λ ms. ms ++ map (mark source) value.rest) (sym made.1);
       goes_on = value.goes_on;
       shorter = omega arith;
     }
 
-for_at : (text : List ℕ) (n : ℕ) → Below text n → (due : List Part) (token : Token) (tokens : List Token) → token.symbol ≡ symbol.For → length tokens < n →
-    refusal (length text) (AName ∷ The symbol.In ∷ AnIndex ∷ The symbol.Range ∷ AnIndex ∷ Block ∷ due) tokens ≡ None → Found StatementTree statement_marks text due (token ∷ tokens)
-for_at text n below due token tokens is few h =
-    let name = finds_name text (The symbol.In ∷ AnIndex ∷ The symbol.Range ∷ AnIndex ∷ Block ∷ due) tokens h in
+for_at : (source : Source) (n : ℕ) → Below source n → (due : List Part) (token : Token) (tokens : List Token) → token.symbol ≡ symbol.For → length tokens < n →
+    refusal (length source.text) (AName ∷ The symbol.In ∷ AnIndex ∷ The symbol.Range ∷ AnIndex ∷ Block ∷ due) tokens ≡ None → Found StatementTree statement_marks source due (token ∷ tokens)
+for_at source n below due token tokens is few h =
+    let name = finds_name source (The symbol.In ∷ AnIndex ∷ The symbol.Range ∷ AnIndex ∷ Block ∷ due) tokens h in
     let a : length name.rest < length tokens = name.shorter in
-    let word = separator symbol.In text (AnIndex ∷ The symbol.Range ∷ AnIndex ∷ Block ∷ due) name.rest (λ at w. refl) name.goes_on in
+    let word = separator symbol.In source (AnIndex ∷ The symbol.Range ∷ AnIndex ∷ Block ∷ due) name.rest (λ at w. refl) name.goes_on in
     let b : length word.rest < length name.rest = word.shorter in
-    let low = index_ended text symbol.Range (λ at w. refl) (AnIndex ∷ Block ∷ due) word.rest word.goes_on in
+    let low = index_ended source symbol.Range (λ at w. refl) (AnIndex ∷ Block ∷ due) word.rest word.goes_on in
     let c : length low.rest < length word.rest = low.shorter in
-    let high = finds_index text (Block ∷ due) low.rest low.goes_on in
+    let high = finds_index source (Block ∷ due) low.rest low.goes_on in
     let d : length high.rest < length low.rest = high.shorter in
-    let body = block text n below due high.rest (omega arith) high.goes_on in
+    let body = block source n below due high.rest (omega arith) high.goes_on in
     let e : length body.rest < length high.rest = body.shorter in
-    let rest : List Mark = map (mark text) body.rest in
+    let rest : List Mark = map (mark source) body.rest in
     let inside : List Mark = Separator symbol.OpenCurly ∷ (block_marks body.tree ++ Separator symbol.CloseCurly ∷ []) in
     let upper : List Mark = sum_marks high.tree ++ inside in
-    let spelled_upper : map (mark text) low.rest ≡ upper ++ rest =
+    let spelled_upper : map (mark source) low.rest ≡ upper ++ rest =
     high.spelled ∙ ap (λ ms. sum_marks high.tree ++ ms) body.spelled ∙ sym (append_assoc (sum_marks high.tree) inside rest) in
-    let spelled_low : map (mark text) word.rest ≡ (sum_marks low.tree ++ (Separator symbol.Range ∷ upper)) ++ rest =
+    let spelled_low : map (mark source) word.rest ≡ (sum_marks low.tree ++ (Separator symbol.Range ∷ upper)) ++ rest =
     low.spelled ∙ ap (λ ms. (sum_marks low.tree ++ Separator symbol.Range ∷ []) ++ ms) spelled_upper
     ∙ append_assoc (sum_marks low.tree) (Separator symbol.Range ∷ []) (upper ++ rest)
     ∙ sym (append_assoc (sum_marks low.tree) (Separator symbol.Range ∷ upper) rest) in
     record {
       tree = For token.start name.tree low.tree high.tree body.tree;
       rest = body.rest;
-      spelled = ap (λ m. m ∷ map (mark text) tokens) (marked text token symbol.For is)
+      spelled = ap (λ m. m ∷ map (mark source) tokens) (marked source token symbol.For is)
           ∙ ap (λ ms. Placed token.start symbol.For ∷ ms) (name.spelled ∙ ap (λ ms. name_marks name.tree ++ ms) (word.spelled ∙ ap (λ ms. Separator symbol.In ∷ ms) spelled_low));
       goes_on = body.goes_on;
       shorter = omega arith;
     }
 
 -- what is due behind the symbol that begins a statement
-statement_behind : (text : List ℕ) (due : List Part) (token : Token) (tokens : List Token) (s : Symbol) (new : List Part) → token.symbol ≡ s → row AStatement s ≡ Some new →
-    refusal (length text) (AStatement ∷ due) (token ∷ tokens) ≡ None → refusal (length text) (new ++ due) tokens ≡ None
-statement_behind text due token tokens s new is at h = after (length text) AStatement due token tokens new (rowed AStatement token s (Some new) is at) h
+statement_behind : (source : Source) (due : List Part) (token : Token) (tokens : List Token) (s : Symbol) (new : List Part) → token.symbol ≡ s → row AStatement s ≡ Some new →
+    refusal (length source.text) (AStatement ∷ due) (token ∷ tokens) ≡ None → refusal (length source.text) (new ++ due) tokens ≡ None
+statement_behind source due token tokens s new is at h = after (length source.text) AStatement due token tokens new (rowed AStatement token s (Some new) is at) h
 
-statement_at : (text : List ℕ) (n : ℕ) → Below text n → (due : List Part) (token : Token) (tokens : List Token) (s : Symbol) → token.symbol ≡ s → length tokens < n →
-    refusal (length text) (AStatement ∷ due) (token ∷ tokens) ≡ None → Found StatementTree statement_marks text due (token ∷ tokens)
-statement_at text n below due token tokens symbol.Let is few h =
-    let_at text due token tokens is (statement_behind text due token tokens symbol.Let (AName ∷ The symbol.Equals ∷ AnExpression ∷ The symbol.Semicolon ∷ []) is refl h)
-statement_at text n below due token tokens symbol.Name is few h =
-    set_at text due token tokens is (statement_behind text due token tokens symbol.Name (FirstIndex ∷ The symbol.Equals ∷ AnExpression ∷ The symbol.Semicolon ∷ []) is refl h)
-statement_at text n below due token tokens symbol.For is few h =
-    for_at text n below due token tokens is few (statement_behind text due token tokens symbol.For (AName ∷ The symbol.In ∷ AnIndex ∷ The symbol.Range ∷ AnIndex ∷ Block ∷ []) is refl h)
-statement_at text n below due token tokens s is few h = absurd (no_row (length text) AStatement due token tokens (rowed AStatement token s None is refl) refl h)
+statement_at : (source : Source) (n : ℕ) → Below source n → (due : List Part) (token : Token) (tokens : List Token) (s : Symbol) → token.symbol ≡ s → length tokens < n →
+    refusal (length source.text) (AStatement ∷ due) (token ∷ tokens) ≡ None → Found StatementTree statement_marks source due (token ∷ tokens)
+statement_at source n below due token tokens symbol.Let is few h =
+    let_at source due token tokens is (statement_behind source due token tokens symbol.Let (AName ∷ The symbol.Equals ∷ AnExpression ∷ The symbol.Semicolon ∷ []) is refl h)
+statement_at source n below due token tokens symbol.Name is few h =
+    set_at source due token tokens is (statement_behind source due token tokens symbol.Name (FirstIndex ∷ The symbol.Equals ∷ AnExpression ∷ The symbol.Semicolon ∷ []) is refl h)
+statement_at source n below due token tokens symbol.For is few h =
+    for_at source n below due token tokens is few (statement_behind source due token tokens symbol.For (AName ∷ The symbol.In ∷ AnIndex ∷ The symbol.Range ∷ AnIndex ∷ Block ∷ []) is refl h)
+statement_at source n below due token tokens s is few h = absurd (no_row (length source.text) AStatement due token tokens (rowed AStatement token s None is refl) refl h)
 
-statement : (text : List ℕ) (n : ℕ) → Below text n → Finds StatementTree statement_marks AStatement text (suc n)
-statement text n below due [] few h = absurd (none_left (length text) AStatement due refl h)
-statement text n below due (token ∷ tokens) few h = statement_at text n below due token tokens token.symbol refl (omega arith) h
+statement : (source : Source) (n : ℕ) → Below source n → Finds StatementTree statement_marks AStatement source (suc n)
+statement source n below due [] few h = absurd (none_left (length source.text) AStatement due refl h)
+statement source n below due (token ∷ tokens) few h = statement_at source n below due token tokens token.symbol refl (omega arith) h
 
 -- a statement, and those behind it in its block
-then_more : (text : List ℕ) (n : ℕ) → Below text n → (due : List Part) (token : Token) (tokens : List Token) → length tokens < n →
-    Found StatementTree statement_marks text (Statements ∷ due) (token ∷ tokens) → FoundUpTo BlockTree block_marks text due (token ∷ tokens)
-then_more text n below due token tokens few first =
+then_more : (source : Source) (n : ℕ) → Below source n → (due : List Part) (token : Token) (tokens : List Token) → length tokens < n →
+    Found StatementTree statement_marks source (Statements ∷ due) (token ∷ tokens) → FoundUpTo BlockTree block_marks source due (token ∷ tokens)
+then_more source n below due token tokens few first =
     let a : length first.rest < suc (length tokens) = first.shorter in
     let more = below.statements due first.rest (omega arith) first.goes_on in
     let b : length more.rest < suc (length first.rest) = more.within in
     record {
       tree = Then first.tree more.tree;
       rest = more.rest;
-      spelled = first.spelled ∙ ap (λ ms. statement_marks first.tree ++ ms) more.spelled ∙ sym (append_assoc (statement_marks first.tree) (block_marks more.tree) (map (mark text) more.rest));
+      spelled = first.spelled ∙ ap (λ ms. statement_marks first.tree ++ ms) more.spelled ∙ sym (append_assoc (statement_marks first.tree) (block_marks more.tree) (map (mark source) more.rest));
       goes_on = more.goes_on;
       within = omega arith;
     }
 
 -- what is due behind the symbol that begins a further statement
-more_behind : (text : List ℕ) (due : List Part) (token : Token) (tokens : List Token) (s : Symbol) (new : List Part) → token.symbol ≡ s → row Statements s ≡ Some new →
-    refusal (length text) (Statements ∷ due) (token ∷ tokens) ≡ None → refusal (length text) (new ++ due) tokens ≡ None
-more_behind text due token tokens s new is at h = after (length text) Statements due token tokens new (rowed Statements token s (Some new) is at) h
+more_behind : (source : Source) (due : List Part) (token : Token) (tokens : List Token) (s : Symbol) (new : List Part) → token.symbol ≡ s → row Statements s ≡ Some new →
+    refusal (length source.text) (Statements ∷ due) (token ∷ tokens) ≡ None → refusal (length source.text) (new ++ due) tokens ≡ None
+more_behind source due token tokens s new is at h = after (length source.text) Statements due token tokens new (rowed Statements token s (Some new) is at) h
 
-statements_at : (text : List ℕ) (n : ℕ) → Below text n → (due : List Part) (token : Token) (tokens : List Token) (s : Symbol) → token.symbol ≡ s → length tokens < n →
-    refusal (length text) (Statements ∷ due) (token ∷ tokens) ≡ None → FoundUpTo BlockTree block_marks text due (token ∷ tokens)
-statements_at text n below due token tokens symbol.Let is few h =
-    then_more text n below due token tokens few (let_at text (Statements ∷ due) token tokens is
-    (more_behind text due token tokens symbol.Let (AName ∷ The symbol.Equals ∷ AnExpression ∷ The symbol.Semicolon ∷ Statements ∷ []) is refl h))
-statements_at text n below due token tokens symbol.Name is few h =
-    then_more text n below due token tokens few (set_at text (Statements ∷ due) token tokens is
-    (more_behind text due token tokens symbol.Name (FirstIndex ∷ The symbol.Equals ∷ AnExpression ∷ The symbol.Semicolon ∷ Statements ∷ []) is refl h))
-statements_at text n below due token tokens symbol.For is few h =
-    then_more text n below due token tokens few (for_at text n below (Statements ∷ due) token tokens is few
-    (more_behind text due token tokens symbol.For (AName ∷ The symbol.In ∷ AnIndex ∷ The symbol.Range ∷ AnIndex ∷ Block ∷ Statements ∷ []) is refl h))
-statements_at text n below due token tokens s is few h = record {
+statements_at : (source : Source) (n : ℕ) → Below source n → (due : List Part) (token : Token) (tokens : List Token) (s : Symbol) → token.symbol ≡ s → length tokens < n →
+    refusal (length source.text) (Statements ∷ due) (token ∷ tokens) ≡ None → FoundUpTo BlockTree block_marks source due (token ∷ tokens)
+statements_at source n below due token tokens symbol.Let is few h =
+    then_more source n below due token tokens few (let_at source (Statements ∷ due) token tokens is
+    (more_behind source due token tokens symbol.Let (AName ∷ The symbol.Equals ∷ AnExpression ∷ The symbol.Semicolon ∷ Statements ∷ []) is refl h))
+statements_at source n below due token tokens symbol.Name is few h =
+    then_more source n below due token tokens few (set_at source (Statements ∷ due) token tokens is
+    (more_behind source due token tokens symbol.Name (FirstIndex ∷ The symbol.Equals ∷ AnExpression ∷ The symbol.Semicolon ∷ Statements ∷ []) is refl h))
+statements_at source n below due token tokens symbol.For is few h =
+    then_more source n below due token tokens few (for_at source n below (Statements ∷ due) token tokens is few
+    (more_behind source due token tokens symbol.For (AName ∷ The symbol.In ∷ AnIndex ∷ The symbol.Range ∷ AnIndex ∷ Block ∷ Statements ∷ []) is refl h))
+statements_at source n below due token tokens s is few h = record {
   tree = EndOfBlock;
   rest = token ∷ tokens;
   spelled = refl;
-  goes_on = sym (skipped (length text) Statements due token tokens (rowed Statements token s None is refl) refl) ∙ h;
+  goes_on = sym (skipped (length source.text) Statements due token tokens (rowed Statements token s None is refl) refl) ∙ h;
   within = omega arith;
 }
 
-statements : (text : List ℕ) (n : ℕ) → Below text n → FindsUpTo BlockTree block_marks Statements text (suc n)
-statements text n below due [] few h = record { tree = EndOfBlock; rest = []; spelled = refl; goes_on = h; within = omega arith }
-statements text n below due (token ∷ tokens) few h = statements_at text n below due token tokens token.symbol refl (omega arith) h
+statements : (source : Source) (n : ℕ) → Below source n → FindsUpTo BlockTree block_marks Statements source (suc n)
+statements source n below due [] few h = record { tree = EndOfBlock; rest = []; spelled = refl; goes_on = h; within = omega arith }
+statements source n below due (token ∷ tokens) few h = statements_at source n below due token tokens token.symbol refl (omega arith) h
 
-found_below : (text : List ℕ) (n : ℕ) → Below text n
-found_below text zero = record {
+found_below : (source : Source) (n : ℕ) → Below source n
+found_below source zero = record {
   statement = λ due tokens few h. absurd (omega arith);
   statements = λ due tokens few h. absurd (omega arith);
 }
-found_below text (suc n) = let below = found_below text n in record {
-  statement = statement text n below;
-  statements = statements text n below;
+found_below source (suc n) = let below = found_below source n in record {
+  statement = statement source n below;
+  statements = statements source n below;
 }
 
 -- The rest of a program's top level: its statements.
-record Tops (text : List ℕ) (tokens : List Token) : Type 0 where
+record Tops (source : Source) (tokens : List Token) : Type 0 where
   trees : List TopTree
-  spelled : map (mark text) tokens ≡ flat_map top_marks trees
+  spelled : map (mark source) tokens ≡ flat_map top_marks trees
 
 -- a statement of the top level, and those behind it
-tops_behind : (text : List ℕ) (token : Token) (tokens : List Token) (first : Found TopTree top_marks text (TopStatements ∷ []) (token ∷ tokens)) → Tops text first.rest → Tops text (token ∷ tokens)
-tops_behind text token tokens first more = record {
+tops_behind : (source : Source) (token : Token) (tokens : List Token) (first : Found TopTree top_marks source (TopStatements ∷ []) (token ∷ tokens)) → Tops source first.rest → Tops source (token ∷ tokens)
+tops_behind source token tokens first more = record {
   trees = first.tree ∷ more.trees;
   spelled = first.spelled ∙ ap (λ ms. top_marks first.tree ++ ms) more.spelled;
 }
 
-inner_of : (text : List ℕ) (token : Token) (tokens : List Token) → Found StatementTree statement_marks text (TopStatements ∷ []) (token ∷ tokens) → Found TopTree top_marks text (TopStatements ∷ []) (token ∷ tokens)
-inner_of text token tokens found = record { tree = Inner found.tree; rest = found.rest; spelled = found.spelled; goes_on = found.goes_on; shorter = found.shorter }
+inner_of : (source : Source) (token : Token) (tokens : List Token) → Found StatementTree statement_marks source (TopStatements ∷ []) (token ∷ tokens) → Found TopTree top_marks source (TopStatements ∷ []) (token ∷ tokens)
+inner_of source token tokens found = record { tree = Inner found.tree; rest = found.rest; spelled = found.spelled; goes_on = found.goes_on; shorter = found.shorter }
 
-output_at : (text : List ℕ) (token : Token) (tokens : List Token) → token.symbol ≡ symbol.Output →
-    refusal (length text) (AnExpression ∷ The symbol.Semicolon ∷ TopStatements ∷ []) tokens ≡ None → Found TopTree top_marks text (TopStatements ∷ []) (token ∷ tokens)
-output_at text token tokens is h =
-    let value = finds_ended text (TopStatements ∷ []) tokens h in
+output_at : (source : Source) (token : Token) (tokens : List Token) → token.symbol ≡ symbol.Output →
+    refusal (length source.text) (AnExpression ∷ The symbol.Semicolon ∷ TopStatements ∷ []) tokens ≡ None → Found TopTree top_marks source (TopStatements ∷ []) (token ∷ tokens)
+output_at source token tokens is h =
+    let value = finds_ended source (TopStatements ∷ []) tokens h in
     record {
       tree = Output token.start value.tree;
       rest = value.rest;
-      spelled = ap (λ m. m ∷ map (mark text) tokens) (marked text token symbol.Output is) ∙ ap (λ ms. Placed token.start symbol.Output ∷ ms) value.spelled;
+      spelled = ap (λ m. m ∷ map (mark source) tokens) (marked source token symbol.Output is) ∙ ap (λ ms. Placed token.start symbol.Output ∷ ms) value.spelled;
       goes_on = value.goes_on;
       shorter = let a : length value.rest < length tokens = value.shorter in omega arith;
     }
@@ -274,143 +275,143 @@ output_at text token tokens is h =
 nothing_due : (end : ℕ) (token : Token) (tokens : List Token) → refusal end [] (token ∷ tokens) ≡ None → ⊥
 nothing_due end token tokens h = cc
 
-top_behind : (text : List ℕ) (token : Token) (tokens : List Token) (s : Symbol) (new : List Part) → token.symbol ≡ s → row TopStatements s ≡ Some new →
-    refusal (length text) (TopStatements ∷ []) (token ∷ tokens) ≡ None → refusal (length text) (new ++ []) tokens ≡ None
-top_behind text token tokens s new is at h = after (length text) TopStatements [] token tokens new (rowed TopStatements token s (Some new) is at) h
+top_behind : (source : Source) (token : Token) (tokens : List Token) (s : Symbol) (new : List Part) → token.symbol ≡ s → row TopStatements s ≡ Some new →
+    refusal (length source.text) (TopStatements ∷ []) (token ∷ tokens) ≡ None → refusal (length source.text) (new ++ []) tokens ≡ None
+top_behind source token tokens s new is at h = after (length source.text) TopStatements [] token tokens new (rowed TopStatements token s (Some new) is at) h
 
-first_top : (text : List ℕ) (token : Token) (tokens : List Token) (s : Symbol) → token.symbol ≡ s →
-    refusal (length text) (TopStatements ∷ []) (token ∷ tokens) ≡ None → Found TopTree top_marks text (TopStatements ∷ []) (token ∷ tokens)
-first_top text token tokens symbol.Output is h =
-    output_at text token tokens is (top_behind text token tokens symbol.Output (AnExpression ∷ The symbol.Semicolon ∷ TopStatements ∷ []) is refl h)
-first_top text token tokens symbol.Let is h =
-    inner_of text token tokens (let_at text (TopStatements ∷ []) token tokens is
-    (top_behind text token tokens symbol.Let (AName ∷ The symbol.Equals ∷ AnExpression ∷ The symbol.Semicolon ∷ TopStatements ∷ []) is refl h))
-first_top text token tokens symbol.Name is h =
-    inner_of text token tokens (set_at text (TopStatements ∷ []) token tokens is
-    (top_behind text token tokens symbol.Name (FirstIndex ∷ The symbol.Equals ∷ AnExpression ∷ The symbol.Semicolon ∷ TopStatements ∷ []) is refl h))
-first_top text token tokens symbol.For is h =
+first_top : (source : Source) (token : Token) (tokens : List Token) (s : Symbol) → token.symbol ≡ s →
+    refusal (length source.text) (TopStatements ∷ []) (token ∷ tokens) ≡ None → Found TopTree top_marks source (TopStatements ∷ []) (token ∷ tokens)
+first_top source token tokens symbol.Output is h =
+    output_at source token tokens is (top_behind source token tokens symbol.Output (AnExpression ∷ The symbol.Semicolon ∷ TopStatements ∷ []) is refl h)
+first_top source token tokens symbol.Let is h =
+    inner_of source token tokens (let_at source (TopStatements ∷ []) token tokens is
+    (top_behind source token tokens symbol.Let (AName ∷ The symbol.Equals ∷ AnExpression ∷ The symbol.Semicolon ∷ TopStatements ∷ []) is refl h))
+first_top source token tokens symbol.Name is h =
+    inner_of source token tokens (set_at source (TopStatements ∷ []) token tokens is
+    (top_behind source token tokens symbol.Name (FirstIndex ∷ The symbol.Equals ∷ AnExpression ∷ The symbol.Semicolon ∷ TopStatements ∷ []) is refl h))
+first_top source token tokens symbol.For is h =
     let n : ℕ = suc (length tokens) in
-    inner_of text token tokens (for_at text n (found_below text n) (TopStatements ∷ []) token tokens is (omega arith)
-    (top_behind text token tokens symbol.For (AName ∷ The symbol.In ∷ AnIndex ∷ The symbol.Range ∷ AnIndex ∷ Block ∷ TopStatements ∷ []) is refl h))
-first_top text token tokens s is h =
-    absurd (nothing_due (length text) token tokens (sym (skipped (length text) TopStatements [] token tokens (rowed TopStatements token s None is refl) refl) ∙ h))
+    inner_of source token tokens (for_at source n (found_below source n) (TopStatements ∷ []) token tokens is (omega arith)
+    (top_behind source token tokens symbol.For (AName ∷ The symbol.In ∷ AnIndex ∷ The symbol.Range ∷ AnIndex ∷ Block ∷ TopStatements ∷ []) is refl h))
+first_top source token tokens s is h =
+    absurd (nothing_due (length source.text) token tokens (sym (skipped (length source.text) TopStatements [] token tokens (rowed TopStatements token s None is refl) refl) ∙ h))
 
-finds_tops : (text : List ℕ) (n : ℕ) (tokens : List Token) → length tokens < n → refusal (length text) (TopStatements ∷ []) tokens ≡ None → Tops text tokens
-finds_tops text zero tokens few h = absurd (omega arith)
-finds_tops text (suc n) [] few h = record { trees = []; spelled = refl }
-finds_tops text (suc n) (token ∷ tokens) few h =
-    let first = first_top text token tokens token.symbol refl h in
+finds_tops : (source : Source) (n : ℕ) (tokens : List Token) → length tokens < n → refusal (length source.text) (TopStatements ∷ []) tokens ≡ None → Tops source tokens
+finds_tops source zero tokens few h = absurd (omega arith)
+finds_tops source (suc n) [] few h = record { trees = []; spelled = refl }
+finds_tops source (suc n) (token ∷ tokens) few h =
+    let first = first_top source token tokens token.symbol refl h in
     let a : length first.rest < suc (length tokens) = first.shorter in
-    tops_behind text token tokens first (finds_tops text n first.rest (omega arith) first.goes_on)
+    tops_behind source token tokens first (finds_tops source n first.rest (omega arith) first.goes_on)
 
 -- a number up to the bracket that closes it
 abbrev size_marks : Dimension → List Mark
 size_marks d = Placed d.at (symbol.Number d.size) ∷ (Separator symbol.CloseSquare ∷ [])
 
-size_at : (text : List ℕ) (due : List Part) (token : Token) (tokens : List Token) (s : Symbol) → token.symbol ≡ s →
-    refusal (length text) (ANumber ∷ The symbol.CloseSquare ∷ due) (token ∷ tokens) ≡ None → Found Dimension size_marks text due (token ∷ tokens)
-size_at text due token tokens (symbol.Number value) is h =
-    let shut = separator symbol.CloseSquare text due tokens (λ at word. refl)
-    (after (length text) ANumber (The symbol.CloseSquare ∷ due) token tokens [] (rowed ANumber token (symbol.Number value) (Some []) is refl) h) in
+size_at : (source : Source) (due : List Part) (token : Token) (tokens : List Token) (s : Symbol) → token.symbol ≡ s →
+    refusal (length source.text) (ANumber ∷ The symbol.CloseSquare ∷ due) (token ∷ tokens) ≡ None → Found Dimension size_marks source due (token ∷ tokens)
+size_at source due token tokens (symbol.Number value) is h =
+    let shut = separator symbol.CloseSquare source due tokens (λ at word. refl)
+    (after (length source.text) ANumber (The symbol.CloseSquare ∷ due) token tokens [] (rowed ANumber token (symbol.Number value) (Some []) is refl) h) in
     record {
       tree = record { at = token.start; size = value };
       rest = shut.rest;
-      spelled = ap (λ m. m ∷ map (mark text) tokens) (marked text token (symbol.Number value) is) ∙ ap (λ ms. Placed token.start (symbol.Number value) ∷ ms) shut.spelled;
+      spelled = ap (λ m. m ∷ map (mark source) tokens) (marked source token (symbol.Number value) is) ∙ ap (λ ms. Placed token.start (symbol.Number value) ∷ ms) shut.spelled;
       goes_on = shut.goes_on;
       shorter = let a : length shut.rest < length tokens = shut.shorter in omega arith;
     }
-size_at text due token tokens s is h = absurd (no_row (length text) ANumber (The symbol.CloseSquare ∷ due) token tokens (rowed ANumber token s None is refl) refl h)
+size_at source due token tokens s is h = absurd (no_row (length source.text) ANumber (The symbol.CloseSquare ∷ due) token tokens (rowed ANumber token s None is refl) refl h)
 
-finds_size : (text : List ℕ) (due : List Part) (tokens : List Token) → refusal (length text) (ANumber ∷ The symbol.CloseSquare ∷ due) tokens ≡ None → Found Dimension size_marks text due tokens
-finds_size text due [] h = absurd (none_left (length text) ANumber (The symbol.CloseSquare ∷ due) refl h)
-finds_size text due (token ∷ tokens) h = size_at text due token tokens token.symbol refl h
+finds_size : (source : Source) (due : List Part) (tokens : List Token) → refusal (length source.text) (ANumber ∷ The symbol.CloseSquare ∷ due) tokens ≡ None → Found Dimension size_marks source due tokens
+finds_size source due [] h = absurd (none_left (length source.text) ANumber (The symbol.CloseSquare ∷ due) refl h)
+finds_size source due (token ∷ tokens) h = size_at source due token tokens token.symbol refl h
 
 abbrev maybe_dimension : Option Dimension → List Mark
 maybe_dimension None = []
 maybe_dimension (Some d) = dimension_spelling d
 
-second_at : (text : List ℕ) (due : List Part) (token : Token) (tokens : List Token) (s : Symbol) → token.symbol ≡ s →
-    refusal (length text) (SecondDimension ∷ due) (token ∷ tokens) ≡ None → FoundUpTo (Option Dimension) maybe_dimension text due (token ∷ tokens)
-second_at text due token tokens symbol.OpenSquare is h =
+second_at : (source : Source) (due : List Part) (token : Token) (tokens : List Token) (s : Symbol) → token.symbol ≡ s →
+    refusal (length source.text) (SecondDimension ∷ due) (token ∷ tokens) ≡ None → FoundUpTo (Option Dimension) maybe_dimension source due (token ∷ tokens)
+second_at source due token tokens symbol.OpenSquare is h =
     let new : List Part = ANumber ∷ The symbol.CloseSquare ∷ [] in
-    let found = finds_size text due tokens (after (length text) SecondDimension due token tokens new (rowed SecondDimension token symbol.OpenSquare (Some new) is refl) h) in
+    let found = finds_size source due tokens (after (length source.text) SecondDimension due token tokens new (rowed SecondDimension token symbol.OpenSquare (Some new) is refl) h) in
     record {
       tree = Some found.tree;
       rest = found.rest;
-      spelled = ap (λ m. m ∷ map (mark text) tokens) (marked text token symbol.OpenSquare is) ∙ ap (λ ms. Separator symbol.OpenSquare ∷ ms) found.spelled;
+      spelled = ap (λ m. m ∷ map (mark source) tokens) (marked source token symbol.OpenSquare is) ∙ ap (λ ms. Separator symbol.OpenSquare ∷ ms) found.spelled;
       goes_on = found.goes_on;
       within = let a : length found.rest < length tokens = found.shorter in omega arith;
     }
-second_at text due token tokens s is h = record {
+second_at source due token tokens s is h = record {
   tree = None;
   rest = token ∷ tokens;
   spelled = refl;
-  goes_on = sym (skipped (length text) SecondDimension due token tokens (rowed SecondDimension token s None is refl) refl) ∙ h;
+  goes_on = sym (skipped (length source.text) SecondDimension due token tokens (rowed SecondDimension token s None is refl) refl) ∙ h;
   within = omega arith;
 }
 
-second : (text : List ℕ) (due : List Part) (tokens : List Token) → refusal (length text) (SecondDimension ∷ due) tokens ≡ None → FoundUpTo (Option Dimension) maybe_dimension text due tokens
-second text due [] h = record { tree = None; rest = []; spelled = refl; goes_on = h; within = omega arith }
-second text due (token ∷ tokens) h = second_at text due token tokens token.symbol refl h
+second : (source : Source) (due : List Part) (tokens : List Token) → refusal (length source.text) (SecondDimension ∷ due) tokens ≡ None → FoundUpTo (Option Dimension) maybe_dimension source due tokens
+second source due [] h = record { tree = None; rest = []; spelled = refl; goes_on = h; within = omega arith }
+second source due (token ∷ tokens) h = second_at source due token tokens token.symbol refl h
 
 dimensions_of : (n : Dimension) (m : Option Dimension) → (d : Dimensions) × (dimensions_spelling d ≡ dimension_spelling n ++ maybe_dimension m)
 dimensions_of n None = (Vector n, refl)
 dimensions_of n (Some m) = (Matrix n m, refl)
 
-dimensions_at : (text : List ℕ) (due : List Part) (token : Token) (tokens : List Token) (s : Symbol) → token.symbol ≡ s →
-    refusal (length text) (FirstDimension ∷ due) (token ∷ tokens) ≡ None → FoundUpTo Dimensions dimensions_spelling text due (token ∷ tokens)
-dimensions_at text due token tokens symbol.OpenSquare is h =
+dimensions_at : (source : Source) (due : List Part) (token : Token) (tokens : List Token) (s : Symbol) → token.symbol ≡ s →
+    refusal (length source.text) (FirstDimension ∷ due) (token ∷ tokens) ≡ None → FoundUpTo Dimensions dimensions_spelling source due (token ∷ tokens)
+dimensions_at source due token tokens symbol.OpenSquare is h =
     let new : List Part = ANumber ∷ The symbol.CloseSquare ∷ SecondDimension ∷ [] in
-    let first = finds_size text (SecondDimension ∷ due) tokens (after (length text) FirstDimension due token tokens new (rowed FirstDimension token symbol.OpenSquare (Some new) is refl) h) in
-    let more = second text due first.rest first.goes_on in
+    let first = finds_size source (SecondDimension ∷ due) tokens (after (length source.text) FirstDimension due token tokens new (rowed FirstDimension token symbol.OpenSquare (Some new) is refl) h) in
+    let more = second source due first.rest first.goes_on in
     let a : length first.rest < length tokens = first.shorter in
     let b : length more.rest < suc (length first.rest) = more.within in
     let made = dimensions_of first.tree more.tree in
     record {
       tree = made.0;
       rest = more.rest;
-      spelled = ap (λ m. m ∷ map (mark text) tokens) (marked text token symbol.OpenSquare is)
+      spelled = ap (λ m. m ∷ map (mark source) tokens) (marked source token symbol.OpenSquare is)
           ∙ ap (λ ms. Separator symbol.OpenSquare ∷ ms) (first.spelled ∙ ap (λ ms. size_marks first.tree ++ ms) more.spelled)
-          ∙ ap (λ ms. ms ++ map (mark text) more.rest) (sym made.1);
+          ∙ ap (λ ms. ms ++ map (mark source) more.rest) (sym made.1);
       goes_on = more.goes_on;
       within = omega arith;
     }
-dimensions_at text due token tokens s is h = record {
+dimensions_at source due token tokens s is h = record {
   tree = Scalar;
   rest = token ∷ tokens;
   spelled = refl;
-  goes_on = sym (skipped (length text) FirstDimension due token tokens (rowed FirstDimension token s None is refl) refl) ∙ h;
+  goes_on = sym (skipped (length source.text) FirstDimension due token tokens (rowed FirstDimension token s None is refl) refl) ∙ h;
   within = omega arith;
 }
 
-finds_dimensions : (text : List ℕ) (due : List Part) (tokens : List Token) → refusal (length text) (FirstDimension ∷ due) tokens ≡ None → FoundUpTo Dimensions dimensions_spelling text due tokens
-finds_dimensions text due [] h = record { tree = Scalar; rest = []; spelled = refl; goes_on = h; within = omega arith }
-finds_dimensions text due (token ∷ tokens) h = dimensions_at text due token tokens token.symbol refl h
+finds_dimensions : (source : Source) (due : List Part) (tokens : List Token) → refusal (length source.text) (FirstDimension ∷ due) tokens ≡ None → FoundUpTo Dimensions dimensions_spelling source due tokens
+finds_dimensions source due [] h = record { tree = Scalar; rest = []; spelled = refl; goes_on = h; within = omega arith }
+finds_dimensions source due (token ∷ tokens) h = dimensions_at source due token tokens token.symbol refl h
 
-input_at : (text : List ℕ) (token : Token) (tokens : List Token) → token.symbol ≡ symbol.Input →
-    refusal (length text) (AName ∷ FirstDimension ∷ The symbol.Semicolon ∷ Inputs ∷ []) tokens ≡ None → Found InputTree input_marks text (Inputs ∷ []) (token ∷ tokens)
-input_at text token tokens is h =
-    let name = finds_name text (FirstDimension ∷ The symbol.Semicolon ∷ Inputs ∷ []) tokens h in
-    let sizes = finds_dimensions text (The symbol.Semicolon ∷ Inputs ∷ []) name.rest name.goes_on in
-    let shut = separator symbol.Semicolon text (Inputs ∷ []) sizes.rest (λ at word. refl) sizes.goes_on in
+input_at : (source : Source) (token : Token) (tokens : List Token) → token.symbol ≡ symbol.Input →
+    refusal (length source.text) (AName ∷ FirstDimension ∷ The symbol.Semicolon ∷ Inputs ∷ []) tokens ≡ None → Found InputTree input_marks source (Inputs ∷ []) (token ∷ tokens)
+input_at source token tokens is h =
+    let name = finds_name source (FirstDimension ∷ The symbol.Semicolon ∷ Inputs ∷ []) tokens h in
+    let sizes = finds_dimensions source (The symbol.Semicolon ∷ Inputs ∷ []) name.rest name.goes_on in
+    let shut = separator symbol.Semicolon source (Inputs ∷ []) sizes.rest (λ at word. refl) sizes.goes_on in
     let a : length name.rest < length tokens = name.shorter in
     let b : length sizes.rest < suc (length name.rest) = sizes.within in
     let c : length shut.rest < length sizes.rest = shut.shorter in
     record {
       tree = record { at = token.start; name = name.tree; dimensions = sizes.tree };
       rest = shut.rest;
-      spelled = ap (λ m. m ∷ map (mark text) tokens) (marked text token symbol.Input is)
+      spelled = ap (λ m. m ∷ map (mark source) tokens) (marked source token symbol.Input is)
           ∙ ap (λ ms. Placed token.start symbol.Input ∷ ms) (name.spelled ∙ ap (λ ms. name_marks name.tree ++ ms)
-          (sizes.spelled ∙ ap (λ ms. dimensions_spelling sizes.tree ++ ms) shut.spelled ∙ sym (append_assoc (dimensions_spelling sizes.tree) (Separator symbol.Semicolon ∷ []) (map (mark text) shut.rest))));
+          (sizes.spelled ∙ ap (λ ms. dimensions_spelling sizes.tree ++ ms) shut.spelled ∙ sym (append_assoc (dimensions_spelling sizes.tree) (Separator symbol.Semicolon ∷ []) (map (mark source) shut.rest))));
       goes_on = shut.goes_on;
       shorter = omega arith;
     }
 
 -- A program: inputs, then the statements of the top level.
-record Whole (text : List ℕ) (tokens : List Token) : Type 0 where
+record Whole (source : Source) (tokens : List Token) : Type 0 where
   inputs : List InputTree
   tops : List TopTree
-  spelled : map (mark text) tokens ≡ flat_map input_marks inputs ++ flat_map top_marks tops
+  spelled : map (mark source) tokens ≡ flat_map input_marks inputs ++ flat_map top_marks tops
 
 -- but for an input's word, inputs and top statements have one row
 no_input : (s : Symbol) → (s ≡ symbol.Input) ⊎ (row Inputs s ≡ row TopStatements s)
@@ -420,27 +421,27 @@ no_input s = inr refl
 same_row : (end : ℕ) (token : Token) (tokens : List Token) → row Inputs token.symbol ≡ row TopStatements token.symbol → refusal end (Inputs ∷ []) (token ∷ tokens) ≡ refusal end (TopStatements ∷ []) (token ∷ tokens)
 same_row end token tokens same = ap (λ r. unless_refused token.start (due_after r [] None) (λ due. refusal end due tokens)) same
 
-only_tops : (text : List ℕ) (tokens : List Token) → Tops text tokens → Whole text tokens
-only_tops text tokens tops = record { inputs = []; tops = tops.trees; spelled = tops.spelled }
+only_tops : (source : Source) (tokens : List Token) → Tops source tokens → Whole source tokens
+only_tops source tokens tops = record { inputs = []; tops = tops.trees; spelled = tops.spelled }
 
-finds_whole : (text : List ℕ) (n : ℕ) (tokens : List Token) → length tokens < n → refusal (length text) (Inputs ∷ []) tokens ≡ None → Whole text tokens
-finds_whole text zero tokens few h = absurd (omega arith)
-finds_whole text (suc n) [] few h = record { inputs = []; tops = []; spelled = refl }
-finds_whole text (suc n) (token ∷ tokens) few h = elim (no_input token.symbol) [
+finds_whole : (source : Source) (n : ℕ) (tokens : List Token) → length tokens < n → refusal (length source.text) (Inputs ∷ []) tokens ≡ None → Whole source tokens
+finds_whole source zero tokens few h = absurd (omega arith)
+finds_whole source (suc n) [] few h = record { inputs = []; tops = []; spelled = refl }
+finds_whole source (suc n) (token ∷ tokens) few h = elim (no_input token.symbol) [
   | inl is ↦
       let new : List Part = AName ∷ FirstDimension ∷ The symbol.Semicolon ∷ Inputs ∷ [] in
-      let first = input_at text token tokens is (after (length text) Inputs [] token tokens new (rowed Inputs token symbol.Input (Some new) is refl) h) in
+      let first = input_at source token tokens is (after (length source.text) Inputs [] token tokens new (rowed Inputs token symbol.Input (Some new) is refl) h) in
       let a : length first.rest < suc (length tokens) = first.shorter in
-      let more = finds_whole text n first.rest (omega arith) first.goes_on in
+      let more = finds_whole source n first.rest (omega arith) first.goes_on in
       record {
         inputs = first.tree ∷ more.inputs;
         tops = more.tops;
         spelled = first.spelled ∙ ap (λ ms. input_marks first.tree ++ ms) more.spelled ∙ sym (append_assoc (input_marks first.tree) (flat_map input_marks more.inputs) (flat_map top_marks more.tops));
       }
-  | inr same ↦ only_tops text (token ∷ tokens) (finds_tops text (suc n) (token ∷ tokens) few (sym (same_row (length text) token tokens same) ∙ h))
+  | inr same ↦ only_tops source (token ∷ tokens) (finds_tops source (suc n) (token ∷ tokens) few (sym (same_row (length source.text) token tokens same) ∙ h))
 ]
 
 pub read_or_refused : (text : List ℕ) (tokens : List Token) → refusal (length text) (Inputs ∷ []) tokens ≡ None → (tree : ProgramTree) × IsTreeOf text tokens tree
 read_or_refused text tokens h =
-    let whole = finds_whole text (suc (length tokens)) tokens (omega arith) h in
+    let whole = finds_whole (source_of text tokens) (suc (length tokens)) tokens (omega arith) h in
     (record { inputs = whole.inputs; statements = whole.tops; end = length text }, record { spelled = whole.spelled; end = refl })

@@ -5,6 +5,7 @@ pub mod FindsIndex
 pub mod FindsProgram
 pub mod IndexRows
 pub mod Loop
+pub mod Naming
 pub mod OneExpression
 pub mod OneProgram
 pub mod OneTree

@@ -11,18 +11,19 @@ use Rattle.arr_ast.specs.ProgramTree.{StatementTree, Let, Set, SetElement, For, 
 use Rattle.arr_lex.specs.declared.token.Symbol.{Symbol}
 use Rattle.arr_lex.specs.declared.token.Symbol.TheVariants as symbol
 use Rattle.arr_lex.specs.declared.token.Token.{Token}
-use Rattle.arr_parse.specs.Mark.{Mark, Separator, Placed, Named, mark, mark_of, part_of}
+use Rattle.arr_parse.specs.Mark.{Mark, Separator, Placed, Named, Source, mark, mark_of, found_in, or_zero, number_at}
+use Rattle.arr_parse.specs.Names.{words, names_from, source_of}
 use Rattle.arr_parse.specs.IndexSpelling.{sign_symbol, sum_marks, terms_marks, product_marks, factors_marks, factor_marks as index_factor_marks, bracket_marks, second_marks, indices_marks}
 use Rattle.arr_parse.specs.Spelling.{pair_symbol, expression_marks, added_marks, term_marks, times_marks, factor_marks}
 use Rattle.arr_parse.specs.ProgramSpelling.{statement_marks, block_marks, dimensions_spelling, input_marks, top_marks, program_marks}
 use Rattle.arr_parse.specs.Parsed.{IsTreeOf}
-use Rattle.arr_parse.specs.Unplaced.{word, SameWords, unplaced_sum, unplaced_terms, unplaced_product, unplaced_factors, unplaced_index_factor, unplaced_indices, unplaced_expression, unplaced_added, unplaced_term, unplaced_times, unplaced_factor, unplaced_statement, unplaced_block, unplaced_top, unplaced_dimensions, unplaced_input, unplaced}
+use Rattle.arr_parse.specs.Unplaced.{SameWords, unplaced_sum, unplaced_terms, unplaced_product, unplaced_factors, unplaced_index_factor, unplaced_indices, unplaced_expression, unplaced_added, unplaced_term, unplaced_times, unplaced_factor, unplaced_statement, unplaced_block, unplaced_top, unplaced_dimensions, unplaced_input, unplaced}
 use Rattle.arr_parse.proofs.OneProgram.{one_program_tree}
 
 abbrev bare : Mark → Mark
 bare (Separator symbol) = Separator symbol
 bare (Placed at symbol) = Placed 0 symbol
-bare (Named at text) = Named 0 text
+bare (Named at number) = Named 0 number
 
 abbrev bares : List Mark → List Mark
 bares marks = map bare marks
@@ -52,7 +53,7 @@ mutual
 
   bare_index_factor : (factor : index.Factor) → index_factor_marks (unplaced_index_factor factor) ≡ bares (index_factor_marks factor)
   bare_index_factor (index.Number at value) = refl
-  bare_index_factor (index.Name at text) = refl
+  bare_index_factor (index.Name at number) = refl
   bare_index_factor (index.Parenthesized at inner) = ap (λ marks. Placed 0 symbol.OpenRound ∷ marks) (closed _ (sum_marks inner) symbol.CloseRound (bare_sum inner))
 
 bare_bracket : (sum : index.Sum) → bracket_marks (unplaced_sum sum) ≡ bares (bracket_marks sum)
@@ -83,7 +84,7 @@ mutual
   bare_factor : (factor : FactorTree) → factor_marks (unplaced_factor factor) ≡ bares (factor_marks factor)
   bare_factor (Number at value) = refl
   bare_factor (Name name) = refl
-  bare_factor (Element name indices) = ap (λ marks. Named 0 name.text ∷ marks) (bare_indices indices)
+  bare_factor (Element name indices) = ap (λ marks. Named 0 name.number ∷ marks) (bare_indices indices)
   bare_factor (Negation at operand) = ap (λ marks. Placed 0 symbol.Minus ∷ marks) (bare_factor operand)
   bare_factor (Parenthesized at inner) = ap (λ marks. Placed 0 symbol.OpenRound ∷ marks) (closed _ (expression_marks inner) symbol.CloseRound (bare_expression inner))
   bare_factor (Single single.Sum at parenthesis argument) =
@@ -101,14 +102,14 @@ bare_ended value = closed _ (expression_marks value) symbol.Semicolon (bare_expr
 
 mutual
   bare_statement : (statement : StatementTree) → statement_marks (unplaced_statement statement) ≡ bares (statement_marks statement)
-  bare_statement (Let at name value) = ap (λ marks. Placed 0 symbol.Let ∷ Named 0 name.text ∷ Separator symbol.Equals ∷ marks) (bare_ended value)
-  bare_statement (Set name value) = ap (λ marks. Named 0 name.text ∷ Separator symbol.Equals ∷ marks) (bare_ended value)
+  bare_statement (Let at name value) = ap (λ marks. Placed 0 symbol.Let ∷ Named 0 name.number ∷ Separator symbol.Equals ∷ marks) (bare_ended value)
+  bare_statement (Set name value) = ap (λ marks. Named 0 name.number ∷ Separator symbol.Equals ∷ marks) (bare_ended value)
   bare_statement (SetElement name indices value) =
-      ap (λ marks. Named 0 name.text ∷ marks)
+      ap (λ marks. Named 0 name.number ∷ marks)
       (both _ _ (indices_marks indices) (Separator symbol.Equals ∷ (expression_marks value ++ Separator symbol.Semicolon ∷ [])) (bare_indices indices)
       (ap (λ marks. Separator symbol.Equals ∷ marks) (bare_ended value)))
   bare_statement (For at name low high body) =
-      ap (λ marks. Placed 0 symbol.For ∷ Named 0 name.text ∷ Separator symbol.In ∷ marks)
+      ap (λ marks. Placed 0 symbol.For ∷ Named 0 name.number ∷ Separator symbol.In ∷ marks)
       (both _ _ (sum_marks low) _ (bare_sum low)
       (ap (λ marks. Separator symbol.Range ∷ marks) (both _ _ (sum_marks high) (Separator symbol.OpenCurly ∷ (block_marks body ++ Separator symbol.CloseCurly ∷ [])) (bare_sum high)
       (ap (λ marks. Separator symbol.OpenCurly ∷ marks) (closed _ (block_marks body) symbol.CloseCurly (bare_block body))))))
@@ -128,7 +129,7 @@ bare_dimensions (Matrix n m) = refl
 
 bare_input : (input : InputTree) → input_marks (unplaced_input input) ≡ bares (input_marks input)
 bare_input input =
-    ap (λ marks. Placed 0 symbol.Input ∷ Named 0 input.name.text ∷ marks) (closed _ (dimensions_spelling input.dimensions) symbol.Semicolon (bare_dimensions input.dimensions))
+    ap (λ marks. Placed 0 symbol.Input ∷ Named 0 input.name.number ∷ marks) (closed _ (dimensions_spelling input.dimensions) symbol.Semicolon (bare_dimensions input.dimensions))
 
 bare_inputs : (inputs : List InputTree) → flat_map input_marks (map unplaced_input inputs) ≡ bares (flat_map input_marks inputs)
 bare_inputs [] = refl
@@ -143,19 +144,23 @@ bare_program program = both _ _ (flat_map input_marks program.inputs) (flat_map 
 
 -- ---- words
 
--- what a mark without its place is of a word
-abbrev word_mark : Symbol × List ℕ → Mark
-word_mark found = mark_of found.0 0 found.1
+-- what a mark without its place is of a word, where names have these numbers
+abbrev word_mark : List (List ℕ × ℕ) → Symbol × List ℕ → Mark
+word_mark names found = mark_of found.0 0 (or_zero (found_in names found.1))
 
-bare_mark : (s : Symbol) (at : ℕ) (text : List ℕ) → bare (mark_of s at text) ≡ mark_of s 0 text
-bare_mark symbol.Name at text = refl
-bare_mark other at text = refl
+bare_mark : (s : Symbol) (at number : ℕ) → bare (mark_of s at number) ≡ mark_of s 0 number
+bare_mark symbol.Name at number = refl
+bare_mark other at number = refl
 
-bare_words : (text : List ℕ) (tokens : List Token) → bares (map (mark text) tokens) ≡ map word_mark (map (word text) tokens)
-bare_words text [] = refl
-bare_words text (token ∷ tokens) = ap₂ ◌∷◌ (bare_mark token.symbol token.start (part_of text token.start token.end)) (bare_words text tokens)
+bare_words : (source : Source) (tokens : List Token) → bares (map (mark source) tokens) ≡ map (word_mark source.names) (words source.text tokens)
+bare_words source [] = refl
+bare_words source (token ∷ tokens) = ap₂ ◌∷◌ (bare_mark token.symbol token.start (number_at source token)) (bare_words source tokens)
+
+-- the marks of words, with the numbers of their own names
+abbrev marks_of : List (Symbol × List ℕ) → List Mark
+marks_of all = map (word_mark (names_from 0 all)) all
 
 pub one_tree_of_words : (text other : List ℕ) (tokens others : List Token) (a b : ProgramTree) → SameWords text tokens other others → IsTreeOf text tokens a → IsTreeOf other others b → unplaced a ≡ unplaced b
 one_tree_of_words text other tokens others a b same first second =
     one_program_tree (unplaced a) (unplaced b)
-    (bare_program a ∙ ap bares (sym first.spelled) ∙ bare_words text tokens ∙ ap (map word_mark) same ∙ sym (bare_words other others) ∙ ap bares second.spelled ∙ sym (bare_program b)) refl
+    (bare_program a ∙ ap bares (sym first.spelled) ∙ bare_words (source_of text tokens) tokens ∙ ap marks_of same ∙ sym (bare_words (source_of other others) others) ∙ ap bares second.spelled ∙ sym (bare_program b)) refl

@@ -1,4 +1,6 @@
 pub mod Mark
+pub mod Names
+pub mod NameMap
 pub mod IndexSpelling
 pub mod Spelling
 pub mod ProgramSpelling

@@ -6,17 +6,12 @@ use Rattle.arr_ast.specs.declared.program.Dimensions.TheVariants.{Scalar, Vector
 use Rattle.arr_ast.specs.IndexTree as index
 use Rattle.arr_ast.specs.ExpressionTree.{NameTree, IndicesTree, ExpressionTree, ExpressionOf, AddedTree, NoTerm, Added, TermTree, TermOf, TimesTree, NoFactor, Times, FactorTree, Number, Name, Element, Negation, Parenthesized, Single, Pair}
 use Rattle.arr_ast.specs.ProgramTree.{StatementTree, Let, Set, SetElement, For, BlockTree, EndOfBlock, Then, TopTree, Output, Inner, InputTree, ProgramTree}
-use Rattle.arr_lex.specs.declared.token.Symbol.{Symbol}
 use Rattle.arr_lex.specs.declared.token.Token.{Token}
-use Rattle.arr_parse.specs.Mark.{part_of}
-
--- what a token is, and its bytes
-abbrev pub word : List ℕ → Token → Symbol × List ℕ
-word text token = (token.symbol, part_of text token.start token.end)
+use Rattle.arr_parse.specs.Names.{words}
 
 -- the tokens of two texts are the same words in the same order
 abbrev pub SameWords : List ℕ → List Token → List ℕ → List Token → Type 0
-SameWords text tokens other others = map (word text) tokens ≡ map (word other) others
+SameWords text tokens other others = words text tokens ≡ words other others
 
 abbrev mutual
   pub unplaced_sum : index.Sum → index.Sum
@@ -39,11 +34,11 @@ abbrev mutual
 
   pub unplaced_index_factor : index.Factor → index.Factor
   unplaced_index_factor (index.Number at value) = index.Number 0 value
-  unplaced_index_factor (index.Name at text) = index.Name 0 text
+  unplaced_index_factor (index.Name at number) = index.Name 0 number
   unplaced_index_factor (index.Parenthesized at inner) = index.Parenthesized 0 (unplaced_sum inner)
 
 abbrev pub unplaced_name : NameTree → NameTree
-unplaced_name name = record { at = 0; text = name.text }
+unplaced_name name = record { at = 0; number = name.number }
 
 abbrev pub unplaced_indices : IndicesTree → IndicesTree
 unplaced_indices indices =

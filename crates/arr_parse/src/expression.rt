@@ -1,17 +1,19 @@
 //! Expressions, from the left.
 
-ghost use Rattle.std.specs.Prelude.{◌≡◌, ℕ, ◌≤◌, ◌<◌, List, [], ◌∷◌, ◌++◌, length, IfOk, flat_map};
+ghost use Rattle.std.specs.Prelude.{◌≡◌, ℕ, suc, ◌≤◌, ◌<◌, List, [], ◌∷◌, ◌++◌, length, IfOk, flat_map};
+ghost use Rattle.arr_lex.specs.declared.token.Symbol.TheVariants.{CloseRound};
+ghost use Rattle.arr_parse.specs.Mark.{Separator};
 ghost use Rattle.arr_parse.specs.IndexSpelling.{name_spelling, maybe_indices_spelling};
 ghost use Rattle.arr_parse.specs.Spelling.{single_symbol, pair_symbol, expression_spelling, term_spelling, factor_spelling, added_term_spelling, times_factor_spelling};
-ghost use Rattle.arr_parse.specs.Grammar.{Part, AnExpression, MoreTerms, ATerm, MoreFactors, AFactor, OneArgument, TwoArguments};
+ghost use Rattle.arr_parse.specs.Grammar.{Part, The, AnExpression, MoreTerms, ATerm, MoreFactors, AFactor, OneArgument, TwoArguments};
 ghost use Rattle.arr_parse.specs.Reading.{levels as levels_of, refusal};
 ghost use Rattle.arr_parse.specs.Parsed.{IsSpelled, IsSpelledUpTo, Agrees};
 
 use crate::indices::maybe_indices;
 use crate::levels::level_behind;
-use crate::name::name_of;
 use crate::refused::ParseRefused;
 use crate::signs::{added_sign, behind, open_round, times_sign};
+use crate::source::Source;
 use arr_ast::{
     AddedTerm, Expression, Factor, Indices, Name, PairFunction, SingleFunction, Term, TimesFactor,
 };
@@ -23,19 +25,19 @@ use std::alloc::Global;
 #[tactic(auto, using(crate::proofs::Rows::of_expressions))]
 pub fn expression<'t>(
     alloc: Global,
-    text: &[u8],
+    source: &Source,
     tokens: &'t [Token],
     levels: usize,
 ) -> Result<(Expression, &'t [Token]), ParseRefused>
     requires { levels ≤ 64 }
     ensures spelled { IfOk result
-        (λ found. IsSpelled text.now tokens.now (expression_spelling found.0) found.1.now) }
+        (λ found. IsSpelled source.now tokens.now (expression_spelling found.0) found.1.now) }
     ensures exact { (due : List Part) → levels_of due ≡ levels →
-        Agrees (λ found. refusal (length text.now) due found.1.now) result
-        (refusal (length text.now) (AnExpression ∷ due) tokens.now) }
+        Agrees (λ found. refusal (length source.now.text) due found.1.now) result
+        (refusal (length source.now.text) (AnExpression ∷ due) tokens.now) }
 {
-    let (first, rest) = term(alloc, text, tokens, levels)?;
-    let (added, rest) = added_terms(alloc, text, rest, levels)?;
+    let (first, rest) = term(alloc, source, tokens, levels)?;
+    let (added, rest) = added_terms(alloc, source, rest, levels)?;
     Ok((Expression { first, added }, rest))
 }
 
@@ -44,22 +46,22 @@ pub fn expression<'t>(
 #[tactic(auto, using(crate::proofs::Rows::of_expressions))]
 fn added_terms<'t>(
     alloc: Global,
-    text: &[u8],
+    source: &Source,
     tokens: &'t [Token],
     levels: usize,
 ) -> Result<(Vec<AddedTerm>, &'t [Token]), ParseRefused>
     requires { levels ≤ 64 }
     ensures spelled { IfOk result
-        (λ found. IsSpelledUpTo text.now tokens.now (flat_map added_term_spelling found.0.items)
+        (λ found. IsSpelledUpTo source.now tokens.now (flat_map added_term_spelling found.0.items)
         found.1.now) }
     ensures exact { (due : List Part) → levels_of due ≡ levels →
-        Agrees (λ found. refusal (length text.now) due found.1.now) result
-        (refusal (length text.now) (MoreTerms ∷ due) tokens.now) }
+        Agrees (λ found. refusal (length source.now.text) due found.1.now) result
+        (refusal (length source.now.text) (MoreTerms ∷ due) tokens.now) }
 {
     let mut added = Vec::new(alloc);
     let mut rest = tokens;
     while let Some((sign, token, behind)) = added_sign(rest) {
-        let (term, behind) = term(alloc, text, behind, levels)?;
+        let (term, behind) = term(alloc, source, behind, levels)?;
         added.push(AddedTerm {
             sign,
             at: token.start,
@@ -74,19 +76,19 @@ fn added_terms<'t>(
 #[tactic(auto, using(crate::proofs::Rows::of_expressions))]
 fn term<'t>(
     alloc: Global,
-    text: &[u8],
+    source: &Source,
     tokens: &'t [Token],
     levels: usize,
 ) -> Result<(Term, &'t [Token]), ParseRefused>
     requires { levels ≤ 64 }
     ensures spelled { IfOk result
-        (λ found. IsSpelled text.now tokens.now (term_spelling found.0) found.1.now) }
+        (λ found. IsSpelled source.now tokens.now (term_spelling found.0) found.1.now) }
     ensures exact { (due : List Part) → levels_of due ≡ levels →
-        Agrees (λ found. refusal (length text.now) due found.1.now) result
-        (refusal (length text.now) (ATerm ∷ due) tokens.now) }
+        Agrees (λ found. refusal (length source.now.text) due found.1.now) result
+        (refusal (length source.now.text) (ATerm ∷ due) tokens.now) }
 {
-    let (first, rest) = factor(alloc, text, tokens, levels)?;
-    let (times, rest) = times_factors(alloc, text, rest, levels)?;
+    let (first, rest) = factor(alloc, source, tokens, levels)?;
+    let (times, rest) = times_factors(alloc, source, rest, levels)?;
     Ok((Term { first, times }, rest))
 }
 
@@ -95,22 +97,22 @@ fn term<'t>(
 #[tactic(auto, using(crate::proofs::Rows::of_expressions))]
 fn times_factors<'t>(
     alloc: Global,
-    text: &[u8],
+    source: &Source,
     tokens: &'t [Token],
     levels: usize,
 ) -> Result<(Vec<TimesFactor>, &'t [Token]), ParseRefused>
     requires { levels ≤ 64 }
     ensures spelled { IfOk result
-        (λ found. IsSpelledUpTo text.now tokens.now (flat_map times_factor_spelling found.0.items)
+        (λ found. IsSpelledUpTo source.now tokens.now (flat_map times_factor_spelling found.0.items)
         found.1.now) }
     ensures exact { (due : List Part) → levels_of due ≡ levels →
-        Agrees (λ found. refusal (length text.now) due found.1.now) result
-        (refusal (length text.now) (MoreFactors ∷ due) tokens.now) }
+        Agrees (λ found. refusal (length source.now.text) due found.1.now) result
+        (refusal (length source.now.text) (MoreFactors ∷ due) tokens.now) }
 {
     let mut times = Vec::new(alloc);
     let mut rest = tokens;
     while let Some((token, behind)) = times_sign(rest) {
-        let (factor, behind) = factor(alloc, text, behind, levels)?;
+        let (factor, behind) = factor(alloc, source, behind, levels)?;
         times.push(TimesFactor {
             at: token.start,
             factor,
@@ -124,46 +126,53 @@ fn times_factors<'t>(
 #[tactic(auto, using(crate::proofs::Rows::of_expressions))]
 fn factor<'t>(
     alloc: Global,
-    text: &[u8],
+    source: &Source,
     tokens: &'t [Token],
     levels: usize,
 ) -> Result<(Factor, &'t [Token]), ParseRefused>
     requires { levels ≤ 64 }
     ensures spelled { IfOk result
-        (λ found. IsSpelled text.now tokens.now (factor_spelling found.0) found.1.now) }
+        (λ found. IsSpelled source.now tokens.now (factor_spelling found.0) found.1.now) }
     ensures exact { (due : List Part) → levels_of due ≡ levels →
-        Agrees (λ found. refusal (length text.now) due found.1.now) result
-        (refusal (length text.now) (AFactor ∷ due) tokens.now) }
+        Agrees (λ found. refusal (length source.now.text) due found.1.now) result
+        (refusal (length source.now.text) (AFactor ∷ due) tokens.now) }
 {
     let Some((token, rest)) = tokens.split_first() else {
-        return Err(ParseRefused::Syntax { at: text.len() });
+        return Err(ParseRefused::Syntax { at: source.len() });
     };
     let at = token.start;
     match token.symbol {
         Symbol::Number(value) => Ok((Factor::Number { at, value }, rest)),
         Symbol::Name => {
-            let name = name_of(alloc, text, token)?;
-            let (indices, rest) = maybe_indices(alloc, text, rest, levels)?;
+            let name = source.name(token);
+            let (indices, rest) = maybe_indices(alloc, source, rest, levels)?;
             Ok((named(name, indices), rest))
         }
         Symbol::Minus => {
             let levels = level_behind(token, levels)?;
-            let (operand, rest) = factor(alloc, text, rest, levels)?;
+            let (operand, rest) = factor(alloc, source, rest, levels)?;
             let operand = Box::new(alloc, operand)?;
             Ok((Factor::Negation { at, operand }, rest))
         }
         Symbol::OpenRound => {
             let levels = level_behind(token, levels)?;
-            let (inner, rest) = expression(alloc, text, rest, levels)?;
-            let rest = behind(text, rest, Symbol::CloseRound)?;
+            let (inner, rest) = expression(alloc, source, rest, levels)?;
+            let rest = behind(source, rest, Symbol::CloseRound)?;
             let inner = Box::new(alloc, inner)?;
             Ok((Factor::Parenthesized { at, inner }, rest))
         }
-        Symbol::Sum => single(alloc, text, token, SingleFunction::Sum, rest, levels),
-        Symbol::Transpose => single(alloc, text, token, SingleFunction::Transpose, rest, levels),
-        Symbol::Scale => pair(alloc, text, token, PairFunction::Scale, rest, levels),
-        Symbol::Dot => pair(alloc, text, token, PairFunction::Dot, rest, levels),
-        Symbol::MatMul => pair(alloc, text, token, PairFunction::MatMul, rest, levels),
+        Symbol::Sum => single(alloc, source, token, SingleFunction::Sum, rest, levels),
+        Symbol::Transpose => single(
+            alloc,
+            source,
+            token,
+            SingleFunction::Transpose,
+            rest,
+            levels,
+        ),
+        Symbol::Scale => pair(alloc, source, token, PairFunction::Scale, rest, levels),
+        Symbol::Dot => pair(alloc, source, token, PairFunction::Dot, rest, levels),
+        Symbol::MatMul => pair(alloc, source, token, PairFunction::MatMul, rest, levels),
         _ => Err(ParseRefused::Syntax { at }),
     }
 }
@@ -183,7 +192,7 @@ fn named(name: Name, indices: Option<Indices>) -> Factor
 #[tactic(auto, using(crate::proofs::Rows::of_expressions))]
 fn single<'t>(
     alloc: Global,
-    text: &[u8],
+    source: &Source,
     word: &Token,
     function: SingleFunction,
     tokens: &'t [Token],
@@ -192,15 +201,16 @@ fn single<'t>(
     requires word { word.now.symbol ≡ single_symbol function }
     requires within { levels ≤ 64 }
     ensures spelled { IfOk result
-        (λ found. IsSpelled text.now (word.now ∷ tokens.now) (factor_spelling found.0) found.1.now) }
+        (λ found. IsSpelled source.now (word.now ∷ tokens.now) (factor_spelling found.0)
+        found.1.now) }
     ensures exact { (due : List Part) → levels_of due ≡ levels →
-        Agrees (λ found. refusal (length text.now) due found.1.now) result
-        (refusal (length text.now) (OneArgument ∷ due) tokens.now) }
+        Agrees (λ found. refusal (length source.now.text) due found.1.now) result
+        (refusal (length source.now.text) (OneArgument ∷ due) tokens.now) }
 {
-    let (opening, rest) = open_round(text, tokens)?;
+    let (opening, rest) = open_round(source, tokens)?;
     let levels = level_behind(opening, levels)?;
-    let (argument, rest) = expression(alloc, text, rest, levels)?;
-    let rest = behind(text, rest, Symbol::CloseRound)?;
+    let (argument, rest) = expression(alloc, source, rest, levels)?;
+    let rest = behind(source, rest, Symbol::CloseRound)?;
     let call = Factor::Single {
         function,
         at: word.start,
@@ -215,7 +225,7 @@ fn single<'t>(
 #[tactic(auto, using(crate::proofs::Rows::of_expressions))]
 fn pair<'t>(
     alloc: Global,
-    text: &[u8],
+    source: &Source,
     word: &Token,
     function: PairFunction,
     tokens: &'t [Token],
@@ -224,17 +234,17 @@ fn pair<'t>(
     requires word { word.now.symbol ≡ pair_symbol function }
     requires within { levels ≤ 64 }
     ensures spelled { IfOk result
-        (λ found. IsSpelled text.now (word.now ∷ tokens.now) (factor_spelling found.0) found.1.now) }
+        (λ found. IsSpelled source.now (word.now ∷ tokens.now) (factor_spelling found.0)
+        found.1.now) }
     ensures exact { (due : List Part) → levels_of due ≡ levels →
-        Agrees (λ found. refusal (length text.now) due found.1.now) result
-        (refusal (length text.now) (TwoArguments ∷ due) tokens.now) }
+        Agrees (λ found. refusal (length source.now.text) due found.1.now) result
+        (refusal (length source.now.text) (TwoArguments ∷ due) tokens.now) }
 {
-    let (opening, rest) = open_round(text, tokens)?;
+    let (opening, rest) = open_round(source, tokens)?;
     let levels = level_behind(opening, levels)?;
-    let (left, rest) = expression(alloc, text, rest, levels)?;
-    let rest = behind(text, rest, Symbol::Comma)?;
-    let (right, rest) = expression(alloc, text, rest, levels)?;
-    let rest = behind(text, rest, Symbol::CloseRound)?;
+    let (left, rest) = expression(alloc, source, rest, levels)?;
+    let rest = behind(source, rest, Symbol::Comma)?;
+    let (right, rest) = last_argument(alloc, source, rest, levels)?;
     let call = Factor::Pair {
         function,
         at: word.start,
@@ -243,4 +253,26 @@ fn pair<'t>(
         right: Box::new(alloc, right)?,
     };
     Ok((call, rest))
+}
+
+// The last argument of a call, up to the call's `)`.
+#[cycle(expression)]
+#[tactic(auto, using(crate::proofs::Rows::of_expressions))]
+fn last_argument<'t>(
+    alloc: Global,
+    source: &Source,
+    tokens: &'t [Token],
+    levels: usize,
+) -> Result<(Expression, &'t [Token]), ParseRefused>
+    requires { levels ≤ 64 }
+    ensures spelled { IfOk result
+        (λ found. IsSpelled source.now tokens.now
+        (expression_spelling found.0 ++ Separator CloseRound ∷ []) found.1.now) }
+    ensures exact { (due : List Part) → suc (levels_of due) ≡ levels →
+        Agrees (λ found. refusal (length source.now.text) due found.1.now) result
+        (refusal (length source.now.text) (AnExpression ∷ The CloseRound ∷ due) tokens.now) }
+{
+    let (argument, rest) = expression(alloc, source, tokens, levels)?;
+    let rest = behind(source, rest, Symbol::CloseRound)?;
+    Ok((argument, rest))
 }

@@ -7,9 +7,9 @@ ghost use Rattle.arr_parse.specs.Reading.{levels as levels_of, refusal};
 ghost use Rattle.arr_parse.specs.Parsed.{IsSpelled, IsSpelledUpTo, Agrees};
 
 use crate::levels::level_behind;
-use crate::name::name_of;
 use crate::refused::ParseRefused;
 use crate::signs::{added_sign, behind, times_sign};
+use crate::source::Source;
 use arr_ast::{AddedIndexTerm, IndexExpression, IndexFactor, IndexTerm, TimesIndexFactor};
 use arr_lex::{Symbol, Token};
 use std::alloc::Global;
@@ -19,19 +19,19 @@ use std::alloc::Global;
 #[tactic(auto, using(crate::proofs::IndexRows::of_indices))]
 pub fn index_expression<'t>(
     alloc: Global,
-    text: &[u8],
+    source: &Source,
     tokens: &'t [Token],
     levels: usize,
 ) -> Result<(IndexExpression, &'t [Token]), ParseRefused>
     requires { levels ≤ 64 }
     ensures spelled { IfOk result
-        (λ found. IsSpelled text.now tokens.now (index_spelling found.0) found.1.now) }
+        (λ found. IsSpelled source.now tokens.now (index_spelling found.0) found.1.now) }
     ensures exact { (due : List Part) → levels_of due ≡ levels →
-        Agrees (λ found. refusal (length text.now) due found.1.now) result
-        (refusal (length text.now) (AnIndex ∷ due) tokens.now) }
+        Agrees (λ found. refusal (length source.now.text) due found.1.now) result
+        (refusal (length source.now.text) (AnIndex ∷ due) tokens.now) }
 {
-    let (first, rest) = index_term(alloc, text, tokens, levels)?;
-    let (added, rest) = added_index_terms(alloc, text, rest, levels)?;
+    let (first, rest) = index_term(alloc, source, tokens, levels)?;
+    let (added, rest) = added_index_terms(alloc, source, rest, levels)?;
     Ok((IndexExpression { first, added }, rest))
 }
 
@@ -40,22 +40,22 @@ pub fn index_expression<'t>(
 #[tactic(auto, using(crate::proofs::IndexRows::of_indices))]
 fn added_index_terms<'t>(
     alloc: Global,
-    text: &[u8],
+    source: &Source,
     tokens: &'t [Token],
     levels: usize,
 ) -> Result<(Vec<AddedIndexTerm>, &'t [Token]), ParseRefused>
     requires { levels ≤ 64 }
     ensures spelled { IfOk result
-        (λ found. IsSpelledUpTo text.now tokens.now
+        (λ found. IsSpelledUpTo source.now tokens.now
         (flat_map added_index_term_spelling found.0.items) found.1.now) }
     ensures exact { (due : List Part) → levels_of due ≡ levels →
-        Agrees (λ found. refusal (length text.now) due found.1.now) result
-        (refusal (length text.now) (MoreIndexTerms ∷ due) tokens.now) }
+        Agrees (λ found. refusal (length source.now.text) due found.1.now) result
+        (refusal (length source.now.text) (MoreIndexTerms ∷ due) tokens.now) }
 {
     let mut added = Vec::new(alloc);
     let mut rest = tokens;
     while let Some((sign, token, behind)) = added_sign(rest) {
-        let (term, behind) = index_term(alloc, text, behind, levels)?;
+        let (term, behind) = index_term(alloc, source, behind, levels)?;
         added.push(AddedIndexTerm {
             sign,
             at: token.start,
@@ -70,19 +70,19 @@ fn added_index_terms<'t>(
 #[tactic(auto, using(crate::proofs::IndexRows::of_indices))]
 fn index_term<'t>(
     alloc: Global,
-    text: &[u8],
+    source: &Source,
     tokens: &'t [Token],
     levels: usize,
 ) -> Result<(IndexTerm, &'t [Token]), ParseRefused>
     requires { levels ≤ 64 }
     ensures spelled { IfOk result
-        (λ found. IsSpelled text.now tokens.now (index_term_spelling found.0) found.1.now) }
+        (λ found. IsSpelled source.now tokens.now (index_term_spelling found.0) found.1.now) }
     ensures exact { (due : List Part) → levels_of due ≡ levels →
-        Agrees (λ found. refusal (length text.now) due found.1.now) result
-        (refusal (length text.now) (AnIndexTerm ∷ due) tokens.now) }
+        Agrees (λ found. refusal (length source.now.text) due found.1.now) result
+        (refusal (length source.now.text) (AnIndexTerm ∷ due) tokens.now) }
 {
-    let (first, rest) = index_factor(alloc, text, tokens, levels)?;
-    let (times, rest) = times_index_factors(alloc, text, rest, levels)?;
+    let (first, rest) = index_factor(alloc, source, tokens, levels)?;
+    let (times, rest) = times_index_factors(alloc, source, rest, levels)?;
     Ok((IndexTerm { first, times }, rest))
 }
 
@@ -91,22 +91,22 @@ fn index_term<'t>(
 #[tactic(auto, using(crate::proofs::IndexRows::of_indices))]
 fn times_index_factors<'t>(
     alloc: Global,
-    text: &[u8],
+    source: &Source,
     tokens: &'t [Token],
     levels: usize,
 ) -> Result<(Vec<TimesIndexFactor>, &'t [Token]), ParseRefused>
     requires { levels ≤ 64 }
     ensures spelled { IfOk result
-        (λ found. IsSpelledUpTo text.now tokens.now
+        (λ found. IsSpelledUpTo source.now tokens.now
         (flat_map times_index_factor_spelling found.0.items) found.1.now) }
     ensures exact { (due : List Part) → levels_of due ≡ levels →
-        Agrees (λ found. refusal (length text.now) due found.1.now) result
-        (refusal (length text.now) (MoreIndexFactors ∷ due) tokens.now) }
+        Agrees (λ found. refusal (length source.now.text) due found.1.now) result
+        (refusal (length source.now.text) (MoreIndexFactors ∷ due) tokens.now) }
 {
     let mut times = Vec::new(alloc);
     let mut rest = tokens;
     while let Some((token, behind)) = times_sign(rest) {
-        let (factor, behind) = index_factor(alloc, text, behind, levels)?;
+        let (factor, behind) = index_factor(alloc, source, behind, levels)?;
         times.push(TimesIndexFactor {
             at: token.start,
             factor,
@@ -120,28 +120,28 @@ fn times_index_factors<'t>(
 #[tactic(auto, using(crate::proofs::IndexRows::of_indices))]
 fn index_factor<'t>(
     alloc: Global,
-    text: &[u8],
+    source: &Source,
     tokens: &'t [Token],
     levels: usize,
 ) -> Result<(IndexFactor, &'t [Token]), ParseRefused>
     requires { levels ≤ 64 }
     ensures spelled { IfOk result
-        (λ found. IsSpelled text.now tokens.now (index_factor_spelling found.0) found.1.now) }
+        (λ found. IsSpelled source.now tokens.now (index_factor_spelling found.0) found.1.now) }
     ensures exact { (due : List Part) → levels_of due ≡ levels →
-        Agrees (λ found. refusal (length text.now) due found.1.now) result
-        (refusal (length text.now) (AnIndexFactor ∷ due) tokens.now) }
+        Agrees (λ found. refusal (length source.now.text) due found.1.now) result
+        (refusal (length source.now.text) (AnIndexFactor ∷ due) tokens.now) }
 {
     let Some((token, rest)) = tokens.split_first() else {
-        return Err(ParseRefused::Syntax { at: text.len() });
+        return Err(ParseRefused::Syntax { at: source.len() });
     };
     let at = token.start;
     match token.symbol {
         Symbol::Number(value) => Ok((IndexFactor::Number { at, value }, rest)),
-        Symbol::Name => Ok((IndexFactor::Name(name_of(alloc, text, token)?), rest)),
+        Symbol::Name => Ok((IndexFactor::Name(source.name(token)), rest)),
         Symbol::OpenRound => {
             let levels = level_behind(token, levels)?;
-            let (inner, rest) = index_expression(alloc, text, rest, levels)?;
-            let rest = behind(text, rest, Symbol::CloseRound)?;
+            let (inner, rest) = index_expression(alloc, source, rest, levels)?;
+            let rest = behind(source, rest, Symbol::CloseRound)?;
             let inner = Box::new(alloc, inner)?;
             Ok((IndexFactor::Parenthesized { at, inner }, rest))
         }

@@ -1,10 +1,12 @@
 //! Laws of the grammar's definitions, each a function that does nothing and ensures the law.
-ghost use Rattle.std.specs.Prelude.{◌≡◌, ℕ, List, [], ◌∷◌, length, map, is_some, None};
+ghost use Rattle.std.specs.Prelude.{◌≡◌, ℕ, List, [], ◌∷◌, length, map, Contains, is_some, None};
 ghost use Rattle.arr_ast.specs.IndexTree.{Sum};
 ghost use Rattle.arr_ast.specs.ProgramTree.{ProgramTree};
+ghost use Rattle.arr_lex.specs.declared.token.Symbol.TheVariants.{Name};
 ghost use Rattle.arr_lex.specs.declared.token.Token.{Token};
 ghost use Rattle.arr_parse.specs.Grammar.{Part, Inputs};
 ghost use Rattle.arr_parse.specs.IndexSpelling.{sum_marks};
+ghost use Rattle.arr_parse.specs.Names.{TellsNames};
 ghost use Rattle.arr_parse.specs.Parsed.{IsTreeOf};
 ghost use Rattle.arr_parse.specs.ProgramSpelling.{program_marks};
 ghost use Rattle.arr_parse.specs.Reading.{refusal, OnlyNests};
@@ -38,6 +40,12 @@ pub fn refused_by_symbols()
     ensures { (end other_end : ℕ) (due : List Part) (tokens others : List Token)
         → map (λ token. token.symbol) tokens ≡ map (λ token. token.symbol) others →
         is_some (refusal end due tokens) ≡ is_some (refusal other_end due others) }
+{}
+
+/// Two names of a program have one number exactly where they have the same bytes.
+pub fn numbers_tell_names()
+    ensures { (text : List ℕ) (tokens : List Token) (a b : Token) → Contains tokens a
+        → Contains tokens b → a.symbol ≡ Name → b.symbol ≡ Name → TellsNames text tokens a b }
 {}
 
 /// Tokens that reading doesn't refuse have a tree.

@@ -11,6 +11,7 @@ ghost use Rattle.arr_parse.specs.Parsed.{IsSpelled, Agrees, IsTreeOf};
 
 use crate::input::inputs;
 use crate::refused::ParseRefused;
+use crate::source::Source;
 use crate::statement::{ended_value, statement};
 use arr_ast::{Program, TopStatement};
 use arr_lex::{Symbol, Token};
@@ -23,8 +24,9 @@ pub fn parse(alloc: Global, text: &[u8], tokens: &[Token]) -> Result<Program, Pa
     // It is refused exactly where reading refuses the tokens, unless memory runs out.
     ensures exact { Agrees (λ _. None) result (refusal (length text.now) (Inputs ∷ []) tokens.now) }
 {
-    let (inputs, rest) = inputs(alloc, text, tokens)?;
-    let statements = top_statements(alloc, text, rest)?;
+    let source = Source::new(alloc, text, tokens)?;
+    let (inputs, rest) = inputs(alloc, &source, tokens)?;
+    let statements = top_statements(alloc, &source, rest)?;
     Ok(Program {
         inputs,
         statements,
@@ -36,18 +38,18 @@ pub fn parse(alloc: Global, text: &[u8], tokens: &[Token]) -> Result<Program, Pa
 #[tactic(auto, using(crate::proofs::Due::of_programs))]
 fn top_statements(
     alloc: Global,
-    text: &[u8],
+    source: &Source,
     tokens: &[Token],
 ) -> Result<Vec<TopStatement>, ParseRefused>
     ensures spelled { IfOk result
-        (λ found. map (mark text.now) tokens.now ≡ flat_map top_statement_spelling found.items) }
+        (λ found. map (mark source.now) tokens.now ≡ flat_map top_statement_spelling found.items) }
     ensures exact { Agrees (λ _. None) result
-        (refusal (length text.now) (TopStatements ∷ []) tokens.now) }
+        (refusal (length source.now.text) (TopStatements ∷ []) tokens.now) }
 {
     let mut statements = Vec::new(alloc);
     let mut rest = tokens;
     'each: while !rest.is_empty() {
-        let (next, behind) = top_statement(alloc, text, rest)?;
+        let (next, behind) = top_statement(alloc, source, rest)?;
         statements.push(next)?;
         rest = behind;
     }
@@ -57,21 +59,21 @@ fn top_statements(
 // A statement of the top level, which is due.
 fn top_statement<'t>(
     alloc: Global,
-    text: &[u8],
+    source: &Source,
     tokens: &'t [Token],
 ) -> Result<(TopStatement, &'t [Token]), ParseRefused>
     ensures spelled { IfOk result
-        (λ found. IsSpelled text.now tokens.now (top_statement_spelling found.0) found.1.now) }
+        (λ found. IsSpelled source.now tokens.now (top_statement_spelling found.0) found.1.now) }
     ensures exact { (due : List Part) → levels_of due ≡ 0 →
-        Agrees (λ found. refusal (length text.now) due found.1.now) result
-        (refusal (length text.now) (ATopStatement ∷ due) tokens.now) }
+        Agrees (λ found. refusal (length source.now.text) due found.1.now) result
+        (refusal (length source.now.text) (ATopStatement ∷ due) tokens.now) }
 {
     if let Some((word, rest)) = output_word(tokens) {
-        let (value, rest) = ended_value(alloc, text, rest, 0)?;
+        let (value, rest) = ended_value(alloc, source, rest, 0)?;
         let at = word.start;
         return Ok((TopStatement::Output { at, value }, rest));
     }
-    let (inner, rest) = statement(alloc, text, tokens, 0)?;
+    let (inner, rest) = statement(alloc, source, tokens, 0)?;
     Ok((TopStatement::Inner(inner), rest))
 }
 

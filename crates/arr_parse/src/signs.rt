@@ -9,6 +9,7 @@ ghost use Rattle.arr_parse.specs.Reading.{levels, refusal};
 ghost use Rattle.arr_parse.specs.Parsed.{IsSpelled, Agrees, IsSkipped};
 
 use crate::refused::ParseRefused;
+use crate::source::Source;
 use arr_ast::Sign;
 use arr_lex::{Symbol, Token};
 
@@ -78,18 +79,18 @@ pub fn open_square(tokens: &[Token]) -> Option<(&Token, &[Token])>
 
 /// The `(` of a call, which is due.
 pub fn open_round<'t>(
-    text: &[u8],
+    source: &Source,
     tokens: &'t [Token],
 ) -> Result<(&'t Token, &'t [Token]), ParseRefused>
     ensures found { IfOk result (λ found. (tokens.now ≡ found.0.now ∷ found.1.now)
         × (found.0.now.symbol ≡ OpenRound)) }
     ensures no_argument { IfErr result (λ refused. (due : List Part) →
-        refusal (length text.now) (OneArgument ∷ due) tokens.now ≡ Some refused) }
+        refusal (length source.now.text) (OneArgument ∷ due) tokens.now ≡ Some refused) }
     ensures no_arguments { IfErr result (λ refused. (due : List Part) →
-        refusal (length text.now) (TwoArguments ∷ due) tokens.now ≡ Some refused) }
+        refusal (length source.now.text) (TwoArguments ∷ due) tokens.now ≡ Some refused) }
 {
     let Some((token, rest)) = tokens.split_first() else {
-        return Err(ParseRefused::Syntax { at: text.len() });
+        return Err(ParseRefused::Syntax { at: source.len() });
     };
     match token.symbol {
         Symbol::OpenRound => Ok((token, rest)),
@@ -99,19 +100,19 @@ pub fn open_round<'t>(
 
 /// The tokens behind a separator, which is due.
 pub fn behind<'t>(
-    text: &[u8],
+    source: &Source,
     tokens: &'t [Token],
     due: Symbol,
 ) -> Result<&'t [Token], ParseRefused>
     requires { is_the due due ≡ true }
     ensures spelled { IfOk result
-        (λ rest. IsSpelled text.now tokens.now (Separator due ∷ []) rest.now) }
+        (λ rest. IsSpelled source.now tokens.now (Separator due ∷ []) rest.now) }
     ensures exact { (others : List Part) → levels others ≤ 64 →
-        Agrees (λ rest. refusal (length text.now) others rest.now) result
-        (refusal (length text.now) (The due ∷ others) tokens.now) }
+        Agrees (λ rest. refusal (length source.now.text) others rest.now) result
+        (refusal (length source.now.text) (The due ∷ others) tokens.now) }
 {
     let Some((token, rest)) = tokens.split_first() else {
-        return Err(ParseRefused::Syntax { at: text.len() });
+        return Err(ParseRefused::Syntax { at: source.len() });
     };
     if token.symbol == due {
         Ok(rest)

@@ -14,9 +14,10 @@ use crate::expression::expression;
 use crate::index::index_expression;
 use crate::indices::maybe_indices;
 use crate::levels::level_behind;
-use crate::name::{declared_name, name_of};
+use crate::name::declared_name;
 use crate::refused::ParseRefused;
 use crate::signs::{begins_statement, behind};
+use crate::source::Source;
 use arr_ast::{Expression, Indices, Name, Statement};
 use arr_lex::{Symbol, Token};
 use std::alloc::Global;
@@ -26,34 +27,34 @@ use std::alloc::Global;
 #[tactic(auto, using(crate::proofs::StatementRows::of_statements))]
 pub fn statement<'t>(
     alloc: Global,
-    text: &[u8],
+    source: &Source,
     tokens: &'t [Token],
     levels: usize,
 ) -> Result<(Statement, &'t [Token]), ParseRefused>
     requires { levels ≤ 64 }
     ensures spelled { IfOk result
-        (λ found. IsSpelled text.now tokens.now (statement_spelling found.0) found.1.now) }
+        (λ found. IsSpelled source.now tokens.now (statement_spelling found.0) found.1.now) }
     ensures exact { (due : List Part) → levels_of due ≡ levels →
-        Agrees (λ found. refusal (length text.now) due found.1.now) result
-        (refusal (length text.now) (AStatement ∷ due) tokens.now) }
+        Agrees (λ found. refusal (length source.now.text) due found.1.now) result
+        (refusal (length source.now.text) (AStatement ∷ due) tokens.now) }
 {
     let Some((token, rest)) = tokens.split_first() else {
-        return Err(ParseRefused::Syntax { at: text.len() });
+        return Err(ParseRefused::Syntax { at: source.len() });
     };
     let at = token.start;
     match token.symbol {
         Symbol::Let => {
-            let (name, rest) = declared_name(alloc, text, rest)?;
-            let (value, rest) = assigned_value(alloc, text, rest, levels)?;
+            let (name, rest) = declared_name(source, rest)?;
+            let (value, rest) = assigned_value(alloc, source, rest, levels)?;
             Ok((Statement::Let { at, name, value }, rest))
         }
         Symbol::Name => {
-            let name = name_of(alloc, text, token)?;
-            let (indices, rest) = maybe_indices(alloc, text, rest, levels)?;
-            let (value, rest) = assigned_value(alloc, text, rest, levels)?;
+            let name = source.name(token);
+            let (indices, rest) = maybe_indices(alloc, source, rest, levels)?;
+            let (value, rest) = assigned_value(alloc, source, rest, levels)?;
             Ok((assignment(name, indices, value), rest))
         }
-        Symbol::For => counted_loop(alloc, text, token, rest, levels),
+        Symbol::For => counted_loop(alloc, source, token, rest, levels),
         _ => Err(ParseRefused::Syntax { at }),
     }
 }
@@ -76,38 +77,40 @@ fn assignment(name: Name, indices: Option<Indices>, value: Expression) -> Statem
 // `= e ;`
 fn assigned_value<'t>(
     alloc: Global,
-    text: &[u8],
+    source: &Source,
     tokens: &'t [Token],
     levels: usize,
 ) -> Result<(Expression, &'t [Token]), ParseRefused>
     requires { levels ≤ 64 }
-    ensures spelled { IfOk result (λ found. IsSpelled text.now tokens.now
-        (Separator Equals ∷ (expression_spelling found.0 ++ Separator Semicolon ∷ [])) found.1.now) }
+    ensures spelled { IfOk result (λ found. IsSpelled source.now tokens.now
+        (Separator Equals ∷ (expression_spelling found.0 ++ Separator Semicolon ∷ []))
+        found.1.now) }
     ensures exact { (due : List Part) → levels_of due ≡ levels →
-        Agrees (λ found. refusal (length text.now) due found.1.now) result
-        (refusal (length text.now) (The Equals ∷ AnExpression ∷ The Semicolon ∷ due) tokens.now) }
+        Agrees (λ found. refusal (length source.now.text) due found.1.now) result
+        (refusal (length source.now.text) (The Equals ∷ AnExpression ∷ The Semicolon ∷ due)
+        tokens.now) }
 {
-    let rest = behind(text, tokens, Symbol::Equals)?;
-    ended_value(alloc, text, rest, levels)
+    let rest = behind(source, tokens, Symbol::Equals)?;
+    ended_value(alloc, source, rest, levels)
 }
 
 /// `e ;`
 #[tactic(auto, using(crate::proofs::Rows::of_expressions))]
 pub fn ended_value<'t>(
     alloc: Global,
-    text: &[u8],
+    source: &Source,
     tokens: &'t [Token],
     levels: usize,
 ) -> Result<(Expression, &'t [Token]), ParseRefused>
     requires { levels ≤ 64 }
-    ensures spelled { IfOk result (λ found. IsSpelled text.now tokens.now
+    ensures spelled { IfOk result (λ found. IsSpelled source.now tokens.now
         (expression_spelling found.0 ++ Separator Semicolon ∷ []) found.1.now) }
     ensures exact { (due : List Part) → levels_of due ≡ levels →
-        Agrees (λ found. refusal (length text.now) due found.1.now) result
-        (refusal (length text.now) (AnExpression ∷ The Semicolon ∷ due) tokens.now) }
+        Agrees (λ found. refusal (length source.now.text) due found.1.now) result
+        (refusal (length source.now.text) (AnExpression ∷ The Semicolon ∷ due) tokens.now) }
 {
-    let (value, rest) = expression(alloc, text, tokens, levels)?;
-    let rest = behind(text, rest, Symbol::Semicolon)?;
+    let (value, rest) = expression(alloc, source, tokens, levels)?;
+    let rest = behind(source, rest, Symbol::Semicolon)?;
     Ok((value, rest))
 }
 
@@ -116,7 +119,7 @@ pub fn ended_value<'t>(
 #[tactic(auto, using(crate::proofs::StatementRows::of_statements))]
 fn counted_loop<'t>(
     alloc: Global,
-    text: &[u8],
+    source: &Source,
     word: &Token,
     tokens: &'t [Token],
     levels: usize,
@@ -124,20 +127,21 @@ fn counted_loop<'t>(
     requires word { word.now.symbol ≡ ForWord }
     requires within { levels ≤ 64 }
     ensures spelled { IfOk result
-        (λ found. IsSpelled text.now (word.now ∷ tokens.now) (statement_spelling found.0)
+        (λ found. IsSpelled source.now (word.now ∷ tokens.now) (statement_spelling found.0)
         found.1.now) }
     ensures exact { (due : List Part) → levels_of due ≡ levels →
-        Agrees (λ found. refusal (length text.now) due found.1.now) result
-        (refusal (length text.now) (AName ∷ The In ∷ AnIndex ∷ The Range ∷ AnIndex ∷ Block ∷ due)
+        Agrees (λ found. refusal (length source.now.text) due found.1.now) result
+        (refusal (length source.now.text)
+        (AName ∷ The In ∷ AnIndex ∷ The Range ∷ AnIndex ∷ Block ∷ due)
         tokens.now) }
 {
     let at = word.start;
-    let (name, rest) = declared_name(alloc, text, tokens)?;
-    let rest = behind(text, rest, Symbol::In)?;
-    let (low, rest) = index_expression(alloc, text, rest, levels)?;
-    let rest = behind(text, rest, Symbol::Range)?;
-    let (high, rest) = index_expression(alloc, text, rest, levels)?;
-    let (body, rest) = block(alloc, text, rest, levels)?;
+    let (name, rest) = declared_name(source, tokens)?;
+    let rest = behind(source, rest, Symbol::In)?;
+    let (low, rest) = index_expression(alloc, source, rest, levels)?;
+    let rest = behind(source, rest, Symbol::Range)?;
+    let (high, rest) = index_expression(alloc, source, rest, levels)?;
+    let (body, rest) = block(alloc, source, rest, levels)?;
     let counted = Statement::For {
         at,
         name,
@@ -153,26 +157,26 @@ fn counted_loop<'t>(
 #[tactic(auto, using(crate::proofs::StatementRows::of_statements))]
 fn block<'t>(
     alloc: Global,
-    text: &[u8],
+    source: &Source,
     tokens: &'t [Token],
     levels: usize,
 ) -> Result<(Vec<Statement>, &'t [Token]), ParseRefused>
     requires { levels ≤ 64 }
-    ensures spelled { IfOk result (λ found. IsSpelled text.now tokens.now
+    ensures spelled { IfOk result (λ found. IsSpelled source.now tokens.now
         (Separator OpenCurly ∷ (flat_map statement_spelling found.0.items ++ Separator CloseCurly
         ∷ [])) found.1.now) }
     ensures exact { (due : List Part) → levels_of due ≡ levels →
-        Agrees (λ found. refusal (length text.now) due found.1.now) result
-        (refusal (length text.now) (Block ∷ due) tokens.now) }
+        Agrees (λ found. refusal (length source.now.text) due found.1.now) result
+        (refusal (length source.now.text) (Block ∷ due) tokens.now) }
 {
     let Some((token, rest)) = tokens.split_first() else {
-        return Err(ParseRefused::Syntax { at: text.len() });
+        return Err(ParseRefused::Syntax { at: source.len() });
     };
     match token.symbol {
         Symbol::OpenCurly => {
             let levels = level_behind(token, levels)?;
-            let (body, rest) = statements(alloc, text, rest, levels)?;
-            let rest = behind(text, rest, Symbol::CloseCurly)?;
+            let (body, rest) = statements(alloc, source, rest, levels)?;
+            let rest = behind(source, rest, Symbol::CloseCurly)?;
             Ok((body, rest))
         }
         _ => Err(ParseRefused::Syntax { at: token.start }),
@@ -184,22 +188,22 @@ fn block<'t>(
 #[tactic(auto, using(crate::proofs::StatementRows::of_statements))]
 fn statements<'t>(
     alloc: Global,
-    text: &[u8],
+    source: &Source,
     tokens: &'t [Token],
     levels: usize,
 ) -> Result<(Vec<Statement>, &'t [Token]), ParseRefused>
     requires { levels ≤ 64 }
     ensures spelled { IfOk result
-        (λ found. IsSpelledUpTo text.now tokens.now (flat_map statement_spelling found.0.items)
+        (λ found. IsSpelledUpTo source.now tokens.now (flat_map statement_spelling found.0.items)
         found.1.now) }
     ensures exact { (due : List Part) → levels_of due ≡ levels →
-        Agrees (λ found. refusal (length text.now) due found.1.now) result
-        (refusal (length text.now) (Statements ∷ due) tokens.now) }
+        Agrees (λ found. refusal (length source.now.text) due found.1.now) result
+        (refusal (length source.now.text) (Statements ∷ due) tokens.now) }
 {
     let mut statements = Vec::new(alloc);
     let mut rest = tokens;
     'each: while begins_statement(rest) {
-        let (next, behind) = statement(alloc, text, rest, levels)?;
+        let (next, behind) = statement(alloc, source, rest, levels)?;
         statements.push(next)?;
         rest = behind;
     }

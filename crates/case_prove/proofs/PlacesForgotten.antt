@@ -81,7 +81,7 @@ mutual
 
   factor-alike : (scope : Names) (whole whole' : ℕ) (tree : index.Factor) → if_there (index_factor_value scope whole' (unplaced_index_factor tree)) ≡ if_there (index_factor_value scope whole tree)
   factor-alike scope whole whole' (index.Number at value) = within-alike whole whole' (pos value)
-  factor-alike scope whole whole' (index.Name at text) = turn_of-alike whole whole' at 0 (binding_of text scope)
+  factor-alike scope whole whole' (index.Name at number) = turn_of-alike whole whole' at 0 (binding_of number scope)
   factor-alike scope whole whole' (index.Parenthesized at inner) = sum-alike scope whole whole' inner
 
 -- ---- elements and bounds
@@ -119,8 +119,8 @@ bounds-alike scope low high =
 
 offset-alike : (name : NameTree) (indices : IndicesTree) (store : Store) → element_offset (unplaced_name name) (unplaced_indices indices) store ≡ element_offset name indices store
 offset-alike name indices store = λ i.
-    element_at-alike store.names name.at 0 indices (binding_of name.text store.names) i >>? λ place.
-    option_map shape_of (binding_of name.text store.names) >>? λ shape. Some (offset shape place)
+    element_at-alike store.names name.at 0 indices (binding_of name.number store.names) i >>? λ place.
+    option_map shape_of (binding_of name.number store.names) >>? λ shape. Some (offset shape place)
 
 -- ---- expressions
 
@@ -142,7 +142,7 @@ mutual
   value-alike : (tree : FactorTree) (store : Store) → factor_value (unplaced_factor tree) store ≡ factor_value tree store
   value-alike (Number at value) store = refl
   value-alike (Name name) store = refl
-  value-alike (Element name indices) store = λ i. offset-alike name indices store i >>? λ place. Some (record { shape = Scalar; items = element (numbers_of name.text store) place ∷ [] })
+  value-alike (Element name indices) store = λ i. offset-alike name indices store i >>? λ place. Some (record { shape = Scalar; items = element (numbers_of name.number store) place ∷ [] })
   value-alike (Negation at operand) store = λ i. value-alike operand store i >>? λ array. Some (opposite_of array)
   value-alike (Parenthesized at inner) store = expression-alike inner store
   value-alike (Single function at parenthesis argument) store = λ i. expression-alike argument store i >>? λ array. single_value function array.items array.shape
@@ -153,8 +153,8 @@ mutual
 
 mutual
   statement-alike : (tree : StatementTree) (store : Store) → after_statement (unplaced_statement tree) store ≡ after_statement tree store
-  statement-alike (Let at name value) store = λ i. expression-alike value store i >>? λ array. Some (with_name name.text (Value array.shape) array.items store)
-  statement-alike (Set name value) store = λ i. expression-alike value store i >>? λ array. Some (with_numbers name.text array.items store)
+  statement-alike (Let at name value) store = λ i. expression-alike value store i >>? λ array. Some (with_name name.number (Value array.shape) array.items store)
+  statement-alike (Set name value) store = λ i. expression-alike value store i >>? λ array. Some (with_numbers name.number array.items store)
   statement-alike (SetElement name indices value) store = λ i.
       offset-alike name indices store i >>? λ place. expression-alike value store i >>? λ array. Some (with_number name place (element array.items 0) store)
   statement-alike (For at name low high body) store = λ i.
@@ -183,7 +183,7 @@ inputs-alike : (trees : List InputTree) (numbers : List F) (store : Store) → s
 inputs-alike [] numbers store = refl
 inputs-alike (tree ∷ trees) numbers store =
     inputs-alike trees _ _
-    ∙ ap (λ shape. store_of trees (drop (size_of shape) numbers) (with_name tree.name.text (Value shape) (take (size_of shape) numbers) store)) (declared-alike tree.dimensions)
+    ∙ ap (λ shape. store_of trees (drop (size_of shape) numbers) (with_name tree.name.number (Value shape) (take (size_of shape) numbers) store)) (declared-alike tree.dimensions)
 
 unplaced-meaning : (tree : ProgramTree) (inputs : List F) → meaning (unplaced tree) inputs ≡ meaning tree inputs
 unplaced-meaning tree inputs =

@@ -6,9 +6,9 @@ use Rattle.arr_lex.specs.declared.token.Token.{Token}
 use Rattle.arr_lex.specs.Byte.{is_blank}
 use Rattle.arr_lex.specs.Lexing.{taken, with_front, token_first, tokens_from}
 use Rattle.arr_lex.specs.Moved.{moved_token, moved}
-use Rattle.arr_parse.specs.Mark.{part_of}
+use Rattle.arr_parse.specs.Mark.{part_of, word}
 use Rattle.arr_parse.specs.Parsed.{IsTreeOf}
-use Rattle.arr_parse.specs.Unplaced.{word, SameWords, unplaced}
+use Rattle.arr_parse.specs.Unplaced.{SameWords, unplaced}
 use Rattle.arr_compile.specs.Programs.{IsRead}
 use Rattle.case_prove.specs.Blank.{AreBlank, IsWhiteSpace}
 use Rattle.case_prove.proofs.TokensWithin.{AllWithin, tokens-within}

@@ -2,7 +2,7 @@
 ghost use Rattle.std.specs.Prelude.{◌≤◌, length};
 
 use crate::gates::{add_node, mul_node};
-use arr_ast::Program;
+use arr_ast::{Factor, Program, Statement, TopStatement};
 use arr_check::{CheckKind, CheckRefused, check};
 use arr_lex::tokens;
 use arr_lower::lower;
@@ -24,6 +24,25 @@ pub fn tree(alloc: Global, text: &[u8]) -> Result<Program, Fail>
         Ok(program) => Ok(program),
         Err(_) => Err(Fail::new("no tree")),
     }
+}
+
+#[test]
+fn numbers_a_name_by_its_first_token(rt: HostRuntime) -> Result<(), Fail> {
+    let program = tree(rt.alloc(), b"input ab; let c = ab; output c;")?;
+    let Some(input) = program.inputs.first() else {
+        return Err(Fail::new("no input"));
+    };
+    assert_eq!(rt; (input.name.at, input.name.number), (6, 1));
+    let Some(TopStatement::Inner(Statement::Let { name, value, .. })) = program.statements.first()
+    else {
+        return Err(Fail::new("no let"));
+    };
+    assert_eq!(rt; (name.at, name.number), (14, 4));
+    let Factor::Name(read) = &value.first.first else {
+        return Err(Fail::new("no name"));
+    };
+    assert_eq!(rt; (read.at, read.number), (18, 1));
+    Ok(())
 }
 
 #[test]

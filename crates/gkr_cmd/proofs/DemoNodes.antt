@@ -1,5 +1,5 @@
 -- The nodes of the programs of `demo`, and that they are laid out within the limits of every circuit.
-use Rattle.std.proofs.Common.{◌≡◌, ℕ, ◌+◌, ◌-◌, ◌*◌, ◌<◌, ◌≤◌, ◌^◌, Bool, true, false, not, nat_lt, le-leb, ◌&&◌, ◌==◌, List, [], ◌∷◌, ◌++◌, length, map, codes, Option, Some, None, refl, ap, arith, All}
+use Rattle.std.proofs.Common.{◌≡◌, ℕ, ◌+◌, ◌-◌, ◌*◌, ◌<◌, ◌≤◌, ◌^◌, Bool, true, false, not, nat_lt, le-leb, ◌&&◌, ◌==◌, List, [], ◌∷◌, ◌++◌, length, map, Option, Some, None, refl, ap, arith, All}
 use Rattle.std.specs.Prelude.{if◌then◌else◌}
 use Rattle.std.specs.List.{range_with_len, filter}
 use Rattle.std.proofs.Math.Nat.{mul-le-mul}
@@ -54,7 +54,7 @@ demo_nodes n = record { inputs = count n; nodes = (total n).nodes; outputs = (to
 
 store : ℕ → NodeStore
 store n = record {
-  names = (codes "a", Value (Matrix n n)) ∷ (codes "b", Value (Matrix n n)) ∷ [];
+  names = (1, Value (Matrix n n)) ∷ (10, Value (Matrix n n)) ∷ [];
   items = lefts n ∷ rights n ∷ [];
 }
 

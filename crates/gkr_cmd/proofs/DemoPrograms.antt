@@ -26,14 +26,14 @@ square_of words digits = concat (words ∷ digits ∷ codes "][" ∷ digits ∷ 
 program_of : List ℕ → List ℕ
 program_of digits = concat (square_of (codes "input a[") digits ∷ square_of (codes "input b[") digits ∷ codes "output sum(matmul(a,b));" ∷ [])
 
-abbrev name_at : ℕ → List ℕ → NameTree
-name_at at text = record { at = at; text = text }
+abbrev name_at : ℕ → ℕ → NameTree
+name_at at number = record { at = at; number = number }
 
 abbrev size_at : ℕ → ℕ → Dimension
 size_at at n = record { at = at; size = n }
 
 -- the declaration of a square matrix that stands at a place, where its size has so many digits
-abbrev pub square_at : ℕ → List ℕ → ℕ → ℕ → InputTree
+abbrev pub square_at : ℕ → ℕ → ℕ → ℕ → InputTree
 square_at at name n digits = record {
   at = at;
   name = name_at (at + 6) name;
@@ -41,21 +41,21 @@ square_at at name n digits = record {
 }
 
 -- a name alone
-abbrev pub alone : ℕ → List ℕ → ExpressionTree
+abbrev pub alone : ℕ → ℕ → ExpressionTree
 alone at name = ExpressionOf (TermOf (Name (name_at at name)) NoFactor) NoTerm
 
 -- the sum of the elements of a product of matrices, from a place on
 abbrev pub total_at : ℕ → ExpressionTree
 total_at at =
     ExpressionOf (TermOf (Single single.Sum at (at + 3)
-    (ExpressionOf (TermOf (Pair pair.MatMul (at + 4) (at + 10) (alone (at + 11) (codes "a")) (alone (at + 13) (codes "b"))) NoFactor) NoTerm)) NoFactor) NoTerm
+    (ExpressionOf (TermOf (Pair pair.MatMul (at + 4) (at + 10) (alone (at + 11) 1) (alone (at + 13) 10)) NoFactor) NoTerm)) NoFactor) NoTerm
 
 -- the program's tree, where a declaration is so long
 abbrev pub tree_of : ℕ → ℕ → ProgramTree
 tree_of n digits =
     let long = 13 + 2 * digits in
     record {
-      inputs = square_at 0 (codes "a") n digits ∷ square_at long (codes "b") n digits ∷ [];
+      inputs = square_at 0 1 n digits ∷ square_at long 10 n digits ∷ [];
       statements = Output (2 * long) (total_at (2 * long + 7)) ∷ [];
       end = 2 * long + 24;
     }

@@ -1,8 +1,13 @@
-use Rattle.std.proofs.Common.{◌∙◌}
+use Rattle.std.proofs.Common.{ℕ, List, [], ◌∷◌, ◌++◌, Option, Some, sym, ap, subst, ◌∙◌, set}
+use Rattle.arr_check.specs.Places.{Answers}
+use Rattle.arr_check.specs.Scope.{Names, place_of}
 use Rattle.arr_check.proofs.Places.{declared_new}
 use Rattle.arr_check.proofs.scope.Scope.declare_new.Goals as goal
 
-pub invariant_of-self-in-Ok : goal.invariant_of-self-in-Ok
-invariant_of-self-in-Ok c =
-    declared_new c.self.inside.places c.insert.new.self _ _ _ _ _ _ c.len-place.result c.self.invariant c.self.view_is c.in_ok-push.ensures.items c.in_ok-name.ensures.items c.in_ok-key.ensures.items
-    (c.len-place.ensures ∙ c.self.inside.names.ok.0) c.requires c.in-Ok.ensures.updates
+pub invariant_of-self-2 : goal.invariant_of-self-2
+invariant_of-self-2 c =
+    let place = c.len-place.ensures ∙ c.self.inside.names.ok.0 in
+    subst (λ (names : Names). Answers c.set_place.new.places.items names) (sym c.in_ok-push.ensures.items)
+    (subst (λ (places : List (Option ℕ)). Answers places (c.self.inside.names.items ++ (c.args.name, c.args.binding) ∷ [])) (sym (c.set_place.ensures ∙ ap (λ (place : ℕ). set c.make_room.new.places.items c.args.name (Some place)) place))
+    (declared_new c.self.inside.names.items c.args.name c.args.binding c.make_room.new.places.items (λ name. c.in_ok-make_room.ensures.same name ∙ c.self.invariant name)
+    (ap (place_of c.args.name) c.self.view_is ∙ c.requires) c.in_ok-make_room.ensures.room))
