@@ -144,22 +144,25 @@ finish_once capacity js (e ∷ es) zero (suc q) j ok a b = absurd (not_finished_
 finish_once capacity js (e ∷ es) (suc p) zero j ok a b = absurd (not_finished_again capacity js e es p j ok b a)
 finish_once capacity js (e ∷ es) (suc p) (suc q) j ok a b = ap suc (finish_once capacity (after js e) es p q j (and_right (is_step capacity js e) (are_steps capacity (after js e) es) ok) a b)
 
--- a job that runs was taken
-ran_set : (js : List JobState) (i j : ℕ) (s : JobState) → (s ≡ Running → ⊥) → slice_get (set js i s) j ≡ Some Running → slice_get js j ≡ Some Running
-ran_set [] i j s n at = at
-ran_set (x ∷ js) zero zero s n at = absurd (n (some_eq s Running at))
-ran_set (x ∷ js) zero (suc j) s n at = at
-ran_set (x ∷ js) (suc i) zero s n at = at
-ran_set (x ∷ js) (suc i) (suc j) s n at = ran_set js i j s n at
+-- a job is in a state that no change gave it
+was_set : (t : JobState) (js : List JobState) (i j : ℕ) (s : JobState) → (s ≡ t → ⊥) → slice_get (set js i s) j ≡ Some t → slice_get js j ≡ Some t
+was_set t [] i j s n at = at
+was_set t (x ∷ js) zero zero s n at = absurd (n (some_eq s t at))
+was_set t (x ∷ js) zero (suc j) s n at = at
+was_set t (x ∷ js) (suc i) zero s n at = at
+was_set t (x ∷ js) (suc i) (suc j) s n at = was_set t js i j s n at
 
+-- the job that was submitted last is queued
+was_there : (t : JobState) (js : List JobState) (j : ℕ) → (Queued ≡ t → ⊥) → slice_get (js ++ Queued ∷ []) j ≡ Some t → slice_get js j ≡ Some t
+was_there t js j n at = dite (ℕ_discrete j (length js)) (λ (is : j ≡ length js). absurd (n (some_eq Queued t (sym (get_last js Queued) ∙ ap (slice_get (js ++ Queued ∷ [])) (sym is) ∙ at))))
+    (λ (no : j ≢ length js). sym (get_snoc_else js j Queued no) ∙ at)
+
+-- a job that runs was taken
 ran_before : (js : List JobState) (e : Entry) (j : ℕ) → ¬ (e ≡ Take j) → slice_get (after js e) j ≡ Some Running → slice_get js j ≡ Some Running
-ran_before js (Submit i) j n at = dite (ℕ_discrete j (length js)) (λ (is : j ≡ length js). absurd (not (some_eq Queued Running (sym (get_last js Queued) ∙ ap (slice_get (js ++ Queued ∷ [])) (sym is) ∙ at))))
-    (λ (no : j ≢ length js). sym (get_snoc_else js j Queued no) ∙ at) where
-      not : Queued ≡ Running → ⊥
-      not e = cc
+ran_before js (Submit i) j n at = was_there Running js j (λ e. cc) at
 ran_before js (Take i) j n at = sym (get_set_else js i j Running (λ e. n (ap (λ (k : ℕ). Take k) (sym e)))) ∙ at
-ran_before js (Finish i) j n at = ran_set js i j Done (λ e. cc) at
-ran_before js (Withdraw i) j n at = ran_set js i j Withdrawn (λ e. cc) at
+ran_before js (Finish i) j n at = was_set Running js i j Done (λ e. cc) at
+ran_before js (Withdraw i) j n at = was_set Running js i j Withdrawn (λ e. cc) at
 
 is_take : (e : Entry) (j : ℕ) → (e ≡ Take j) ⊎ ¬ (e ≡ Take j)
 is_take (Take i) j = dite (ℕ_discrete i j) (λ (is : i ≡ j). inl (ap (λ (k : ℕ). Take k) is)) (λ (no : i ≢ j). inr (λ e. no (same i j e))) where
@@ -176,3 +179,46 @@ was_taken_at js (e ∷ es) j at = ⊎_elim (λ (r : slice_get (after js e) j ≡
 
 pub running_taken : (es : List Entry) (j : ℕ) → slice_get (replay [] es) j ≡ Some Running → (p : ℕ) × (slice_get es p ≡ Some (Take j))
 running_taken es j at = ⊎_elim (λ (r : slice_get [] j ≡ Some Running). absurd (no_some Running r)) (λ (f : (p : ℕ) × (slice_get es p ≡ Some (Take j))). f) (was_taken_at [] es j at)
+
+-- a job is withdrawn exactly where an entry withdraws it
+abbrev is_withdrawn : JobState → Bool
+is_withdrawn Queued = false
+is_withdrawn Running = false
+is_withdrawn Done = false
+is_withdrawn Withdrawn = true
+
+withdrawn_is : (s : JobState) → is_withdrawn s ≡ true → s ≡ Withdrawn
+withdrawn_is Withdrawn e = refl
+withdrawn_is Queued e = absurd (true≢false (sym e))
+withdrawn_is Running e = absurd (true≢false (sym e))
+withdrawn_is Done e = absurd (true≢false (sym e))
+
+pub withdraw_withdrawn : (capacity : ℕ) (js : List JobState) (es : List Entry) (q j : ℕ) → are_steps capacity js es ≡ true → slice_get es q ≡ Some (Withdraw j) → slice_get (replay js es) j ≡ Some Withdrawn
+withdraw_withdrawn capacity js [] q j ok at = absurd (no_some (Withdraw j) at)
+withdraw_withdrawn capacity js (e ∷ es) (suc q) j ok at = withdraw_withdrawn capacity (after js e) es q j (and_right (is_step capacity js e) (are_steps capacity (after js e) es) ok) at
+withdraw_withdrawn capacity js (e ∷ es) zero j ok at = let is = some_eq e (Withdraw j) at in
+    let queued = withdraw_queued capacity js j (ap (is_step capacity js) (sym is) ∙ and_left (is_step capacity js e) (are_steps capacity (after js e) es) ok) in
+    let now : slice_get (after js e) j ≡ Some Withdrawn = ap (λ (x : Entry). slice_get (after js x) j) is ∙ get_set_same js j Withdrawn (get_within js Queued j queued) in
+    passes_is is_withdrawn Withdrawn (slice_get (replay (after js e) es) j) withdrawn_is (lasts_on is_withdrawn refl (λ r. absurd (true≢false (sym r))) capacity (after js e) es j (and_right (is_step capacity js e) (are_steps capacity (after js e) es) ok) (ap (passes is_withdrawn) now))
+
+withdrawn_before : (js : List JobState) (e : Entry) (j : ℕ) → ¬ (e ≡ Withdraw j) → slice_get (after js e) j ≡ Some Withdrawn → slice_get js j ≡ Some Withdrawn
+withdrawn_before js (Submit i) j n at = was_there Withdrawn js j (λ e. cc) at
+withdrawn_before js (Take i) j n at = was_set Withdrawn js i j Running (λ e. cc) at
+withdrawn_before js (Finish i) j n at = was_set Withdrawn js i j Done (λ e. cc) at
+withdrawn_before js (Withdraw i) j n at = sym (get_set_else js i j Withdrawn (λ e. n (ap (λ (k : ℕ). Withdraw k) (sym e)))) ∙ at
+
+is_withdraw : (e : Entry) (j : ℕ) → (e ≡ Withdraw j) ⊎ ¬ (e ≡ Withdraw j)
+is_withdraw (Withdraw i) j = dite (ℕ_discrete i j) (λ (is : i ≡ j). inl (ap (λ (k : ℕ). Withdraw k) is)) (λ (no : i ≢ j). inr (λ e. no (same i j e))) where
+  same : (i j : ℕ) → Withdraw i ≡ Withdraw j → i ≡ j
+  same i j e = cc
+is_withdraw (Submit i) j = inr (λ e. cc)
+is_withdraw (Take i) j = inr (λ e. cc)
+is_withdraw (Finish i) j = inr (λ e. cc)
+
+was_withdrawn_at : (js : List JobState) (es : List Entry) (j : ℕ) → slice_get (replay js es) j ≡ Some Withdrawn → (slice_get js j ≡ Some Withdrawn) ⊎ ((p : ℕ) × (slice_get es p ≡ Some (Withdraw j)))
+was_withdrawn_at js [] j at = inl at
+was_withdrawn_at js (e ∷ es) j at = ⊎_elim (λ (r : slice_get (after js e) j ≡ Some Withdrawn). ⊎_elim (λ (t : e ≡ Withdraw j). inr (0, ap (λ (x : Entry). Some x) t)) (λ (n : ¬ (e ≡ Withdraw j)). inl (withdrawn_before js e j n r)) (is_withdraw e j))
+    (λ (f : (p : ℕ) × (slice_get es p ≡ Some (Withdraw j))). inr (suc f.0, f.1)) (was_withdrawn_at (after js e) es j at)
+
+pub withdrawn_withdraws : (es : List Entry) (j : ℕ) → slice_get (replay [] es) j ≡ Some Withdrawn → (p : ℕ) × (slice_get es p ≡ Some (Withdraw j))
+withdrawn_withdraws es j at = ⊎_elim (λ (r : slice_get [] j ≡ Some Withdrawn). absurd (no_some Withdrawn r)) (λ (f : (p : ℕ) × (slice_get es p ≡ Some (Withdraw j))). f) (was_withdrawn_at [] es j at)

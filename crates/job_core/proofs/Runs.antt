@@ -7,7 +7,7 @@ use Rattle.job_core.specs.declared.entry.Entry.{Entry}
 use Rattle.job_core.specs.declared.entry.Entry.TheVariants.{Submit, Take, Finish, Withdraw}
 use Rattle.job_core.specs.declared.entry.JobState.{JobState}
 use Rattle.job_core.specs.declared.entry.JobState.TheVariants.{Queued, Running, Done, Withdrawn}
-use Rattle.job_core.specs.JobMachine.{is_queued, is_running, passes, before_queued, is_step, after, are_steps, replay}
+use Rattle.job_core.specs.JobMachine.{is_queued, is_running, passes, before_queued, is_step, after, are_steps, replay, withdrawals}
 use Rattle.job_core.proofs.Places.{no_some, some_here, some_eq}
 
 pub and_left : (a b : Bool) → (a && b) ≡ true → a ≡ true
@@ -163,7 +163,7 @@ submit_once capacity js (e ∷ es) zero (suc q) j ok a b = absurd (not_again cap
 submit_once capacity js (e ∷ es) (suc p) zero j ok a b = absurd (not_again capacity js e es p j ok b a)
 submit_once capacity js (e ∷ es) (suc p) (suc q) j ok a b = ap suc (submit_once capacity (after js e) es p q j (and_right (is_step capacity js e) (are_steps capacity (after js e) es) ok) a b)
 
-no_fewer_on : (capacity : ℕ) (js : List JobState) (es : List Entry) → length js ≤ length (replay js es)
+pub no_fewer_on : (capacity : ℕ) (js : List JobState) (es : List Entry) → length js ≤ length (replay js es)
 no_fewer_on capacity js [] = omega arith
 no_fewer_on capacity js (e ∷ es) = let a = no_fewer_on capacity (after js e) es in let b = no_fewer js e in omega arith
 
@@ -192,21 +192,31 @@ no_job_queued (x ∷ js) none (suc j) at = no_job_queued js (later x js none) j 
   later Done js none = omega (arith, none)
   later Withdrawn js none = omega (arith, none)
 
--- how many jobs were withdrawn
-abbrev pub withdrawn : List JobState → ℕ
-withdrawn [] = 0
-withdrawn (Withdrawn ∷ js) = suc (withdrawn js)
-withdrawn (Queued ∷ js) = withdrawn js
-withdrawn (Running ∷ js) = withdrawn js
-withdrawn (Done ∷ js) = withdrawn js
+-- 1 for a job that was withdrawn
+abbrev withdrawn_one : JobState → ℕ
+withdrawn_one Queued = 0
+withdrawn_one Running = 0
+withdrawn_one Done = 0
+withdrawn_one Withdrawn = 1
 
-all_weigh : (js : List JobState) → ((j : ℕ) → ¬ (slice_get js j ≡ Some Queued)) → ((j : ℕ) → ¬ (slice_get js j ≡ Some Running)) → sum_of weight js + withdrawn js ≡ 3 * length js
+all_weigh : (js : List JobState) → ((j : ℕ) → ¬ (slice_get js j ≡ Some Queued)) → ((j : ℕ) → ¬ (slice_get js j ≡ Some Running)) → sum_of weight js + sum_of withdrawn_one js ≡ 3 * length js
 all_weigh [] q r = refl
 all_weigh (Queued ∷ js) q r = absurd (q 0 refl)
 all_weigh (Running ∷ js) q r = absurd (r 0 refl)
 all_weigh (Done ∷ js) q r = let i = all_weigh js (λ j e. q (suc j) e) (λ j e. r (suc j) e) in omega arith
 all_weigh (Withdrawn ∷ js) q r = let i = all_weigh js (λ j e. q (suc j) e) (λ j e. r (suc j) e) in omega arith
 
--- Where each job is done or withdrawn, a run has three entries a job, and one less for each that was withdrawn.
-pub three_less : (capacity : ℕ) (es : List Entry) → are_steps capacity [] es ≡ true → ((j : ℕ) → ¬ (slice_get (replay [] es) j ≡ Some Queued)) → ((j : ℕ) → ¬ (slice_get (replay [] es) j ≡ Some Running)) → length es + withdrawn (replay [] es) ≡ 3 * length (replay [] es)
-three_less capacity es ok q r = let a = weighs capacity [] es ok in let z = sum_none weight in let b = all_weigh (replay [] es) q r in omega arith
+withdraws_more : (capacity : ℕ) (js : List JobState) (e : Entry) (es : List Entry) → is_step capacity js e ≡ true → sum_of withdrawn_one (after js e) + withdrawals es ≡ sum_of withdrawn_one js + withdrawals (e ∷ es)
+withdraws_more capacity js (Submit j) es ok = let z = sum_snoc withdrawn_one js Queued in omega arith
+withdraws_more capacity js (Take j) es ok = let z = sum_set withdrawn_one js j Queued Running (take_queued capacity js j ok) in omega arith
+withdraws_more capacity js (Finish j) es ok = let z = sum_set withdrawn_one js j Running Done (finish_running capacity js j ok) in omega arith
+withdraws_more capacity js (Withdraw j) es ok = let z = sum_set withdrawn_one js j Queued Withdrawn (withdraw_queued capacity js j ok) in omega arith
+
+withdraws : (capacity : ℕ) (js : List JobState) (es : List Entry) → are_steps capacity js es ≡ true → sum_of withdrawn_one (replay js es) ≡ sum_of withdrawn_one js + withdrawals es
+withdraws capacity js [] ok = omega arith
+withdraws capacity js (e ∷ es) ok = let a = withdraws_more capacity js e es (and_left (is_step capacity js e) (are_steps capacity (after js e) es) ok) in
+    let b = withdraws capacity (after js e) es (and_right (is_step capacity js e) (are_steps capacity (after js e) es) ok) in omega arith
+
+-- Where each job is done or withdrawn, a run has three entries a job, and one less for each that it withdraws.
+pub three_less : (capacity : ℕ) (es : List Entry) → are_steps capacity [] es ≡ true → ((j : ℕ) → ¬ (slice_get (replay [] es) j ≡ Some Queued)) → ((j : ℕ) → ¬ (slice_get (replay [] es) j ≡ Some Running)) → length es + withdrawals es ≡ 3 * length (replay [] es)
+three_less capacity es ok q r = let a = weighs capacity [] es ok in let z = sum_none weight in let b = all_weigh (replay [] es) q r in let c = withdraws capacity [] es ok in let y = sum_none withdrawn_one in omega arith

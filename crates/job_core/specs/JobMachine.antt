@@ -1,5 +1,5 @@
 -- The machine of jobs: which entries are steps, and where they lead.
-use Rattle.std.specs.Prelude.{◌≡◌, ◌<◌, ℕ, Bool, true, false, ◌&&◌, ◌==◌, ltb, List, [], ◌∷◌, ◌++◌, length, Option, Some, None, Result, MatchResult, slice_get, slice_set, get_or}
+use Rattle.std.specs.Prelude.{◌≡◌, ◌<◌, ℕ, suc, Bool, true, false, ◌&&◌, ◌==◌, ltb, List, [], ◌∷◌, ◌++◌, length, Option, Some, None, Result, MatchResult, slice_get, slice_set, get_or}
 use Rattle.std.specs.List.{position_or_len}
 use Rattle.job_core.specs.declared.entry.Entry.{Entry}
 use Rattle.job_core.specs.declared.entry.Entry.TheVariants.{Submit, Take, Finish, Withdraw}
@@ -59,3 +59,11 @@ are_steps capacity js (e ∷ es) = is_step capacity js e && are_steps capacity (
 abbrev pub replay : List JobState → List Entry → List JobState
 replay js [] = js
 replay js (e ∷ es) = replay (after js e) es
+
+-- how many of the entries withdraw a job
+abbrev pub withdrawals : List Entry → ℕ
+withdrawals [] = 0
+withdrawals (Submit j ∷ es) = withdrawals es
+withdrawals (Take j ∷ es) = withdrawals es
+withdrawals (Finish j ∷ es) = withdrawals es
+withdrawals (Withdraw j ∷ es) = suc (withdrawals es)
