@@ -69,7 +69,7 @@ module _ {E : Type 0} where
   pub total_longer : (f : Option E → ℕ) (a h : List E) (mine : List ℕ) → IsPrefix a h → Within a mine → total (λ p. f (slice_get h p)) mine ≡ total (λ p. f (slice_get a p)) mine
   total_longer f a h mine pre w = total_same (λ p. f (slice_get h p)) (λ p. f (slice_get a p)) mine (λ y m. dite (dec_le (length a) y) (λ (far : length a ≤ y). let z = w y far in absurd (omega arith)) (λ (no : ¬ (length a ≤ y)). ap f (same_front a h y pre (lt_of_not-le no))))
 
-  total_more : (f : Option E → ℕ) (a h : List E) (e : E) (mine : List ℕ) → IsPrefix a h → Within a mine → total (λ p. f (slice_get (h ++ e ∷ []) p)) (mine ++ length h ∷ []) ≡ total (λ p. f (slice_get a p)) mine + f (Some e)
+  pub total_more : (f : Option E → ℕ) (a h : List E) (e : E) (mine : List ℕ) → IsPrefix a h → Within a mine → total (λ p. f (slice_get (h ++ e ∷ []) p)) (mine ++ length h ∷ []) ≡ total (λ p. f (slice_get a p)) mine + f (Some e)
   total_more f a h e mine pre w = let s = total_snoc (λ (p : ℕ). f (slice_get (h ++ e ∷ []) p)) mine (length h) in let t = total_longer f a (h ++ e ∷ []) mine (prefix_more a h (e ∷ []) pre) w in
       let l : f (slice_get (h ++ e ∷ []) (length h)) ≡ f (Some e) = ap f (get_last h e) in omega arith
 
@@ -319,7 +319,7 @@ total_put f x (y ∷ l) = by_test (ltb x y) (total_put f x l) where
   by_test true i = refl
   by_test false i = omega arith
 
-total_unite : (f : ℕ → ℕ) (a b : List ℕ) → total f (unite a b) ≡ total f a + total f b
+pub total_unite : (f : ℕ → ℕ) (a b : List ℕ) → total f (unite a b) ≡ total f a + total f b
 total_unite f a [] = omega arith
 total_unite f a (y ∷ b) = let p = total_put f y (unite a b) in let i = total_unite f a b in omega arith
 

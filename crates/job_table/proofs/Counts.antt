@@ -36,7 +36,7 @@ head_once x l = grind (arith, nat_tests)
 tail_once : (x y : ℕ) (l : List ℕ) → 1 ≤ times y l → 1 ≤ times y (x ∷ l)
 tail_once x y l h = grind (arith, nat_tests)
 
-total_none : (f : ℕ → ℕ) (mine : List ℕ) → ((y : ℕ) → f y ≡ 0) → total f mine ≡ 0
+pub total_none : (f : ℕ → ℕ) (mine : List ℕ) → ((y : ℕ) → f y ≡ 0) → total f mine ≡ 0
 total_none f [] h = refl
 total_none f (x ∷ l) h = let a = h x in let b = total_none f l h in omega arith
 
