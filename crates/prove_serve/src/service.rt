@@ -1,34 +1,41 @@
 // All threads of a service.
-ghost use Rattle.std.specs.Prelude.{◌≡◌, ℕ, ◌<◌, ◌≤◌, ◌+◌, ◌*◌, ◌^◌, ◌≢◌, ◌⊎◌, Some, length, slice_get, vec_len, IfOk};
+ghost use Rattle.std.specs.Prelude.{◌≡◌, ℕ, ◌<◌, ◌≤◌, ◌+◌, ◌*◌, ◌^◌, ◌≢◌, ◌⊎◌, true, [], ◌∷◌, ◌++◌, map, Some, length, slice_get, vec_len, vec_capacity, IfOk};
 ghost use Rattle.std.specs.Thread.{IsSync, IsSend};
+ghost use Rattle.job_table.specs.History.{entries_of};
 ghost use Rattle.job_table.specs.Passes.{IsPassOf, NoneQueued};
-ghost use Rattle.prove_serve.specs.Script.{AreInPlace, AreDealt, AreOf, AreOutcomes, AreVacant, ArePlaced, IsPut, plain};
-ghost use Rattle.prove_serve.specs.Sound.{SubmitsOf, IsServed};
+ghost use Rattle.prove_serve.specs.Script.{AreInPlace, AreDuties, IsDuty, AreOutcomes, AreVacant, ArePlaced, IsPut, plain};
+ghost use Rattle.prove_serve.specs.Sound.{ActsFor, HasDone, HasSubmitted, IsServed, submitted_by};
+ghost use Rattle.prove_serve.specs.History.{IsHistoryOf};
+ghost use Rattle.prove_serve.specs.Told.{AreTold, place_of, told};
 
 use crate::job::{Job, Reply};
-use crate::script::{dealt, numbered};
+use crate::outcome::{HistoryOutcome, Run};
+use crate::script::{Duty, dealt, numbered, unmarked};
 use crate::work::CaseWork;
 use crate::worker::{client, drain, member};
-use job_table::{Closed, Fits, JobTable, Outcome, Pass, Seen};
+use job_table::{Closed, Entry, Event, Fits, JobTable, Outcome, Pass, Seen};
 use std::alloc::{AllocError, Global};
 use std::snapshot::Snapshot;
 use std::sync::Wait;
 use std::sync::atomic::AtomicU64;
 use std::thread::{Threads, join};
 
-// The last list.
-fn last<C>(lists: &mut Vec<Vec<Job<C>>>, script: &Snapshot<Vec<Job<C>>>) -> Vec<Job<C>>
-    requires some { 0 < vec_len lists.old }
-    requires lists { AreDealt script.now.value.items lists.old.items }
-    ensures jobs { AreOf script.now.value.items result.items }
-    ensures fewer { vec_len lists.new + 1 ≡ vec_len lists.old }
-    ensures lists { AreDealt script.now.value.items lists.new.items }
+// The last thread's duty.
+fn last<C>(duties: &mut Vec<Duty<C>>, clients: u32, script: &Snapshot<Vec<Job<C>>>) -> Duty<C>
+    requires some { 0 < vec_len duties.old }
+    requires duties { AreDuties script.now.value.items clients duties.old.items }
+    ensures duty { IsDuty script.now.value.items result }
+    ensures alone { clients ≤ vec_len duties.new → result.jobs.items ≡ [] }
+    ensures fewer { vec_len duties.new + 1 ≡ vec_len duties.old }
+    ensures items { duties.old.items ≡ duties.new.items ++ result ∷ [] }
+    ensures duties { AreDuties script.now.value.items clients duties.new.items }
 {
+    let _ = clients;
     let _ = script;
-    let Some(jobs) = lists.pop() else {
+    let Some(duty) = duties.pop() else {
         unreachable!()
     };
-    jobs
+    duty
 }
 
 // A pass for one thread more.
@@ -39,18 +46,20 @@ fn part<C, A: Fits<C>>(
 ) -> Pass<Job<C>, Reply<A>>
     requires of { IsPassOf table.now pass.old }
     requires shares { 1 < pass.old.shares }
-    requires submits { SubmitsOf script.now.value.items pass.old }
+    requires acts { ActsFor script.now.value.items pass.old }
+    requires none { submitted_by pass.old ≡ 0 }
     ensures of { IsPassOf table.now pass.new × IsPassOf table.now result }
     ensures shares { (pass.new.shares + 1 ≡ pass.old.shares) × (result.shares ≡ 1) }
     ensures held { (pass.new.held ≡ pass.old.held) × (result.held ≡ 0) }
-    ensures submits { SubmitsOf script.now.value.items pass.new
-        × SubmitsOf script.now.value.items result }
+    ensures acts { ActsFor script.now.value.items pass.new
+        × ActsFor script.now.value.items result }
+    ensures none { (submitted_by pass.new ≡ 0) × (submitted_by result ≡ 0) }
 {
     let _ = script;
     table.split(pass, 1)
 }
 
-// Runs a thread for each list of jobs. Those of clients come first, and the provers wait until these have submitted.
+// Runs a thread for each duty. Those of clients come first, and the provers wait until these have submitted.
 #[cycle(threads)]
 fn spread<
     R: Threads + Wait + Sync,
@@ -62,7 +71,7 @@ fn spread<
     alloc: Global,
     table: &JobTable<Job<C>, Reply<A>>,
     mut pass: Pass<Job<C>, Reply<A>>,
-    mut lists: Vec<Vec<Job<C>>>,
+    mut duties: Vec<Duty<C>>,
     clients: u32,
     script: &Snapshot<Vec<Job<C>>>,
     submitting: &AtomicU64,
@@ -71,33 +80,37 @@ fn spread<
     requires works { W.works work.now }
     requires of { IsPassOf table.now pass }
     requires idle { pass.held ≡ 0 }
-    requires threads { (0 < vec_len lists) × (vec_len lists ≡ pass.shares) }
-    requires lists { AreDealt script.now.value.items lists.items }
-    requires submits { SubmitsOf script.now.value.items pass }
+    requires threads { (0 < vec_len duties) × (vec_len duties ≡ pass.shares) }
+    requires duties { AreDuties script.now.value.items clients duties.items }
+    requires acts { ActsFor script.now.value.items pass }
+    requires none { submitted_by pass ≡ 0 }
     ensures of { IsPassOf table.now result }
     ensures idle { result.held ≡ 0 }
     ensures shares { result.shares ≡ pass.shares }
-    ensures submits { SubmitsOf script.now.value.items result }
+    ensures acts { ActsFor script.now.value.items result }
+    ensures done { HasDone result duties.items }
 {
-    let jobs = last(&mut lists, script);
-    if lists.is_empty() {
-        return client(rt, alloc, table, pass, jobs, script, submitting, work);
+    let duty = last(&mut duties, clients, script);
+    if duties.is_empty() {
+        return client(rt, alloc, table, pass, duty, script, submitting, work);
     }
-    let proves_alone = lists.len() >= clients as usize;
+    let proves_alone = duties.len() >= clients as usize;
     let theirs = part(table, &mut pass, script);
     let one = move || -> Pass<Job<C>, Reply<A>>
         requires { W.works work.now × IsSync R.row × IsSync W.row × IsSend C.row × IsSend A.row
             × IsPassOf table.now theirs × (theirs.held ≡ 0)
-            × AreOf script.now.value.items jobs.items × SubmitsOf script.now.value.items theirs }
+            × IsDuty script.now.value.items duty × (proves_alone ≡ true → duty.jobs.items ≡ [])
+            × ActsFor script.now.value.items theirs × (submitted_by theirs ≡ 0) }
         ensures { IsPassOf table.entry.now result × (result.held ≡ 0)
-            × (result.shares ≡ theirs.shares) × SubmitsOf script.entry.now.value.items result }
+            × (result.shares ≡ theirs.shares) × ActsFor script.entry.now.value.items result
+            × HasSubmitted result duty.jobs.items }
     {
         member(
             rt,
             alloc,
             table,
             theirs,
-            jobs,
+            duty,
             proves_alone,
             script,
             submitting,
@@ -106,19 +119,34 @@ fn spread<
     };
     let others = move || -> Pass<Job<C>, Reply<A>>
         requires { W.works work.now × IsSync R.row × IsSync W.row × IsSend C.row × IsSend A.row
-            × IsPassOf table.now pass × (pass.held ≡ 0) × (0 < vec_len lists)
-            × (vec_len lists ≡ pass.shares) × AreDealt script.now.value.items lists.items
-            × SubmitsOf script.now.value.items pass }
+            × IsPassOf table.now pass × (pass.held ≡ 0) × (0 < vec_len duties)
+            × (vec_len duties ≡ pass.shares)
+            × AreDuties script.now.value.items clients duties.items
+            × ActsFor script.now.value.items pass × (submitted_by pass ≡ 0) }
         ensures { IsPassOf table.entry.now result × (result.held ≡ 0)
-            × (result.shares ≡ pass.shares) × SubmitsOf script.entry.now.value.items result }
+            × (result.shares ≡ pass.shares) × ActsFor script.entry.now.value.items result
+            × HasDone result duties.items }
     {
         spread(
-            rt, alloc, table, pass, lists, clients, script, submitting, work,
+            rt, alloc, table, pass, duties, clients, script, submitting, work,
         )
     };
     let (first, mut all) = join(rt, one, others);
     table.join(&mut all, first);
     all
+}
+
+// How many jobs a table needs room for, which is one at least.
+fn room_for<C>(jobs: &Vec<Job<C>>) -> u32
+    requires { vec_len jobs.now ≤ 256 }
+    ensures room { vec_len jobs.now ≤ result }
+    ensures offered { (0 < result) × (result ≤ 256) }
+{
+    if jobs.is_empty() {
+        1
+    } else {
+        jobs.len() as u32
+    }
 }
 
 // Puts all jobs through one table, to its end.
@@ -142,12 +170,8 @@ where
         jobs.items closed.history.items closed.jobs.items) }
 {
     let script = Snapshot::of(&jobs);
-    let capacity = if jobs.is_empty() {
-        1
-    } else {
-        jobs.len() as u32
-    };
-    let lists = dealt(alloc, jobs, provers, clients)?;
+    let capacity = room_for(&jobs);
+    let duties = dealt(alloc, jobs, provers, clients)?;
     let (table, pass) = JobTable::new(alloc, capacity, clients + provers)?;
     let submitting = AtomicU64::new(u64::from(clients));
     let mut pass = spread(
@@ -155,7 +179,7 @@ where
         alloc,
         &table,
         pass,
-        lists,
+        duties,
         clients,
         &script,
         &submitting,
@@ -184,10 +208,107 @@ where
     ensures { IfOk result (λ outcomes. AreOutcomes W.Answer.fits jobs.items outcomes.items) }
 {
     let mut outcomes = vacant(alloc, jobs.len())?;
-    let script = numbered(alloc, jobs)?;
+    let script = numbered(alloc, unmarked(alloc, jobs)?)?;
     let closed = run(rt, alloc, script, provers, clients, work)?;
     place_all(closed.jobs, &mut outcomes);
     Ok(outcomes)
+}
+
+/// Each job's outcome, in the script's order, and the one history that the table had. A job is a client's number, from 1,
+/// a case, and whether its client withdraws it once it has submitted all of its jobs.
+///
+/// A marked job is withdrawn where no thread has taken it yet. With no prover the clients' threads answer one job each, and
+/// the caller the others. The error comes where memory runs out, and then the jobs are dropped.
+pub fn serve_history<R: Threads + Wait + Sync, W: CaseWork + Sync>(
+    rt: &R,
+    alloc: Global,
+    jobs: Vec<(u32, W::Case, bool)>,
+    provers: u32,
+    clients: u32,
+    work: &W,
+) -> Result<Run<W::Answer>, AllocError>
+where
+    W::Case: Drop + Send,
+    W::Answer: Drop + Send,
+    requires works { W.works work.now }
+    requires few { vec_len jobs ≤ 256 }
+    requires provers { provers ≤ 64 }
+    requires clients { (0 < clients) × (clients ≤ 64) }
+    ensures { IfOk result (λ run. IsHistoryOf W.Answer.fits jobs.items run.outcomes.items
+        run.history.items run.places.items) }
+{
+    let mut outcomes = unended(alloc, jobs.len())?;
+    let mut history = Vec::with_capacity(alloc, 3 * jobs.len())?;
+    let mut places = Vec::with_capacity(alloc, jobs.len())?;
+    let script = numbered(alloc, jobs)?;
+    let closed = run(rt, alloc, script, provers, clients, work)?;
+    let Closed {
+        jobs,
+        history: events,
+    } = closed;
+    copy_entries(events, &mut history);
+    copy_places(&jobs, &mut places);
+    tell_all(jobs, &mut outcomes);
+    Ok(Run {
+        outcomes,
+        history,
+        places,
+    })
+}
+
+// A place for each outcome.
+fn unended<A: Drop>(alloc: Global, count: usize) -> Result<Vec<HistoryOutcome<A>>, AllocError>
+    ensures { IfOk result (λ outcomes. vec_len outcomes ≡ count) }
+{
+    let mut outcomes = Vec::with_capacity(alloc, count)?;
+    for _ in 0..count {
+        outcomes.push_reserved(HistoryOutcome::Memory);
+    }
+    Ok(outcomes)
+}
+
+// The steps of the table, without cases and outcomes.
+fn copy_entries<C: Drop, A: Drop>(events: Vec<Event<C, A>>, entries: &mut Vec<Entry>)
+    requires room { (vec_len entries.old ≡ 0) × (length events.items ≤ vec_capacity entries.old) }
+    ensures { entries.new.items ≡ entries_of events.items }
+{
+    for event in events {
+        entries.push_reserved(event.entry());
+    }
+}
+
+// The place of each job.
+fn copy_places<C, A>(jobs: &[(Job<C>, Seen<A>)], places: &mut Vec<u32>)
+    requires room { (vec_len places.old ≡ 0) × (length jobs.now ≤ vec_capacity places.old) }
+    ensures { places.new.items ≡ map place_of jobs.now }
+{
+    for job in jobs {
+        places.push_reserved(job.0.place);
+    }
+}
+
+// Puts each outcome at its job's place.
+fn tell_all<C: Drop, A: Fits<C> + Drop>(
+    jobs: Vec<(Job<C>, Seen<Reply<A>>)>,
+    outcomes: &mut Vec<HistoryOutcome<A>>,
+)
+    ensures long { vec_len outcomes.new ≡ vec_len outcomes.old }
+    ensures each { AreTold jobs.items outcomes.new.items }
+{
+    for (job, seen) in jobs {
+        put_at(outcomes, job.place, told(seen));
+    }
+}
+
+fn told<A>(seen: Seen<Reply<A>>) -> HistoryOutcome<A>
+    ensures { result ≡ told seen }
+{
+    match seen {
+        Seen::Queued | Seen::Running => HistoryOutcome::Memory,
+        Seen::Done(Outcome::Answer(Reply { answer })) => HistoryOutcome::Answer(answer),
+        Seen::Done(Outcome::Memory) => HistoryOutcome::Memory,
+        Seen::Withdrawn => HistoryOutcome::Withdrawn,
+    }
 }
 
 // A place for each outcome.
@@ -236,7 +357,17 @@ fn set<A: Drop>(outcomes: &mut Vec<Outcome<A>>, place: u32, outcome: Outcome<Rep
         Outcome::Answer(Reply { answer }) => Outcome::Answer(answer),
         Outcome::Memory => Outcome::Memory,
     };
-    if (place as usize) < outcomes.len() {
-        outcomes[place as usize] = plain;
+    put_at(outcomes, place, plain);
+}
+
+// Puts the value at this place, where there is one.
+fn put_at<T: Drop>(list: &mut Vec<T>, place: u32, value: T)
+    ensures long { vec_len list.new ≡ vec_len list.old }
+    ensures at { (slice_get list.new.items place ≡ Some value) ⊎ (vec_len list.old ≤ place) }
+    ensures others { (k : ℕ) → k ≢ place
+        → slice_get list.new.items k ≡ slice_get list.old.items k }
+{
+    if (place as usize) < list.len() {
+        list[place as usize] = value;
     }
 }
