@@ -10,6 +10,7 @@ use Rattle.field_ext.specs.Multilinear.{bits_of}
 use Rattle.mle_table.proofs.SumLaws.{sum_below-same}
 use Rattle.gkr_layers.specs.Places.{weighted_summand_at}
 use Rattle.wiring_poly.proofs.Identity.{sum_cube-split}
+use Rattle.wiring_poly.proofs.Sums.{sum_below-append}
 use Rattle.wiring_poly.proofs.Hom.{sum_below-hom}
 use Rattle.gkr_layers.proofs.RoundPoly.{value_hom}
 use Rattle.gkr_layers.proofs.PlaceSums.{value-round_polynomial}
@@ -22,12 +23,6 @@ use Rattle.gkr_layers.proofs.Coefficients.{from_values, length-coefficients}
 use Rattle.round_tables.proofs.PartDegree.{length-part}
 
 module _ {A : Type 0} (o : Ops A) (l : Laws A o) where
-  sum_below-append : (m n : ℕ) (f : ℕ → A) → sum_below o (m + n) f ≡ o.add (sum_below o m f) (sum_below o n (λ j. f (m + j)))
-  sum_below-append m zero f = let e : m + 0 ≡ m = omega arith in ap (λ (i : ℕ). sum_below o i f) e ∙ sym (l.add_zero (sum_below o m f))
-  sum_below-append m (suc n) f =
-      let e : m + suc n ≡ suc (m + n) = omega arith in
-      ap (λ (i : ℕ). sum_below o i f) e ∙ ap (λ (x : A). o.add x (f (m + n))) (sum_below-append m n f) ∙ l.add_assoc (sum_below o m f) (sum_below o n (λ j. f (m + j))) (f (m + n))
-
   -- pieces of 1024 terms
   sum_pieces : (count n : ℕ) (f : ℕ → A) → sum_below o count (λ piece. sum_below o (min (1024 * piece + 1024) n - 1024 * piece) (λ j. f (1024 * piece + j))) ≡ sum_below o (min (1024 * count) n) f
   sum_pieces zero n f = let e : 0 ≡ min (1024 * 0) n = omega arith in ap (λ (i : ℕ). sum_below o i f) e
@@ -39,7 +34,7 @@ module _ {A : Type 0} (o : Ops A) (l : Laws A o) where
           let before : min (1024 * count) n ≡ 1024 * count = omega arith in
           let whole : 1024 * count + (min (1024 * count + 1024) n - 1024 * count) ≡ min (1024 * suc count) n = omega arith in
           ap (λ (i : ℕ). o.add (sum_below o i f) (sum_below o b (λ j. f (1024 * count + j)))) before
-          ∙ sym (sum_below-append (1024 * count) b f)
+          ∙ sym (sum_below-append o l (1024 * count) b f)
           ∙ ap (λ (i : ℕ). sum_below o i f) whole
       by_rest (inr u) =
           let none : min (1024 * count + 1024) n - 1024 * count ≡ 0 = omega arith in

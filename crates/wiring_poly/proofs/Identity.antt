@@ -12,6 +12,7 @@ use Rattle.wiring_poly.specs.Wiring.{by_kind, sum_gates, gate_weight, summand, s
 use Rattle.field_ext.proofs.Solve.{var, nil, ◌⊕◌, ◌⊗◌, solve}
 use Rattle.mle_table.proofs.SumLaws.{sum_cube-same, sum_cube-add, sum_cube-scale, sum_cube-zero}
 use Rattle.mle_table.proofs.Points.{sum-eq, ext-bits}
+use Rattle.wiring_poly.proofs.Sums.{sum_below-front}
 
 pub take-front : {A : Type 0} (u v : List A) → take (length u) (u ++ v) ≡ u
 take-front [] v = refl
@@ -66,10 +67,6 @@ module _ {A : Type 0} (o : Ops A) (l : Laws A o) where
       ∙ sum_cube-scale o l n c (λ u. o.mul (eq_poly o u x) (h u (bits_of o n y)))
       ∙ ap (o.mul c) (sum-eq o l n x (λ u. h u (bits_of o n y)))
 
-  sum_below-front : (n : ℕ) (f : ℕ → A) → sum_below o (suc n) f ≡ o.add (f 0) (sum_below o n (λ k. f (suc k)))
-  sum_below-front zero f = l.add_comm o.zero (f 0)
-  sum_below-front (suc n) f = ap (λ (t : A). o.add t (f (suc n))) (sum_below-front n f) ∙ l.add_assoc (f 0) (sum_below o n (λ k. f (suc k))) (f (suc n))
-
   sum_below-alike : (n : ℕ) (f h : ℕ → A) → ((k : ℕ) → f k ≡ h k) → sum_below o n f ≡ sum_below o n h
   sum_below-alike zero f h e = refl
   sum_below-alike (suc n) f h e = ap₂ o.add (sum_below-alike n f h e) (e n)
@@ -81,7 +78,7 @@ module _ {A : Type 0} (o : Ops A) (l : Laws A o) where
   values_gates zero s (gate ∷ gates) f e u = absurd (omega arith)
   values_gates (suc n) s (gate ∷ gates) f e u =
       let z : s + 0 ≡ s = omega arith in
-      sum_below-front n (λ g. o.mul (get_or (map f (gate ∷ gates)) g o.zero) (e (s + g)))
+      sum_below-front o l n (λ g. o.mul (get_or (map f (gate ∷ gates)) g o.zero) (e (s + g)))
       ∙ ap₂ o.add (ap (λ (k : ℕ). o.mul (f gate) (e k)) z)
       (sum_below-alike n _ _ (λ g. let i : s + suc g ≡ (s + 1) + g = omega arith in ap (λ (k : ℕ). o.mul (get_or (map f gates) g o.zero) (e k)) i)
       ∙ values_gates n (s + 1) gates f e (omega arith))

@@ -1,4 +1,5 @@
 pub mod Hom
+pub mod Sums
 pub mod Identity
 pub mod Phases
 pub mod GateSteps

@@ -10,6 +10,8 @@
 #![tactic(auto)]
 
 pub mod laws;
+mod shares;
 mod wiring;
 
+pub use shares::WiringSums;
 pub use wiring::wiring_at;

@@ -1,12 +1,13 @@
 // The wiring polynomials at a point.
 
 ghost use Rattle.std.specs.Prelude.{◌≡◌, ◌≤◌, ◌<◌, ◌+◌, ◌^◌, [], All, length, slice_index_or};
-ghost use Rattle.field_ext.specs.Field.{k_ops, add_k, zero_k};
+ghost use Rattle.field_ext.specs.Field.{k_ops};
 ghost use Rattle.circuit_core.specs.Parts.{height, IsOver};
 ghost use Rattle.circuit_core.specs.Sound.{exponent_at};
-ghost use Rattle.wiring_poly.specs.Wiring.{by_kind, wiring_add, wiring_mul};
+ghost use Rattle.wiring_poly.specs.Wiring.{wiring_add, wiring_mul};
 
-use circuit_core::{Circuit, CircuitGate, Kind};
+use crate::shares::WiringSums;
+use circuit_core::{Circuit, CircuitGate};
 use field_ext::Ext;
 use mle_table::SplitEquality;
 
@@ -26,15 +27,8 @@ pub fn wiring_at(circuit: &Circuit, layer: u32, z: &[Ext], b: &[Ext], c: &[Ext])
     (sums.add, sums.mul)
 }
 
-// The values of the two wiring polynomials.
-#[derive(Clone, Copy)]
-struct GateSums {
-    add: Ext,
-    mul: Ext,
-}
-
 // The wiring polynomials of a list of gates, by position, at points of at most 16 coordinates.
-fn gate_sums(gates: &[CircuitGate], z: &[Ext], b: &[Ext], c: &[Ext]) -> GateSums
+fn gate_sums(gates: &[CircuitGate], z: &[Ext], b: &[Ext], c: &[Ext]) -> WiringSums
     requires positions { length gates.now ≡ 2 ^ length z.now }
     requires operands { All (IsOver (2 ^ length b.now)) gates.now }
     requires right { length c.now ≡ length b.now }
@@ -46,7 +40,7 @@ fn gate_sums(gates: &[CircuitGate], z: &[Ext], b: &[Ext], c: &[Ext]) -> GateSums
     let position = SplitEquality::at(z);
     let left = SplitEquality::at(b);
     let right = SplitEquality::at(c);
-    let mut sums = GateSums {
+    let mut sums = WiringSums {
         add: Ext::zero(),
         mul: Ext::zero(),
     };
@@ -55,23 +49,4 @@ fn gate_sums(gates: &[CircuitGate], z: &[Ext], b: &[Ext], c: &[Ext]) -> GateSums
         sums = sums.with(gate.kind, position.value(g) * operands);
     }
     sums
-}
-
-impl GateSums {
-    // With the weight of one more gate.
-    fn with(self, kind: Kind, weight: Ext) -> GateSums
-        ensures add { result.add ≡ add_k self.add (by_kind kind weight zero_k) }
-        ensures mul { result.mul ≡ add_k self.mul (by_kind kind zero_k weight) }
-    {
-        match kind {
-            Kind::Add => GateSums {
-                add: self.add + weight,
-                mul: self.mul + Ext::zero(),
-            },
-            Kind::Mul => GateSums {
-                add: self.add + Ext::zero(),
-                mul: self.mul + weight,
-            },
-        }
-    }
 }
