@@ -10,6 +10,7 @@ ghost use Rattle.gkr_layers.specs.Equations.{equations, answer};
 ghost use Rattle.proof_wire.specs.Lists.{messages_of, HasShape};
 ghost use Rattle.gkr_layers.specs.Places.Place.{At};
 ghost use Rattle.gkr_layers.specs.Forms.Form.{Line};
+ghost use Rattle.run_wiring.specs.CircuitRuns.{IsWiringOf};
 
 use crate::end::end_value;
 use crate::rounds::check_rounds;
@@ -19,6 +20,7 @@ use gkr_layers::Verdict;
 use line_reduce::point_at;
 use poly_roots::value_at;
 use proof_wire::LayerMessages;
+use run_wiring::LayerWiring;
 use transcript_fs::Challenges;
 
 /// Checks the messages of a layer against the claim at `point`. Where its equations hold, it gives the claim on the
@@ -26,6 +28,7 @@ use transcript_fs::Challenges;
 pub(crate) fn check_layer<C: Challenges>(
     circuit: &Circuit,
     layer: usize,
+    wiring: &LayerWiring,
     messages: &LayerMessages,
     claim: Ext,
     point: &[Ext],
@@ -34,6 +37,7 @@ pub(crate) fn check_layer<C: Challenges>(
     challenges: &mut C,
 ) -> Result<Ext, Verdict>
     requires layer { layer < height circuit.now.parts }
+    requires wiring { IsWiringOf circuit.now.parts layer wiring.now }
     requires position { length point.now ≡ exponent_at circuit.now.parts layer }
     requires shape { HasShape (exponent_at circuit.now.parts (layer + 1)) messages.now }
     requires drawn { length drawn.old ≡ exponent_at circuit.now.parts (layer + 1) + exponent_at
@@ -75,7 +79,15 @@ pub(crate) fn check_layer<C: Challenges>(
         }
     };
     let (left, right) = drawn.split_at(next.len());
-    let want = end_value(circuit, layer, point, left, right, messages.line.as_slice());
+    let want = end_value(
+        circuit,
+        layer,
+        wiring,
+        point,
+        left,
+        right,
+        messages.line.as_slice(),
+    );
     if !claim.equals(want) {
         return Err(Verdict::End {
             layer,

@@ -10,6 +10,7 @@ ghost use Rattle.proof_wire.specs.Lists.{all_messages, HaveShape};
 ghost use Rattle.gkr_layers.specs.Places.Place.{At};
 ghost use Rattle.gkr_layers.specs.Forms.Form.{Line};
 ghost use Rattle.gkr_layers.specs.Acceptance.{input_table};
+ghost use Rattle.run_wiring.specs.CircuitRuns.{AreWiringsOf};
 
 use crate::extension::leaves_extension;
 use crate::layer::check_layer;
@@ -17,6 +18,7 @@ use circuit_core::Circuit;
 use field_ext::{Ext, Fp};
 use gkr_layers::Verdict;
 use proof_wire::LayerMessages;
+use run_wiring::LayerWiring;
 use transcript_fs::Challenges;
 
 /// Checks the messages of the layers from `layer` on against the claim at `point`, and the last claim against the
@@ -24,6 +26,7 @@ use transcript_fs::Challenges;
 pub(crate) fn check_layers<C: Challenges>(
     messages: &[LayerMessages],
     circuit: &Circuit,
+    wirings: &[LayerWiring],
     inputs: &[Fp],
     layer: usize,
     claim: Ext,
@@ -31,6 +34,7 @@ pub(crate) fn check_layers<C: Challenges>(
     room: &mut [Ext],
     challenges: &mut C,
 ) -> Verdict
+    requires wirings { AreWiringsOf circuit.now.parts wirings.now }
     requires inputs { length inputs.now ≡ circuit.now.parts.inputs }
     requires layer { layer + length messages.now ≡ height circuit.now.parts }
     requires position { length point.now ≡ exponent_at circuit.now.parts layer }
@@ -52,11 +56,15 @@ pub(crate) fn check_layers<C: Challenges>(
     let k = circuit.coordinates(layer + 1);
     let (drawn, room) = room.split_at_mut(2 * k);
     let (next, room) = room.split_at_mut(k);
-    match check_layer(circuit, layer, first, claim, point, drawn, next, challenges) {
+    let wiring = &wirings[layer];
+    match check_layer(
+        circuit, layer, wiring, first, claim, point, drawn, next, challenges,
+    ) {
         Err(verdict) => verdict,
         Ok(claim) => check_layers(
             later,
             circuit,
+            wirings,
             inputs,
             layer + 1,
             claim,

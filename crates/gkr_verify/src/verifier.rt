@@ -7,6 +7,7 @@ ghost use Rattle.transcript_fs.specs.Source.{all_draws};
 ghost use Rattle.gkr_layers.specs.Acceptance.{claim_of, verdict_of, answer_from, challenge_count};
 ghost use Rattle.proof_wire.specs.Lists.{all_messages, HaveShape};
 ghost use Rattle.gkr_layers.specs.Soundness.{LetsPass, IsFalse};
+ghost use Rattle.run_wiring.specs.CircuitRuns.{AreWiringsOf};
 
 use crate::extension::values_extension;
 use crate::layers::check_layers;
@@ -14,13 +15,16 @@ use circuit_core::Circuit;
 use field_ext::{Ext, Fp};
 use gkr_layers::{Verdict, width_below};
 use proof_wire::Messages;
+use run_wiring::{LayerWiring, wirings};
 use std::alloc::{AllocError, Global};
 use transcript_fs::{Challenges, draw_point};
 
 /// Checks the messages of a proof that the circuit on these inputs has these outputs: as many of both as the circuit has,
 /// messages of its shape, and challenges from a source that has enough of them. The answer is the first equation that
 /// fails, or `Accepted`. Each message is taken in once its equation holds: at `Accepted` all are, and else those before the
-/// equation that fails. Memory is taken before the first challenge is drawn, and none later; Err only where none is found.
+/// equation that fails. The runs of each layer's gates are found first, and a layer that has few of them is gone over by its
+/// runs and not by its gates. Memory is taken before the first challenge is drawn, and none later; Err only where none is
+/// found.
 pub fn check<C: Challenges>(
     alloc: Global,
     circuit: &Circuit,
@@ -50,20 +54,26 @@ pub fn check<C: Challenges>(
         C.state challenges.new ≡ (answer_from stated C.source (C.state challenges.old) qs).state) }
     ensures memory { IfErr result (λ _. C.state challenges.new ≡ C.state challenges.old) }
 {
+    let wirings = wirings(alloc, circuit)?;
     let width = circuit.coordinates(0) + 3 * width_below(circuit);
     let mut room = vec![in alloc; Ext::zero(); width]?;
-    Ok(check_in(circuit, inputs, outputs, messages, &mut room, challenges))
+    let verdict = check_in(
+        circuit, &wirings, inputs, outputs, messages, &mut room, challenges,
+    );
+    Ok(verdict)
 }
 
 // Checks the messages, and keeps challenges and points in `room`.
 fn check_in<C: Challenges>(
     circuit: &Circuit,
+    wirings: &[LayerWiring],
     inputs: &[Fp],
     outputs: &[Fp],
     messages: &Messages,
     room: &mut [Ext],
     challenges: &mut C,
 ) -> Verdict
+    requires wirings { AreWiringsOf circuit.now.parts wirings.now }
     requires inputs { length inputs.now ≡ circuit.now.parts.inputs }
     requires outputs { length outputs.now ≡ circuit.now.parts.outputs }
     requires shape { HaveShape (drop 1 (exponents circuit.now.parts)) messages.now.layers }
@@ -81,6 +91,7 @@ fn check_in<C: Challenges>(
     check_layers(
         messages.layers.as_slice(),
         circuit,
+        wirings,
         inputs,
         0,
         claim,

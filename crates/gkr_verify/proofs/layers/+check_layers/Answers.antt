@@ -40,16 +40,19 @@ check_layers-requires g t c κs within =
       (
         within,
         (
-          c.requires.inputs,
+          c.requires.wirings,
           (
-            omega (arith, fewer, c.requires.layer),
+            c.requires.inputs,
             (
-              size,
+              omega (arith, fewer, c.requires.layer),
               (
-                shapes.1,
+                size,
                 (
-                  omega (arith, widths, c.requires.room, c.split_at_mut-drawn.ensures.back_len, c.split_at_mut-next.ensures.back_len, c.coordinates-k.ensures.value),
-                  subst (λ t. IsTrue (source.has t (message_count (layers_below p (layer + 1))))) (sym c.in-Ok.ensures.state) (has_below source s (layer_at p layer) (layers_below p (layer + 1)) has c.in-Some.first.now shapes.0),
+                  shapes.1,
+                  (
+                    omega (arith, widths, c.requires.room, c.split_at_mut-drawn.ensures.back_len, c.split_at_mut-next.ensures.back_len, c.coordinates-k.ensures.value),
+                    subst (λ t. IsTrue (source.has t (message_count (layers_below p (layer + 1))))) (sym c.in-Ok.ensures.state) (has_below source s (layer_at p layer) (layers_below p (layer + 1)) has c.in-Some.first.now shapes.0),
+                  ),
                 ),
               ),
             ),

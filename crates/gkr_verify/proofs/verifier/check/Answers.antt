@@ -8,11 +8,11 @@ use Rattle.gkr_verify.proofs.verifier.check.Goals as goal
 
 pub returns-clause-verdict : goal.returns-clause-verdict
 returns-clause-verdict g c =
-    ap (λ (x : Answered). x.verdict) c.check_in.ensures
+    ap (λ (x : Answered). x.verdict) c.check_in-verdict.ensures
     ∙ answer_from-verdict (claim_of c.args.circuit.now.parts c.args.inputs.now c.args.outputs.now) g.C.Challenges.source (g.C.Challenges.state c.args.challenges.now) (all_messages c.args.messages.now.layers)
 
 pub returns-clause-state : goal.returns-clause-state
-returns-clause-state g c = ap (λ (x : Answered). x.state) c.check_in.ensures
+returns-clause-state g c = ap (λ (x : Answered). x.state) c.check_in-verdict.ensures
 
 pub returns-clause-sound : goal.returns-clause-sound
 returns-clause-sound g c accepted false' =
