@@ -1,10 +1,12 @@
 -- The sum of a layer's summand over both operands, with some of its coordinates bound to challenges
-use Rattle.std.specs.Prelude.{ℕ, ◌+◌, ◌-◌, ◌*◌, ◌/◌, ◌^◌, min, List, [], ◌∷◌, ◌++◌, map, length, if◌then◌else◌, nat_lt, ◌==◌}
+use Rattle.std.specs.Prelude.{ℕ, ◌+◌, ◌-◌, ◌*◌, ◌/◌, ◌^◌, min, List, [], ◌∷◌, ◌++◌, map, length, if◌then◌else◌, nat_lt, ◌==◌, slice_index_or}
 use Rattle.field_ext.specs.Ring.{Ops}
 use Rattle.field_ext.specs.Field.{K, k_ops}
 use Rattle.field_ext.specs.Sums.{sum_below, sum_cube}
 use Rattle.field_ext.specs.Multilinear.{bits_of}
 use Rattle.circuit_core.specs.declared.gate.CircuitGate.{CircuitGate}
+use Rattle.circuit_core.specs.Parts.{Parts}
+use Rattle.circuit_core.specs.Sound.{exponent_at}
 use Rattle.field_ext.specs.Polynomial.{polynomial_ops, constant}
 use Rattle.gkr_layers.specs.Places.{Place, map_place, weighted_summand_at}
 use Rattle.gkr_layers.specs.Sumcheck.{round_polynomial}
@@ -16,6 +18,16 @@ pub record LayerSum : Type 0 where
   pub values : List K
   pub place : Place K
   pub bound : List K
+
+-- that of a layer of a circuit over values of its layers, with no challenge bound
+abbrev pub sum_of_layer : Parts → List (List K) → ℕ → Place K → LayerSum
+sum_of_layer p values layer place = record {
+  k = exponent_at p (layer + 1);
+  gates = slice_index_or p.layers layer [];
+  values = slice_index_or values (layer + 1) [];
+  place = place;
+  bound = [];
+}
 
 -- the coordinates of the phase that are left once n of the 2 k are bound: first those of the left operand, then those of the right one
 abbrev pub left_in_phase : ℕ → ℕ → ℕ

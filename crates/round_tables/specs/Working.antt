@@ -1,5 +1,5 @@
 -- What holds of the structures that keep a layer's tables
-use Rattle.std.specs.Prelude.{◌≡◌, ℕ, ◌+◌, ◌-◌, ◌^◌, ◌≤◌, ◌⊎◌, IsTrue, List, [], ◌∷◌, ◌++◌, length, take, vec_len, slice_index_or, if◌then◌else◌}
+use Rattle.std.specs.Prelude.{◌≡◌, ℕ, ◌+◌, ◌-◌, ◌^◌, ◌≤◌, ◌⊎◌, IsTrue, List, [], ◌∷◌, ◌++◌, length, take, vec_len, if◌then◌else◌}
 use Rattle.field_ext.specs.Field.{K, k_ops}
 use Rattle.mle_table.specs.Shape.{AreBase}
 use Rattle.round_tables.specs.declared.layer_gates.LayerGates.{LayerGates}

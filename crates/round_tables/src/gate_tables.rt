@@ -1,16 +1,19 @@
 // The public face of a layer's working tables.
 
-ghost use Rattle.std.specs.Prelude.{◌≡◌, ◌<◌, ◌≤◌, ◌+◌, ◌^◌, All, IfOk, [], ◌∷◌, ◌++◌, length};
+ghost use Rattle.std.specs.Prelude.{◌≡◌, ◌<◌, ◌≤◌, ◌+◌, ◌^◌, ◌↔◌, All, IfOk, IsTrue, [], ◌∷◌, ◌++◌, length};
 ghost use Rattle.field_ext.specs.Field.{k_ops};
-ghost use Rattle.circuit_core.specs.Parts.{IsOver};
+ghost use Rattle.circuit_core.specs.Parts.{IsOver, height};
+ghost use Rattle.circuit_core.specs.Sound.{exponent_at};
+ghost use Rattle.circuit_eval.specs.Tables.{FitLayers};
 ghost use Rattle.gkr_layers.specs.Places.Place.{At, AtBoth};
 ghost use Rattle.field_ext.specs.Polynomial.{coefficients};
-ghost use Rattle.round_tables.specs.LayerSum.{pieces_of, piece_pairs, piece_poly, bind_steps};
+ghost use Rattle.round_tables.specs.LayerSum.{sum_of_layer, pieces_of, piece_pairs, piece_poly, bind_steps};
 
 use crate::layer_gates::LayerGates;
-use crate::room::Room;
+use crate::room::{Room, TooLittleRoom};
 use crate::working::{Working, pair_count};
-use circuit_core::CircuitGate;
+use circuit_core::{Circuit, CircuitGate};
+use circuit_eval::Values;
 use field_ext::Ext;
 use mle_table::Table;
 use std::alloc::{AllocError, Global};
@@ -46,35 +49,35 @@ impl<'a> Model for GateTables<'a> {
 }
 
 impl<'a> GateTables<'a> {
-    /// The sumcheck of a layer of gates over the table of the layer below, at a point of the layer, with no challenge
-    /// bound. Err only where no memory is found; no later call takes any.
+    /// The sumcheck of a layer of a circuit over values of its layers, at a point of the layer, with no challenge bound. Err
+    /// only where no memory is found; no later call takes any.
     pub fn start(
         alloc: Global,
-        gates: &'a [CircuitGate],
-        values: &'a Table,
+        circuit: &'a Circuit,
+        layer: u32,
+        values: &'a Values,
         point: &'a [Ext],
     ) -> Result<GateTables<'a>, AllocError>
-        requires least { 1 ≤ values.now.k }
-        requires most { values.now.k ≤ 16 }
-        requires width { length gates.now ≡ 2 ^ length point.now }
-        requires operands { All (IsOver (2 ^ values.now.k)) gates.now }
-        ensures k { IfOk result (λ sum. sum.k ≡ values.now.k) }
-        ensures gates { IfOk result (λ sum. sum.gates ≡ gates.now) }
-        ensures values { IfOk result (λ sum. sum.values ≡ values.now.items) }
-        ensures place { IfOk result (λ sum. sum.place ≡ At point.now) }
-        ensures bound { IfOk result (λ sum. sum.bound ≡ []) }
+        requires layer { layer < height circuit.now.parts }
+        requires values { FitLayers circuit.now.parts values.now }
+        requires position { length point.now ≡ exponent_at circuit.now.parts layer }
+        ensures { IfOk result
+            (λ sum. sum ≡ sum_of_layer circuit.now.parts values.now layer (At point.now)) }
     {
-        let room = Room::new(alloc, gates.len(), 1 << values.k())?;
-        GateTables::start_in(room, gates, values, point)
+        let gates = circuit.gates(layer as usize);
+        let table = values.table(layer as usize + 1);
+        let room = Room::new(alloc, gates.len(), 1 << table.k())?;
+        Ok(GateTables::start_in(room, gates, table, point)?)
     }
 
-    /// The same sumcheck in room that is there. Err only where it isn't enough and no memory is found.
+    /// The sumcheck of a layer of gates over the table of the layer below, at a point of the layer, in room that is there. Err
+    /// only where the room is too small and no memory is found, and then the room is handed back.
     pub fn start_in(
         room: Room,
         gates: &'a [CircuitGate],
         values: &'a Table,
         point: &'a [Ext],
-    ) -> Result<GateTables<'a>, AllocError>
+    ) -> Result<GateTables<'a>, TooLittleRoom>
         requires least { 1 ≤ values.now.k }
         requires most { values.now.k ≤ 16 }
         requires width { length gates.now ≡ 2 ^ length point.now }
@@ -88,22 +91,46 @@ impl<'a> GateTables<'a> {
         let Room {
             point_equality,
             working,
-        } = room;
-        let layer = LayerGates::new(point_equality, gates, values, point)?;
-        let working = working.begin(&layer)?;
+        } = room.fitted(gates.len(), values.k() as usize)?;
+        let layer = LayerGates::new(point_equality, gates, values, point);
+        let working = working.begin(&layer);
         Ok(GateTables { layer, working })
     }
 
-    /// The sumcheck of a layer whose claim stands at two points, the first with weight 1 and the second with the weight
-    /// given. Err only where no memory is found; no later call takes any.
+    /// The sumcheck of a layer of a circuit whose claim stands at two points, the first with weight 1 and the second with
+    /// the weight given. Err only where no memory is found; no later call takes any.
     pub fn start_two(
         alloc: Global,
+        circuit: &'a Circuit,
+        layer: u32,
+        values: &'a Values,
+        first: &'a [Ext],
+        second: &'a [Ext],
+        weight: Ext,
+    ) -> Result<GateTables<'a>, AllocError>
+        requires layer { layer < height circuit.now.parts }
+        requires values { FitLayers circuit.now.parts values.now }
+        requires first { length first.now ≡ exponent_at circuit.now.parts layer }
+        requires second { length second.now ≡ exponent_at circuit.now.parts layer }
+        ensures { IfOk result (λ sum. sum ≡ sum_of_layer circuit.now.parts values.now layer
+            (AtBoth first.now second.now weight)) }
+    {
+        let gates = circuit.gates(layer as usize);
+        let table = values.table(layer as usize + 1);
+        let room = Room::new(alloc, gates.len(), 1 << table.k())?;
+        Ok(GateTables::start_two_in(room, gates, table, first, second, weight)?)
+    }
+
+    /// The same sumcheck, of a layer of gates over the table of the layer below, in room that is there. Err only where the
+    /// room is too small and no memory is found, and then the room is handed back.
+    pub fn start_two_in(
+        room: Room,
         gates: &'a [CircuitGate],
         values: &'a Table,
         first: &'a [Ext],
         second: &'a [Ext],
         weight: Ext,
-    ) -> Result<GateTables<'a>, AllocError>
+    ) -> Result<GateTables<'a>, TooLittleRoom>
         requires least { 1 ≤ values.now.k }
         requires most { values.now.k ≤ 16 }
         requires few { length second.now ≤ 16 }
@@ -119,9 +146,9 @@ impl<'a> GateTables<'a> {
         let Room {
             point_equality,
             working,
-        } = Room::new(alloc, gates.len(), 1 << values.k())?;
-        let layer = LayerGates::new_two(point_equality, gates, values, first, second, weight)?;
-        let working = working.begin(&layer)?;
+        } = room.fitted(gates.len(), values.k() as usize)?;
+        let layer = LayerGates::new_two(point_equality, gates, values, first, second, weight);
+        let working = working.begin(&layer);
         Ok(GateTables { layer, working })
     }
 
@@ -140,6 +167,13 @@ impl<'a> GateTables<'a> {
         ensures { result + length self.now.bound ≡ self.now.k + self.now.k }
     {
         2 * self.layer.k - self.working.count
+    }
+
+    /// Whether no challenge is bound yet.
+    pub fn is_fresh(&self) -> bool
+        ensures { IsTrue result ↔ (length self.now.bound ≡ 0) }
+    {
+        self.rounds_left() == 2 * self.layer.k
     }
 
     /// How many pieces the next round has.

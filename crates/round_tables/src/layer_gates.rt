@@ -1,6 +1,6 @@
 // The gates of a layer, lent for the time of its sumcheck.
 
-ghost use Rattle.std.specs.Prelude.{◌≡◌, ◌≤◌, ◌<◌, ◌^◌, ℕ, IfOk, IsTrue, length, slice_index_or};
+ghost use Rattle.std.specs.Prelude.{◌≡◌, ◌≤◌, ◌<◌, ◌^◌, ℕ, IsTrue, length, slice_index_or, vec_len};
 ghost use Rattle.field_ext.specs.Field.{K, k_ops};
 ghost use Rattle.gkr_layers.specs.Places.Place.{At, AtBoth};
 ghost use Rattle.round_tables.specs.Weights.{HasWeights};
@@ -10,7 +10,6 @@ ghost use Rattle.round_tables.specs.Working.{IsLayerGates, place_of};
 use circuit_core::CircuitGate;
 use field_ext::Ext;
 use mle_table::{SplitEquality, Table, fill_equality};
-use std::alloc::AllocError;
 
 /// The gates of a layer over the `2^k` values of the layer below, and where the claim on it stands: at `first`, or at
 /// `first` with weight 1 and `second` with the weight given.
@@ -37,23 +36,23 @@ pub(crate) fn power(k: usize) -> usize
 }
 
 impl<'a> LayerGates<'a> {
-    /// Keeps the layer with the weights of its positions, which are written to the room, for a claim at a point.
+    /// Keeps the layer with the weights of its positions, which are written to room of its size, for a claim at a point.
     pub(crate) fn new(
         mut point_equality: Vec<Ext>,
         gates: &'a [CircuitGate],
         values: &'a Table,
         point: &'a [Ext],
-    ) -> Result<LayerGates<'a>, AllocError>
-        requires { IsLayer K values.now.k gates.now values.now.items (At point.now) }
-        ensures holds { IfOk result (λ layer. IsLayerGates layer) }
-        ensures k { IfOk result (λ layer. layer.k ≡ values.now.k) }
-        ensures gates { IfOk result (λ layer. layer.gates.now ≡ gates.now) }
-        ensures values { IfOk result (λ layer. layer.values.now ≡ values.now) }
-        ensures place { IfOk result (λ layer. place_of layer ≡ At point.now) }
+    ) -> LayerGates<'a>
+        requires layer { IsLayer K values.now.k gates.now values.now.items (At point.now) }
+        requires room { vec_len point_equality ≡ length gates.now }
+        ensures holds { IsLayerGates result }
+        ensures k { result.k ≡ values.now.k }
+        ensures gates { result.gates.now ≡ gates.now }
+        ensures values { result.values.now ≡ values.now }
+        ensures place { place_of result ≡ At point.now }
     {
-        point_equality.resize(gates.len(), Ext::zero())?;
         fill_equality(&mut point_equality, point);
-        Ok(LayerGates {
+        LayerGates {
             k: values.k() as usize,
             gates,
             values,
@@ -63,7 +62,7 @@ impl<'a> LayerGates<'a> {
             both: false,
             point_equality,
             base: values.is_base(),
-        })
+        }
     }
 
     /// The same for a claim at two points, the second of at most 16 coordinates.
@@ -74,19 +73,19 @@ impl<'a> LayerGates<'a> {
         first: &'a [Ext],
         second: &'a [Ext],
         weight: Ext,
-    ) -> Result<LayerGates<'a>, AllocError>
+    ) -> LayerGates<'a>
         requires few { length second.now ≤ 16 }
         requires layer { IsLayer K values.now.k gates.now values.now.items
             (AtBoth first.now second.now weight) }
-        ensures holds { IfOk result (λ layer. IsLayerGates layer) }
-        ensures k { IfOk result (λ layer. layer.k ≡ values.now.k) }
-        ensures gates { IfOk result (λ layer. layer.gates.now ≡ gates.now) }
-        ensures values { IfOk result (λ layer. layer.values.now ≡ values.now) }
-        ensures place { IfOk result (λ layer. place_of layer ≡ AtBoth first.now second.now weight) }
+        requires room { vec_len point_equality ≡ length gates.now }
+        ensures holds { IsLayerGates result }
+        ensures k { result.k ≡ values.now.k }
+        ensures gates { result.gates.now ≡ gates.now }
+        ensures values { result.values.now ≡ values.now }
+        ensures place { place_of result ≡ AtBoth first.now second.now weight }
     {
-        point_equality.resize(gates.len(), Ext::zero())?;
         fill_weights(&mut point_equality, first, second, weight);
-        Ok(LayerGates {
+        LayerGates {
             k: values.k() as usize,
             gates,
             values,
@@ -96,7 +95,7 @@ impl<'a> LayerGates<'a> {
             both: true,
             point_equality,
             base: values.is_base(),
-        })
+        }
     }
 
     /// Writes the values into room for all of them.

@@ -32,14 +32,6 @@ pub(crate) struct Working {
     pub(crate) shifts: Vec<Ext>,
 }
 
-/// Room of so many values.
-fn sized(mut values: Vec<Ext>, size: usize) -> Result<Vec<Ext>, AllocError>
-    ensures { IfOk result (λ room. vec_len room ≡ size) }
-{
-    values.resize(size, Ext::zero())?;
-    Ok(values)
-}
-
 /// How many pairs a table has once `count` of the `2k` challenges are bound.
 pub(crate) fn pair_count(k: usize, count: usize) -> usize
     requires small { k ≤ 16 }
@@ -121,36 +113,45 @@ impl Working {
         })
     }
 
+    /// Gives the rooms the sizes of both phases over `2^k` values.
+    pub(crate) fn fit(&mut self, k: usize) -> Result<(), AllocError>
+        requires { k ≤ 16 }
+        ensures { IfOk result (λ _. HasRooms k self.new) }
+    {
+        let size = power(k);
+        self.challenges.resize(2 * k, Ext::zero())?;
+        self.left_equality.resize(size, Ext::zero())?;
+        self.table.resize(size, Ext::zero())?;
+        self.scales.resize(size, Ext::zero())?;
+        self.shifts.resize(size, Ext::zero())?;
+        Ok(())
+    }
+
     /// Begins the first phase in these rooms, with no challenge bound.
-    pub(crate) fn begin(self, layer: &LayerGates<'_>) -> Result<Working, AllocError>
-        requires { IsLayerGates layer.now }
-        ensures works { IfOk result (λ working. WorksFor layer.now working) }
-        ensures bound { IfOk result (λ working. bound_of working ≡ []) }
+    pub(crate) fn begin(self, layer: &LayerGates<'_>) -> Working
+        requires layer { IsLayerGates layer.now }
+        requires rooms { HasRooms layer.now.k self }
+        ensures works { WorksFor layer.now result }
+        ensures bound { bound_of result ≡ [] }
     {
         let Working {
             challenges,
             left_equality,
-            table,
-            scales,
-            shifts,
+            mut table,
+            mut scales,
+            mut shifts,
             ..
         } = self;
-        let size = power(layer.k);
-        let left_equality = sized(left_equality, size)?;
-        let mut table = sized(table, size)?;
         layer.write_values(&mut table);
-        let mut scales = sized(scales, size)?;
-        let mut shifts = sized(shifts, size)?;
         gather_first(layer, &table, &mut scales, &mut shifts);
-        let challenges = sized(challenges, 2 * layer.k)?;
-        Ok(Working {
+        Working {
             challenges,
             count: 0,
             left_equality,
             table,
             scales,
             shifts,
-        })
+        }
     }
 
     /// Folds the three tables, of `half` pairs each.

@@ -4,8 +4,8 @@ use Rattle.std.proofs.lemmas.List.Elements.{All-cons, All-nil}
 use Rattle.circuit_core.specs.Parts.{IsOver}
 use Rattle.protocol_tests.proofs.messages.copies_a_value_outside_the_base_field.Goals as goal
 
-pub start-requires-clause-operands : goal.start-requires-clause-operands
-start-requires-clause-operands g c =
+pub start_in-requires-clause-operands : goal.start_in-requires-clause-operands
+start_in-requires-clause-operands g c =
     let e : c.in_ok-values.values.k ≡ 1 = omega (arith, c.if-k-ne1.false, c.k.ensures) in
     let size : 2 ^ c.in_ok-values.values.k ≡ 2 = ap (λ (n : ℕ). 2 ^ n) e in
     let first = c.gate.ensures in

@@ -2,8 +2,8 @@
 use Rattle.std.proofs.Common.{length, refl}
 use Rattle.round_tables.proofs.gate_tables.GateTables.start_in.Goals as goal
 
-pub new-requires : goal.new-requires
-new-requires c = record {
+pub new-layer-requires-clause-layer : goal.new-layer-requires-clause-layer
+new-layer-requires-clause-layer c = record {
   least = c.requires.least;
   most = c.requires.most;
   size = c.args.values.now.whole;

@@ -1,14 +1,35 @@
--- The gates and the table make a layer
-use Rattle.std.proofs.Common.{length, refl}
+-- The layer's gates and the table below them can be summed over
+use Rattle.std.proofs.Common.{length, ◌∙◌, arith}
+use Rattle.round_tables.proofs.CircuitLayers.{table_exponent, few_coordinates, as_many, least, most, operands_over}
 use Rattle.round_tables.proofs.gate_tables.GateTables.start_two.Goals as goal
 
-pub new_two-requires-clause-layer : goal.new_two-requires-clause-layer
-new_two-requires-clause-layer c = record {
-  least = c.requires.least;
-  most = c.requires.most;
-  size = c.args.values.now.whole;
-  exponent = length c.args.second.now;
-  coordinates = (c.requires.same, refl);
-  width = c.requires.width;
-  operands = c.requires.operands;
-}
+pub overflow_shl-k : goal.overflow_shl-k
+overflow_shl-k c =
+    let few = most c.args.circuit.now c.args.layer c.requires.layer c.table-table.result.now.k (table_exponent c.args.circuit.now c.args.layer c.requires.layer c.args.values.now c.requires.values c.table-table.result.now c.table-table.ensures) in
+    omega (arith, few, c.k.ensures)
+
+pub start_two_in-requires-clause-least : goal.start_two_in-requires-clause-least
+start_two_in-requires-clause-least c = least c.args.circuit.now c.args.layer c.requires.layer c.table-table.result.now.k (table_exponent c.args.circuit.now c.args.layer c.requires.layer c.args.values.now c.requires.values c.table-table.result.now c.table-table.ensures)
+
+pub start_two_in-requires-clause-most : goal.start_two_in-requires-clause-most
+start_two_in-requires-clause-most c = most c.args.circuit.now c.args.layer c.requires.layer c.table-table.result.now.k (table_exponent c.args.circuit.now c.args.layer c.requires.layer c.args.values.now c.requires.values c.table-table.result.now c.table-table.ensures)
+
+pub start_two_in-requires-clause-few : goal.start_two_in-requires-clause-few
+start_two_in-requires-clause-few c = few_coordinates c.args.circuit.now c.args.layer c.requires.layer (length c.args.second.now) c.requires.second
+
+pub start_two_in-requires-clause-width : goal.start_two_in-requires-clause-width
+start_two_in-requires-clause-width c = as_many c.args.circuit.now c.args.layer c.requires.layer c.gates-gates.result.now (length c.args.second.now) c.gates-gates.ensures.value c.requires.second
+
+pub start_two_in-requires-clause-operands : goal.start_two_in-requires-clause-operands
+start_two_in-requires-clause-operands c = operands_over c.args.circuit.now c.args.layer c.requires.layer c.table-table.result.now.k (table_exponent c.args.circuit.now c.args.layer c.requires.layer c.args.values.now c.requires.values c.table-table.result.now c.table-table.ensures) c.gates-gates.result.now c.gates-gates.ensures.value
+
+pub returns : goal.returns
+returns c =
+    let made = c.in_ok-start_two_in.ensures in
+    λ i. record {
+      k = (made.k ∙ table_exponent c.args.circuit.now c.args.layer c.requires.layer c.args.values.now c.requires.values c.table-table.result.now c.table-table.ensures) i;
+      gates = (made.gates ∙ c.gates-gates.ensures.value) i;
+      values = (made.values ∙ c.table-table.ensures) i;
+      place = made.place i;
+      bound = made.bound i;
+    }

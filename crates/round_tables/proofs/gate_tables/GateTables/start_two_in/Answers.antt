@@ -1,0 +1,14 @@
+-- The gates and the table make a layer
+use Rattle.std.proofs.Common.{length, refl}
+use Rattle.round_tables.proofs.gate_tables.GateTables.start_two_in.Goals as goal
+
+pub new_two-layer-requires-clause-layer : goal.new_two-layer-requires-clause-layer
+new_two-layer-requires-clause-layer c = record {
+  least = c.requires.least;
+  most = c.requires.most;
+  size = c.args.values.now.whole;
+  exponent = length c.args.second.now;
+  coordinates = (c.requires.same, refl);
+  width = c.requires.width;
+  operands = c.requires.operands;
+}
