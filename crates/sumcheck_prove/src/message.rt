@@ -24,9 +24,6 @@ const PIECES_FOR_TWO_AT_FIRST: u32 = 4;
 
 const PIECES_FOR_EACH: u32 = 4;
 
-// A piece of 1,024 pairs stands for 2^11 positions of the layer below.
-const COORDINATES_OF_A_PIECE: u32 = 11;
-
 /// The coefficients of 1, X and X² of the next round's polynomial, where a round is left: the sum of what its pieces give,
 /// whatever the number of workers and the order of their claims. Each piece is entered at the gate before it is summed.
 /// A round of fewer pieces than threads pay for is summed on the calling thread, as worker 0. Err only where no memory is
@@ -70,7 +67,7 @@ fn summed_ahead<R: Threads + Sync, G: Gate>(
     let Ok(pieces) = u32::try_from(tables.pieces()) else {
         return Ok(None);
     };
-    let threads = threads_for(pieces, tables.rounds_left(), workers);
+    let threads = threads_for(pieces, tables.is_fresh(), workers);
     if threads == 1 {
         return Ok(None);
     }
@@ -78,12 +75,12 @@ fn summed_ahead<R: Threads + Sync, G: Gate>(
     Ok(Some(sums))
 }
 
-/// How many threads a round of so many pieces pays for, with so many rounds left, of so many workers.
-fn threads_for(pieces: u32, rounds_left: usize, workers: u32) -> u32
+/// How many threads a round of so many pieces pays for, the first of its layer or another, of so many workers.
+fn threads_for(pieces: u32, first: bool, workers: u32) -> u32
     requires { IsWorkerCount workers }
     ensures { IsWorkerCount result }
 {
-    let least = if is_first(pieces, rounds_left) {
+    let least = if first {
         PIECES_FOR_TWO_AT_FIRST
     } else {
         PIECES_FOR_TWO
@@ -92,14 +89,6 @@ fn threads_for(pieces: u32, rounds_left: usize, workers: u32) -> u32
         return 1;
     }
     workers.min((pieces / PIECES_FOR_EACH).max(2))
-}
-
-/// Whether a round of so many whole pieces is a layer's first: two rounds are left then for each coordinate of the layer below.
-fn is_first(pieces: u32, rounds_left: usize) -> bool {
-    if pieces == 0 {
-        return false;
-    }
-    rounds_left == 2 * (pieces.ilog2() + COORDINATES_OF_A_PIECE) as usize
 }
 
 /// The message of a piece: as it was summed ahead, or summed now, by worker 0.
