@@ -11,7 +11,7 @@ ghost use Rattle.gkr_layers.specs.Places.Place.{At};
 ghost use Rattle.gkr_layers.specs.Forms.Form.{Line};
 ghost use Rattle.phase_run.specs.Work.{IsWorkerCount};
 
-use crate::rounds::{Rounds, prove_rounds};
+use crate::rounds::{ProvedRounds, prove_rounds};
 use circuit_core::CircuitGate;
 use field_ext::Ext;
 use io_edge::Gate;
@@ -60,7 +60,7 @@ pub(crate) fn prove_layer<R: Threads + Sync, C: Challenges, G: Gate>(
 {
     let k = values.k() as usize;
     let tables = GateTables::start_in(room, gates, values, point)?;
-    let Rounds {
+    let ProvedRounds {
         messages,
         drawn,
         room,

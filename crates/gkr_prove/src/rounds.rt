@@ -18,7 +18,7 @@ use transcript_fs::Challenges;
 
 /// The messages of all rounds of a layer, the challenge after each, and the room that the layer used.
 #[derive(Drop)]
-pub(crate) struct Rounds {
+pub(crate) struct ProvedRounds {
     pub(crate) messages: Vec<Round>,
     pub(crate) drawn: Vec<Ext>,
     pub(crate) room: Room,
@@ -32,7 +32,7 @@ pub(crate) fn prove_rounds<R: Threads + Sync, C: Challenges, G: Gate>(
     challenges: &mut C,
     workers: u32,
     gate: &G,
-) -> Result<Rounds, AllocError>
+) -> Result<ProvedRounds, AllocError>
     requires workers { IsWorkerCount workers }
     requires begun { tables.bound ≡ [] }
     requires has { IsTrue (C.source.has (C.state challenges.old) (tables.k + tables.k)) }
@@ -63,7 +63,7 @@ pub(crate) fn prove_rounds<R: Threads + Sync, C: Challenges, G: Gate>(
         drawn.push(challenge)?;
     }
     let room = tables.into_room();
-    Ok(Rounds {
+    Ok(ProvedRounds {
         messages,
         drawn,
         room,
