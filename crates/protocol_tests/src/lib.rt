@@ -16,6 +16,8 @@ mod proofs;
 #[cfg(test)]
 mod rounds;
 #[cfg(test)]
+mod runs;
+#[cfg(test)]
 mod tables;
 #[cfg(test)]
 mod verdicts;
