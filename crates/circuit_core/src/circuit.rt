@@ -1,6 +1,6 @@
 //! Circuits.
 
-ghost use Rattle.std.specs.Prelude.{◌≡◌, ◌<◌, ◌≤◌, ◌+◌, IsTrue, is_none, length, slice_index_or, [], All, IfOk, IfErr};
+ghost use Rattle.std.specs.Prelude.{◌≡◌, ◌<◌, ◌≤◌, ◌+◌, IsTrue, is_none, length, slice_index_or, [], All, IfOk, IfErr, None};
 ghost use Rattle.circuit_core.specs.Parts.{height, width_of, gate_of, IsOver};
 ghost use Rattle.circuit_core.specs.Faults.{fault_of, IsLeafWithin};
 ghost use Rattle.circuit_core.specs.Sound.{exponent_at, exponents, greatest, leaf_at};
@@ -9,7 +9,7 @@ use crate::fault::CircuitRefused;
 use crate::gate::{CircuitGate, Layer, Leaf};
 use crate::lists::Lists;
 use crate::shape::Shape;
-use std::alloc::Global;
+use std::alloc::{AllocError, Global};
 use std::marker::Model;
 
 /// A layered circuit with no fault.
@@ -73,6 +73,52 @@ impl Circuit {
         if let Some(bad) = lists.fault() {
             return Err(CircuitRefused::Bad(bad));
         }
+        let circuit = Circuit::of_lists(alloc, lists)?;
+        Ok(circuit)
+    }
+
+    /// The circuit of lists that are known to have no fault, which aren't looked through again. Err only where no memory is
+    /// found.
+    pub fn of_faultless(
+        alloc: Global,
+        layers: Vec<Layer>,
+        input_width: u32,
+        leaves: Vec<Leaf>,
+        inputs: u32,
+        outputs: u32,
+    ) -> Result<Circuit, AllocError>
+        requires some { 1 ≤ outputs }
+        requires faultless { fault_of greatest (record {
+          layers = layers.items;
+          input_width = input_width;
+          leaves = leaves.items;
+          inputs = inputs;
+          outputs = outputs;
+        }) ≡ None }
+        ensures { IfOk result (λ c. c.parts ≡ record {
+          layers = layers.items;
+          input_width = input_width;
+          leaves = leaves.items;
+          inputs = inputs;
+          outputs = outputs;
+        }) }
+    {
+        let lists = Lists {
+            layers,
+            input_width,
+            leaves,
+            inputs,
+            outputs,
+        };
+        Circuit::of_lists(alloc, lists)
+    }
+
+    // The circuit of faultless lists.
+    fn of_lists(alloc: Global, lists: Lists) -> Result<Circuit, AllocError>
+        requires some { 1 ≤ lists.outputs }
+        requires faultless { fault_of greatest lists ≡ None }
+        ensures { IfOk result (λ c. c.parts ≡ lists) }
+    {
         let shape = lists.shape(alloc)?;
         Ok(Circuit { lists, shape })
     }

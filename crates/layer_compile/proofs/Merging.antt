@@ -18,7 +18,7 @@ not_true false h = refl
 
 module _ (n : Nodes) (h : ℕ) where
   -- a node that stands at a height has at most its level
-  level_low : (h k : ℕ) → stands n h k ≡ true → level n k ≤ h
+  pub level_low : (h k : ℕ) → stands n h k ≡ true → level n k ≤ h
   level_low zero k e = let same : level n k ≡ 0 = eqb-true (level n k) 0 e in omega arith
   level_low (suc h) k e = leb-true (level n k) (suc h) (and_parts _ _ e).0
 
@@ -78,3 +78,9 @@ module _ (n : Nodes) (h : ℕ) where
       let same : below ≡ filter (stands n h) (range_with_len 0 (length n.nodes)) = e ∙ row_below n h l in
       let none = next_past_filter (stands n h) (length n.nodes) from taken within is.counted (subst (λ xs. length xs ≤ taken) same ended) in
       (none, is.counted ∙ ap length (sym (filter_gap (stands n h) from (length n.nodes) within none.none)) ∙ ap length (sym same))
+
+  -- the next of the row below stands there behind as many as were taken
+  pub at_hand : (from taken : ℕ) (above below : List ℕ) → h < height_of n → from ≤ length n.nodes → IsMerged n h from taken above → below ≡ row n h → taken < length below → (stands n h (get_or below taken 0) ≡ true) × (taken ≡ length (filter (stands n h) (range_with_len 0 (get_or below taken 0))))
+  at_hand from taken above below l within is e more =
+      let next = next_below from taken above below l within is e more in
+      (next.0.here next.1, is.counted ∙ ap length (sym (filter_gap (stands n h) from (get_or below taken 0) next.0.past next.0.none)))

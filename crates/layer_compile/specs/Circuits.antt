@@ -42,6 +42,10 @@ gate_above n h k = if level n k == suc h then placed n h (node_at n k) else reco
   right = 0;
 }
 
+-- the gates of position 0 and of these nodes of height h + 1
+abbrev pub AreGatesAbove : Nodes → ℕ → List ℕ → List CircuitGate → Type 0
+AreGatesAbove n h nodes gates = gates ≡ zero_gate ∷ map (gate_above n h) nodes
+
 -- the layers of the heights from h down to 1
 abbrev pub layers_from : Nodes → ℕ → List (List CircuitGate)
 layers_from n zero = []

@@ -1,11 +1,13 @@
 //! The gates of each height, over the places of the height below.
 
-ghost use Rattle.std.specs.Prelude.{◌≡◌, ◌≤◌, ◌<◌, ◌+◌, ◌-◌, ◌++◌, ◌∷◌, All, suc, map, length, replicate, OnOk, IfOk};
+ghost use Rattle.std.specs.Prelude.{◌≡◌, ◌<◌, ◌-◌, ◌++◌, ◌∷◌, All, List, suc, map, length, replicate, OnOk, IfOk};
 ghost use Rattle.circuit_core.specs.Parts.{zero_gate};
-ghost use Rattle.node_core.specs.Nodes.{IsNodeList, node_at};
+ghost use Rattle.node_core.specs.Nodes.{node_at};
 ghost use Rattle.layer_compile.specs.Levels.{level, height_of};
-ghost use Rattle.layer_compile.specs.Rows.{row, IsAbove, ArePlaces};
-ghost use Rattle.layer_compile.specs.Circuits.{gate_above, placed, padded, size_for, leaf_of};
+ghost use Rattle.layer_compile.specs.Rows.{IsAbove, ArePlaces};
+ghost use Rattle.circuit_core.specs.declared.gate.Kind.TheVariants.{Add};
+ghost use Rattle.circuit_core.specs.declared.gate.CircuitGate.{CircuitGate};
+ghost use Rattle.layer_compile.specs.Circuits.{gate_above, AreGatesAbove, placed, padded, size_for, leaf_of};
 
 use crate::plan::Plan;
 use crate::sizes::size_for;
@@ -14,37 +16,16 @@ use field_ext::Fp;
 use node_core::Node;
 use std::alloc::{AllocError, Global};
 
-const ZERO_GATE: CircuitGate = CircuitGate {
+/// The gate at position 0 and in the padding.
+pub const ZERO_GATE: CircuitGate = CircuitGate {
     kind: Kind::Add,
     left: 0,
     right: 0,
 };
 
 impl<'a> Plan<'a> {
-    /// The layer of the height above one, from the places of that one's nodes and the nodes of its own.
-    pub fn layer_above(
-        &self,
-        alloc: Global,
-        places: &[u32],
-        height: usize,
-        nodes: &[u32],
-    ) -> Result<Layer, AllocError>
-        requires fine { IsNodeList self.now.list.now }
-        requires places { ArePlaces self.now.list.now height places.now }
-        requires room { length places.now ≡ length self.now.list.now.nodes }
-        requires under { height < height_of self.now.list.now }
-        requires nodes { nodes.now ≡ row self.now.list.now (suc height) }
-        ensures { IfOk result (λ l.
-            l ≡ padded (map (gate_above self.now.list.now height)
-            (row self.now.list.now (suc height)))) }
-    {
-        let mut gates = self.gates_above(alloc, places, height, nodes)?;
-        pad(&mut gates)?;
-        Ok(Layer::of(gates))
-    }
-
-    // The gate of position 0, and those of a row.
-    fn gates_above(
+    /// The gate of position 0, and those of the nodes of the height above one, from the places of that one's nodes.
+    pub fn gates_above(
         &self,
         alloc: Global,
         places: &[u32],
@@ -55,8 +36,7 @@ impl<'a> Plan<'a> {
         requires room { length places.now ≡ length self.now.list.now.nodes }
         requires under { height < height_of self.now.list.now }
         requires nodes { All (IsAbove self.now.list.now height) nodes.now }
-        ensures { IfOk result (λ v. v.items ≡ zero_gate ∷ map (gate_above self.now.list.now height)
-            nodes.now) }
+        ensures { IfOk result (λ v. AreGatesAbove self.now.list.now height nodes.now v.items) }
     {
         let mut gates = Vec::with_capacity(alloc, size_for(1 + nodes.len()))?;
         gates.push(ZERO_GATE)?;
@@ -77,15 +57,12 @@ impl<'a> Plan<'a> {
         if self.level(k as usize) == height + 1 {
             self.placed(places, height, k as usize)
         } else {
-            CircuitGate {
-                kind: Kind::Add,
-                left: places[k as usize],
-                right: 0,
-            }
+            carried(places[k as usize])
         }
     }
 
-    fn placed(&self, places: &[u32], height: usize, k: usize) -> CircuitGate
+    /// An operation on the places of its operands.
+    pub fn placed(&self, places: &[u32], height: usize, k: usize) -> CircuitGate
         requires places { ArePlaces self.now.list.now height places.now }
         requires room { length places.now ≡ length self.now.list.now.nodes }
         requires node { IsAbove self.now.list.now height k }
@@ -116,6 +93,18 @@ impl<'a> Plan<'a> {
     }
 }
 
+/// The gate that carries the value of a position up.
+#[inline]
+pub fn carried(place: u32) -> CircuitGate
+    ensures { result ≡ record { kind = Add; left = place; right = 0 } }
+{
+    CircuitGate {
+        kind: Kind::Add,
+        left: place,
+        right: 0,
+    }
+}
+
 fn leaf_of(node: &Node) -> Leaf
     ensures { result ≡ leaf_of node.now }
 {
@@ -126,7 +115,16 @@ fn leaf_of(node: &Node) -> Leaf
     }
 }
 
-// Fills a layer up to its size.
+/// The layer of these gates, filled up to its size.
+pub fn padded(mut gates: Vec<CircuitGate>) -> Result<Layer, AllocError>
+    ensures { (nodes : List CircuitGate) → gates.items ≡ zero_gate ∷ nodes
+        → IfOk result (λ l. l ≡ padded nodes) }
+{
+    pad(&mut gates)?;
+    Ok(Layer::of(gates))
+}
+
+// Fills gates up to the size of a layer.
 fn pad(gates: &mut Vec<CircuitGate>) -> Result<(), AllocError>
     ensures { OnOk result (gates.new.items ≡ gates.old.items ++ replicate
         (size_for (length gates.old.items) - length gates.old.items) zero_gate) }

@@ -6,9 +6,11 @@ ghost use Rattle.layer_compile.specs.Levels.{height_of};
 ghost use Rattle.layer_compile.specs.Rows.{row};
 ghost use Rattle.layer_compile.specs.Circuits.{layers_from, too_wide, refusal_of, IsCauseOf};
 
+use crate::gates::padded;
 use crate::limits::Limits;
 use crate::plan::Plan;
 use crate::refused::LayerRefused;
+use crate::rows::Row;
 use circuit_core::Layer;
 use std::alloc::{AllocError, Global};
 
@@ -35,11 +37,12 @@ impl<'a> Plan<'a> {
         let mut below = leaves;
         for height in 0..self.top {
             self.write_places(places, height, &below);
-            let above = self.next_row(alloc, height, &below)?;
-            self.fits(limits, height + 1, &above)?;
-            let layer = self.layer_above(alloc, places, height, &above)?;
+            let above = self.next_row(alloc, places, height, &below)?;
+            let Row { nodes, gates } = above;
+            self.fits(limits, height + 1, &nodes)?;
+            let layer = padded(gates)?;
             add(&mut layers, layer)?;
-            below = above;
+            below = nodes;
         }
         layers.reverse();
         Ok(layers)

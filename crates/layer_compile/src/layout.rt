@@ -9,7 +9,6 @@ ghost use Rattle.node_core.specs.Nodes.{IsNodeList, node_at};
 ghost use Rattle.layer_compile.specs.Levels.{height_of};
 ghost use Rattle.layer_compile.specs.Rows.{row};
 ghost use Rattle.layer_compile.specs.Circuits.{circuit_of, layers_from, leaf_of, refusal_of, size_for, output_values, AreKept, IsCauseOf};
-ghost use Rattle.layer_compile.specs.declared.refused.LayerRefused.TheVariants as refused;
 
 use crate::chains::linked;
 use crate::levels::{greatest_level, levels};
@@ -18,7 +17,7 @@ use crate::plan::Plan;
 use crate::refused::LayerRefused;
 use crate::sizes::size_for;
 use crate::uses::uses;
-use circuit_core::{Circuit, CircuitRefused, Layer, Leaf};
+use circuit_core::{Circuit, Layer, Leaf};
 use node_core::NodeList;
 use std::alloc::{AllocError, Global};
 
@@ -73,7 +72,8 @@ impl<'a> Plan<'a> {
         let leaves = self.leaves_of(alloc, &row)?;
         let mut places = vec![in alloc; 0; many]?;
         let layers = self.layers(alloc, limits, row, &mut places)?;
-        self.of_lists(alloc, layers, leaves)
+        let circuit = self.of_lists(alloc, layers, leaves)?;
+        Ok(circuit)
     }
 
     // The circuit of these layers and leaves, which have no fault.
@@ -82,21 +82,16 @@ impl<'a> Plan<'a> {
         alloc: Global,
         layers: Vec<Layer>,
         leaves: Vec<Leaf>,
-    ) -> Result<Circuit, LayerRefused>
+    ) -> Result<Circuit, AllocError>
         requires layers { layers.items ≡ layers_from self.now.list.now (height_of self.now.list.now) }
         requires leaves { leaves.items ≡ map (λ k. leaf_of (node_at self.now.list.now k))
             (row self.now.list.now 0) }
         requires faultless { fault_of greatest (circuit_of self.now.list.now) ≡ None }
-        ensures made { IfOk result (λ c. c.parts ≡ circuit_of self.now.list.now) }
-        ensures refused { IfErr result (λ refusal. refusal ≡ refused.Memory) }
+        ensures { IfOk result (λ c. c.parts ≡ circuit_of self.now.list.now) }
     {
         let input_width = size_for(1 + leaves.len()) as u32;
         let inputs = self.list.inputs();
         let outputs = self.list.outputs().len() as u32;
-        match Circuit::of(alloc, layers, input_width, leaves, inputs, outputs) {
-            Ok(circuit) => Ok(circuit),
-            Err(CircuitRefused::Memory) => Err(LayerRefused::Memory),
-            Err(CircuitRefused::Bad(_)) => unreachable!(),
-        }
+        Circuit::of_faultless(alloc, layers, input_width, leaves, inputs, outputs)
     }
 }

@@ -214,8 +214,8 @@ where
     Ok(outcomes)
 }
 
-/// Each job's outcome, in the script's order, and the one history that the table had. A job is a client's number, from 1,
-/// a case, and whether its client withdraws it once it has submitted all of its jobs.
+/// Each job's outcome, in the script's order, and a history of a table that these jobs went through, as `IsHistoryOf` says.
+/// A job is a client's number, from 1, a case, and whether its client withdraws it once it has submitted all of its jobs.
 ///
 /// A marked job is withdrawn where no thread has taken it yet. With no prover the clients' threads answer one job each, and
 /// the caller the others. The error comes where memory runs out, and then the jobs are dropped.

@@ -12,7 +12,7 @@ returns-else-level-height c =
     let other : level list c.args.k ≢ suc c.args.height = λ e. c.if-level-height.false (omega (arith, e, c.level.ensures)) in
     let below = carried_stands list c.args.height c.args.k c.requires.node other in
     let place = c.requires.places.each c.args.k below.0 below.1 in
-    (λ i. record { kind = Add; left = place i; right = 0 }) ∙ sym (cond-false _ _ _ (ne_eqb (level list c.args.k) (suc c.args.height) other))
+    c.carried.ensures ∙ (λ i. record { kind = Add; left = place i; right = 0 }) ∙ sym (cond-false _ _ _ (ne_eqb (level list c.args.k) (suc c.args.height) other))
 
 pub returns-then-level-height : goal.returns-then-level-height
 returns-then-level-height c =

@@ -23,12 +23,14 @@ loop-height-preserved c =
     let limits = c.args.limits.now in
     let h = c.loop-height.height in
     let next : h + 1 ≡ suc h = omega arith in
+    let gates = map (gate_above list h) in
+    let layer = c.in_ok-layer.ensures (gates c.in_ok-above.above.nodes.items) c.in_ok-above.ensures.gates ∙ ap (λ nodes. padded (gates nodes)) c.in_ok-above.ensures.nodes in
     record {
-      below = c.in_ok-above.ensures ∙ ap (row list) (sym next);
+      below = c.in_ok-above.ensures.nodes ∙ ap (row list) (sym next);
       narrow = first_below_more (too_wide limits list) (h + 1) c.loop-height.invariant.narrow c.in_ok-fits.ensures.fits;
       made =
           c.in_ok-add.ensures
-          ∙ ap₂ (λ layers layer. layers ++ layer ∷ []) c.loop-height.invariant.made c.in_ok-layer.ensures
+          ∙ ap₂ (λ layers layer. layers ++ layer ∷ []) c.loop-height.invariant.made layer
           ∙ sym (reverse-append (padded (map (gate_above list h) (row list (suc h))) ∷ []) (layers_from list h))
           ∙ ap (λ (i : ℕ). reverse (layers_from list i)) (sym next);
     }
