@@ -18,10 +18,10 @@ pub record AreRunsOf (p : Parts) (layer : ℕ) (runs : LayerRuns) : Type 0 where
 abbrev pub AreFew : LayerRuns → Type 0
 AreFew runs = 16 * (max runs.k runs.below + 1) * length runs.runs ≤ 2 ^ runs.k
 
--- a layer's wiring by its runs, where they are few; gate by gate nothing is kept
+-- a layer's wiring is by its runs exactly where they are few; gate by gate nothing is kept
 abbrev pub IsWiringOf : Parts → ℕ → LayerWiring → Type 0
 IsWiringOf p layer (Runs runs) = AreRunsOf p layer runs × AreFew runs
-IsWiringOf p layer Gates = Unit {0}
+IsWiringOf p layer Gates = (runs : LayerRuns) → AreRunsOf p layer runs → ¬ AreFew runs
 
 -- the wiring of each layer above the inputs, the output layer first
 pub record AreWiringsOf (p : Parts) (wirings : List LayerWiring) : Type 0 where

@@ -1,8 +1,9 @@
 // The longest runs of a layer's gates.
 
-ghost use Rattle.std.specs.Prelude.{◌≡◌, ◌≤◌, ◌<◌, ◌+◌, ◌↔◌, IsTrue, IfOk, IfNone, IfSome, length, slice_index_or};
+ghost use Rattle.std.specs.Prelude.{◌≡◌, ◌≤◌, ◌<◌, ◌+◌, ◌↔◌, IsTrue, IfOk, IfNone, IfSome, List, length, slice_index_or};
 ghost use Rattle.circuit_core.specs.Parts.{zero_gate};
 ghost use Rattle.run_wiring.specs.Runs.{gate_in, HasSmallSteps};
+ghost use Rattle.run_wiring.specs.declared.run.Run.{Run};
 ghost use Rattle.run_wiring.specs.Greedy.{IsRunOf, IsLongest, AreGreedy, CanFollow};
 
 use crate::run::Run;
@@ -21,6 +22,8 @@ pub(crate) fn greedy_runs(
         (λ found. IfSome found (λ runs. AreGreedy runs.items gates.now)) }
     ensures few { IfOk result (λ found. IfSome found (λ runs. length runs.items ≤ most)) }
     ensures many { IfOk result (λ found. IfNone found (most < length gates.now)) }
+    ensures more { IfOk result (λ found. IfNone found
+        ((runs : List Run) → AreGreedy runs gates.now → most < length runs)) }
 {
     let mut runs = Vec::new(alloc);
     let mut done = 0;

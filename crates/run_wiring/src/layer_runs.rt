@@ -6,7 +6,7 @@ ghost use Rattle.circuit_core.specs.Parts.{height, width_of};
 ghost use Rattle.circuit_core.specs.Sound.{exponent_at};
 ghost use Rattle.wiring_poly.specs.Wiring.{wiring_add, wiring_mul};
 ghost use Rattle.run_wiring.specs.Runs.{gates_of};
-ghost use Rattle.run_wiring.specs.LayerRuns.{are_of_layer};
+ghost use Rattle.run_wiring.specs.LayerRuns.{LayerRuns, are_of_layer};
 ghost use Rattle.run_wiring.specs.CircuitRuns.{AreRunsOf};
 
 use crate::greedy::greedy_runs;
@@ -73,6 +73,8 @@ pub(crate) fn runs_within(
         (λ found. IfSome found (λ runs. AreRunsOf circuit.now.parts layer runs)) }
     ensures few { IfOk result (λ found. IfSome found (λ runs. length runs.runs ≤ most)) }
     ensures many { IfOk result (λ found. IfNone found (most < width_of circuit.now.parts layer)) }
+    ensures more { IfOk result (λ found. IfNone found
+        ((runs : LayerRuns) → AreRunsOf circuit.now.parts layer runs → most < length runs.runs)) }
 {
     let Some(runs) = greedy_runs(alloc, circuit.gates(layer), most)? else {
         return Ok(None);

@@ -29,8 +29,8 @@ pub enum LayerWiring {
     Gates,
 }
 
-/// The wiring of each layer of a circuit, the output layer first: its runs where they are so few that going over them is
-/// quicker than going over the gates. Err only where no memory is found.
+/// The wiring of each layer of a circuit, the output layer first: its runs exactly where they are so few that going over
+/// them is quicker than going over the gates (`AreFew`). Err only where no memory is found.
 pub fn wirings(alloc: Global, circuit: &Circuit) -> Result<Vec<LayerWiring>, AllocError>
     ensures { IfOk result (λ wirings. AreWiringsOf circuit.now.parts wirings.items) }
 {

@@ -1,7 +1,7 @@
 -- One more run
 use Rattle.std.proofs.Common.{◌≡◌, ◌+◌, List, [], ◌∷◌, length, sym, subst, arith, ap, ◌∙◌, length-append}
 use Rattle.run_wiring.specs.declared.run.Run.{Run}
-use Rattle.run_wiring.proofs.LongestRuns.{Done, run_done}
+use Rattle.run_wiring.proofs.LongestRuns.{Done, run_done, more_left}
 use Rattle.run_wiring.proofs.greedy.greedy_runs.Goals as goal
 
 pub loop-done-preserved : goal.loop-done-preserved
@@ -15,3 +15,8 @@ loop-done-preserved c =
       few = omega (arith, before.few, more);
       some = omega (arith, before.some, more, c.longest_at-run.ensures.longest.some);
     }
+
+pub returns-then-len-most-clause-more : goal.returns-then-len-most-clause-more
+returns-then-len-most-clause-more c = λ runs greedy.
+    let more = more_left c.args.gates.now c.loop-done.runs.items c.loop-done.done c.loop-done.invariant.done c.loop-done-test.true runs greedy in
+    omega (arith, more, c.if-len-most.true)
