@@ -2,6 +2,7 @@
 """A second prover and verifier, by docs/formats.md and docs/language.md, for whoever writes a compatible one.
 
     scripts/reference.py prove     reads a case without outputs and proof from standard input, and writes it with them
+    scripts/reference.py prove --proof pair     the same with a proof by pairs
     scripts/reference.py verify    reads a case with outputs and a proof, and writes the verdict
     scripts/reference.py vector    reads such a case, and writes its statement's bytes, sizes and first challenges
 
@@ -366,7 +367,8 @@ def padded(numbers, width):
     return [(number, 0) for number in numbers] + [ZERO] * (width - len(numbers))
 
 
-# Tables of 2^k values, and points of k coordinates: coordinate j belongs to bit j of an index, the lowest first.
+# Tables of 2^k values, and points of k coordinates: coordinate j belongs to bit j of an index, the lowest first. A claim stands at
+# a place: points with weights, of which there is one by lines, and by pairs two behind the output layer.
 
 
 def folded(table, x):
@@ -377,6 +379,20 @@ def extension_at(table, point):
     for x in point:
         table = folded(table, x)
     return table[0]
+
+
+def value_over(table, place):
+    total = ZERO
+    for point, weight in place:
+        total = add(total, mul(weight, extension_at(table, point)))
+    return total
+
+
+def eq_over(place, index):
+    total = ZERO
+    for point, weight in place:
+        total = add(total, mul(weight, eq(point, index)))
+    return total
 
 
 def eq(point, index):
@@ -390,8 +406,9 @@ def eq(point, index):
 
 
 class Transcript:
-    def __init__(self, program, inputs, outputs):
-        self.state = hashlib.sha256(b"gkr-transcript-1\n" + statement_of(program, inputs, outputs)).digest()
+    def __init__(self, program, inputs, outputs, by_pairs):
+        name = b"gkr-transcript-p\n" if by_pairs else b"gkr-transcript-1\n"
+        self.state = hashlib.sha256(name + statement_of(program, inputs, outputs)).digest()
         self.start, self.drawn = self.state, []
 
     def absorb(self, elements):
@@ -411,18 +428,18 @@ def statement_of(program, inputs, outputs):
 # The prover.
 
 
-def prove(program, inputs):
+def prove(program, inputs, by_pairs=False):
     """Returns the outputs and the proof's bytes."""
     circuit = Circuit(program.decode())
     if len(inputs) != circuit.inputs:
         raise ValueError("inputs")
     tables = circuit.tables(inputs)
     outputs = [x for x, _ in tables[0][1 : circuit.outputs + 1]]
-    transcript = Transcript(program, inputs, outputs)
-    point = [transcript.challenge() for _ in range(circuit.exponents[0])]
-    proof = b"GKR1"
+    transcript = Transcript(program, inputs, outputs, by_pairs)
+    place = [([transcript.challenge() for _ in range(circuit.exponents[0])], ONE)]
+    proof = b"GKRP" if by_pairs else b"GKR1"
     for gates, below, k in zip(circuit.gates, tables[1:], circuit.exponents[1:]):
-        weights = [eq(point, at) for at in range(len(gates))]
+        weights = [eq_over(place, at) for at in range(len(gates))]
         drawn = []
         for done in range(2 * k):
             message = round_message(gates, weights, below, k, drawn, done)
@@ -430,10 +447,10 @@ def prove(program, inputs):
             transcript.absorb(message)
             drawn.append(transcript.challenge())
         left, right = drawn[:k], drawn[k:]
-        message = line_message(below, left, right)
+        message = [extension_at(below, left), extension_at(below, right)] if by_pairs else line_message(below, left, right)
         proof += b"".join(bytes_of(one) for one in message)
         transcript.absorb(message)
-        point = between(left, right, transcript.challenge())
+        place = place_below(left, right, transcript.challenge(), by_pairs)
     return outputs, proof
 
 
@@ -474,8 +491,11 @@ def line_message(below, left, right):
     return table[0]
 
 
-def between(left, right, t):
-    return [add(x, mul(t, sub(y, x))) for x, y in zip(left, right)]
+def place_below(left, right, t, by_pairs):
+    """Where the claim on the layer below stands: at both points, the second with the weight t, or at t of the line between them."""
+    if by_pairs:
+        return [(left, ONE), (right, t)]
+    return [([add(x, mul(t, sub(y, x))) for x, y in zip(left, right)], ONE)]
 
 
 # The verifier.
@@ -488,11 +508,13 @@ def printed(x):
 def verify(program, inputs, outputs, proof):
     """Returns the verdict's line, the circuit and the transcript."""
     circuit = Circuit(program.decode())
-    transcript = Transcript(program, inputs, outputs)
+    by_pairs = proof[3:4] == b"P"
+    transcript = Transcript(program, inputs, outputs, by_pairs)
     if len(inputs) != circuit.inputs or len(outputs) != circuit.outputs:
         raise ValueError("counts")
-    length = 4 + sum(56 * k + 8 for k in circuit.exponents[1:])
-    if proof[:4] != b"GKR1" or len(proof) != length:
+    last = lambda k: 2 if by_pairs else k + 1
+    length = 4 + sum(48 * k + 8 * last(k) for k in circuit.exponents[1:])
+    if proof[:4] not in (b"GKR1", b"GKRP") or len(proof) != length:
         raise ValueError("proof")
     elements = [
         tuple(int.from_bytes(proof[at + half : at + half + 4], "little") for half in (0, 4)) for at in range(4, length, 8)
@@ -500,8 +522,8 @@ def verify(program, inputs, outputs, proof):
     if any(half >= P for one in elements for half in one):
         raise ValueError("proof")
     answer = lambda text: (text, circuit, transcript)
-    point = [transcript.challenge() for _ in range(circuit.exponents[0])]
-    claim = extension_at(padded([0] + outputs, circuit.widths[0]), point)
+    place = [([transcript.challenge() for _ in range(circuit.exponents[0])], ONE)]
+    claim = value_over(padded([0] + outputs, circuit.widths[0]), place)
     verdict = None
     for layer, (gates, k) in enumerate(zip(circuit.gates, circuit.exponents[1:])):
         drawn = []
@@ -513,19 +535,19 @@ def verify(program, inputs, outputs, proof):
             transcript.absorb(message)
             drawn.append(transcript.challenge())
             claim = value_at(message, drawn[-1])
-        message, elements = elements[: k + 1], elements[k + 1 :]
+        message, elements = elements[: last(k)], elements[last(k) :]
         left, right = drawn[:k], drawn[k:]
-        low, high = value_at(message, ZERO), value_at(message, ONE)
+        low, high = message if by_pairs else (value_at(message, ZERO), value_at(message, ONE))
         want = ZERO
         for at, (word, u, v) in enumerate(gates):
-            factor = mul(eq(point, at), mul(eq(left, u), eq(right, v)))
+            factor = mul(eq_over(place, at), mul(eq(left, u), eq(right, v)))
             want = add(want, mul(factor, (add if word == "add" else mul)(low, high)))
         if want != claim and not verdict:
             verdict = f"rejected end {layer} {printed(claim)} {printed(want)}"
         transcript.absorb(message)
         t = transcript.challenge()
-        point, claim = between(left, right, t), value_at(message, t)
-    want = extension_at(circuit.input_table(inputs), point)
+        place, claim = place_below(left, right, t, by_pairs), value_at(message, t)
+    want = value_over(circuit.input_table(inputs), place)
     if want != claim and not verdict:
         verdict = f"rejected input {printed(claim)} {printed(want)}"
     return answer(verdict or "accepted")
@@ -578,13 +600,14 @@ def vector(case):
 
 
 def main(words):
-    if words not in (["prove"], ["verify"], ["vector"]):
+    by_pairs = words == ["prove", "--proof", "pair"]
+    if words not in (["prove"], ["verify"], ["vector"]) and not by_pairs:
         print(__doc__.strip(), file=sys.stderr)
         return 2
     case = sys.stdin.buffer.read()
-    if words == ["prove"]:
+    if words[0] == "prove":
         program, inputs, _, _ = parts_of(case)
-        sys.stdout.buffer.write(case_of(program, inputs, *prove(program, inputs)))
+        sys.stdout.buffer.write(case_of(program, inputs, *prove(program, inputs, by_pairs)))
     elif words == ["verify"]:
         verdict, _, _ = verify(*parts_of(case))
         print(verdict)

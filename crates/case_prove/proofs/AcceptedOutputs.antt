@@ -8,13 +8,15 @@ use Rattle.circuit_core.specs.Parts.{Parts, layer_values, zero_f}
 use Rattle.circuit_core.specs.Sound.{SoundCircuit, greatest, exponents}
 use Rattle.proof_wire.specs.declared.messages.Messages.{Messages}
 use Rattle.transcript_fs.specs.Source.{Source, all_draws}
-use Rattle.transcript_fs.specs.Transcript.{start_state, transcript}
+use Rattle.transcript_fs.specs.Transcript.{transcript}
 use Rattle.gkr_layers.specs.declared.verdict.Verdict.TheVariants.{Accepted}
-use Rattle.gkr_layers.specs.Acceptance.{challenge_count, claim_of, verdict_of}
+use Rattle.gkr_layers.specs.Acceptance.{challenge_count, claim_in, verdict_of}
 use Rattle.proof_wire.specs.Lists.{all_messages, HaveShape}
 use Rattle.gkr_layers.specs.Soundness.{IsFalse, LetsPass}
 use Rattle.arr_compile.specs.Circuits.{IsCompiled, Computes}
 use Rattle.case_text.specs.Content.{Content}
+use Rattle.proof_wire.specs.declared.form.ProofForm.{ProofForm}
+use Rattle.case_prove.specs.Started.{start_of}
 use Rattle.case_prove.specs.Verified.{IsVerdictOn}
 use Rattle.case_prove.specs.Sound.{HasMeaning, HasExceptionalChallenge}
 
@@ -24,11 +26,11 @@ pub record IsKnown : Type 0 where
   pub computes : (text : List ℕ) (parts : Parts) (is : IsCompiled text parts) (inputs : List F) → length inputs ≡ parts.inputs → Computes is.tree parts inputs
   pub faultless : (text : List ℕ) (parts : Parts) → IsCompiled text parts → fault_of greatest parts ≡ None
   pub has_output : (text : List ℕ) (parts : Parts) → IsCompiled text parts → 1 ≤ parts.outputs
-  pub lists : (circuit : SoundCircuit) (inputs outputs : List F) (messages : Messages) (rs : List K) → length outputs ≡ circuit.parts.outputs → HaveShape (drop 1 (exponents circuit.parts)) messages.layers →
-      let stated = claim_of circuit.parts inputs outputs in let qs = all_messages messages.layers in
+  pub lists : (form : ProofForm) (circuit : SoundCircuit) (inputs outputs : List F) (messages : Messages) (rs : List K) → length outputs ≡ circuit.parts.outputs → HaveShape form (drop 1 (exponents circuit.parts)) messages.layers →
+      let stated = claim_in form circuit.parts inputs outputs in let qs = all_messages messages.layers in
       length rs ≡ challenge_count stated → verdict_of stated qs rs ≡ Accepted → IsFalse circuit.parts inputs outputs → (n : ℕ) × LetsPass stated qs rs n
-  pub draws : (circuit : SoundCircuit) (inputs outputs : List F) (messages : Messages) (source : Source) (state : List ℕ) → HaveShape (drop 1 (exponents circuit.parts)) messages.layers →
-      let stated = claim_of circuit.parts inputs outputs in
+  pub draws : (form : ProofForm) (circuit : SoundCircuit) (inputs outputs : List F) (messages : Messages) (source : Source) (state : List ℕ) → HaveShape form (drop 1 (exponents circuit.parts)) messages.layers →
+      let stated = claim_in form circuit.parts inputs outputs in
       length (all_draws source state stated.k (all_messages messages.layers)) ≡ challenge_count stated
 
 no_fault : {X : Type 0} (o : Option X) → o ≡ None → IsTrue (is_none o)
@@ -68,15 +70,16 @@ sound known c is wrong =
       faultless = no_fault (fault_of greatest is.parts) (known.faultless c.program is.parts is.claim.compiled);
       has_output = known.has_output c.program is.parts is.claim.compiled;
     } in
-    let state = start_state c.program c.inputs is.outputs in
-    let stated = claim_of is.parts c.inputs is.outputs in
+    let state = start_of is.form c.program c.inputs is.outputs in
+    let stated = claim_in is.form is.parts c.inputs is.outputs in
     let rs = all_draws transcript state stated.k (all_messages is.messages.layers) in
-    let found = known.lists circuit c.inputs is.outputs is.messages rs is.as_many is.of_shape (known.draws circuit c.inputs is.outputs is.messages transcript state is.of_shape) (sym is.verdict_is) (λ same. wrong (meant known c is same)) in (
+    let found = known.lists is.form circuit c.inputs is.outputs is.messages rs is.as_many is.of_shape (known.draws is.form circuit c.inputs is.outputs is.messages transcript state is.of_shape) (sym is.verdict_is) (λ same. wrong (meant known c is same)) in (
       found.0,
       record {
         parts = is.parts;
         outputs = is.outputs;
         claim = is.claim;
+        form = is.form;
         messages = is.messages;
         of_shape = is.of_shape;
         spelled = is.spelled;

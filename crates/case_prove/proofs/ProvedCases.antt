@@ -9,40 +9,43 @@ use Rattle.circuit_core.specs.Parts.{Parts, layer_values}
 use Rattle.circuit_core.specs.Sound.{SoundCircuit, exponent_at, exponents}
 use Rattle.gkr_layers.specs.Layers.{GateLayer, layers_of, message_count}
 use Rattle.transcript_fs.specs.Source.{Source, coordinates, state_after_coordinates, draws, all_draws}
-use Rattle.transcript_fs.specs.Transcript.{start_state, transcript}
+use Rattle.transcript_fs.specs.Transcript.{transcript}
 use Rattle.proof_wire.specs.declared.messages.Round.{Round}
 use Rattle.proof_wire.specs.declared.messages.LayerMessages.{LayerMessages}
 use Rattle.proof_wire.specs.declared.messages.Messages.{Messages}
-use Rattle.proof_wire.specs.Spelling.{coefficients_of, layer_coefficients, all_coefficients, magic, spelling}
+use Rattle.proof_wire.specs.Forms.{magic}
+use Rattle.proof_wire.specs.Spelling.{coefficients_of, layer_coefficients, all_coefficients, spelling}
 use Rattle.gkr_layers.specs.declared.verdict.Verdict.TheVariants.{Accepted}
-use Rattle.gkr_layers.specs.Acceptance.{claim_of, verdict_of, input_table}
+use Rattle.gkr_layers.specs.Acceptance.{claim_in, verdict_of, input_table}
 use Rattle.proof_wire.specs.Lists.{messages_of, all_messages, round_messages, HaveShape}
 use Rattle.gkr_layers.proofs.Shapes.{have_shape, length-all}
-use Rattle.gkr_layers.specs.Honest.{AreHonest, IsHonestProof}
+use Rattle.gkr_layers.specs.Honest.{AreHonest, AreHonestMessages}
 use Rattle.gkr_layers.specs.Places.Place.{At}
-use Rattle.gkr_layers.specs.Forms.Form.{Line}
+use Rattle.proof_wire.specs.declared.form.ProofForm.{ProofForm}
 use Rattle.arr_compile.specs.Circuits.{IsCompiled}
 use Rattle.case_text.specs.Content.{Content}
 use Rattle.case_prove.specs.Proved.{IsProved}
+use Rattle.case_prove.specs.Started.{start_of}
 use Rattle.case_prove.specs.Verified.{IsVerdictOn}
 use Rattle.case_prove.proofs.ProvedOutputs.{OneTree, InputsAre, IsComputed, sound, one_meaning, meaning_there}
 
 -- ---- acceptance
 
-abbrev pub HonestIsAccepted : Type 0
-HonestIsAccepted = (c : SoundCircuit) (inputs outputs : List F) (source : Source) (s : List ℕ) (messages : Messages) → length outputs ≡ c.parts.outputs →
-    outputs ≡ take (length outputs) (drop 1 (layer_values c.parts inputs 0)) → HaveShape (drop 1 (exponents c.parts)) messages.layers → IsHonestProof c.parts inputs source s (all_messages messages.layers) →
-    verdict_of (claim_of c.parts inputs outputs) (all_messages messages.layers) (all_draws source s (exponent_at c.parts 0) (all_messages messages.layers)) ≡ Accepted
+abbrev pub HonestIsAccepted : ProofForm → Type 0
+HonestIsAccepted form = (c : SoundCircuit) (inputs outputs : List F) (source : Source) (s : List ℕ) (messages : Messages) → length outputs ≡ c.parts.outputs →
+    outputs ≡ take (length outputs) (drop 1 (layer_values c.parts inputs 0)) → HaveShape form (drop 1 (exponents c.parts)) messages.layers → AreHonestMessages form c.parts inputs source s (all_messages messages.layers) →
+    verdict_of (claim_in form c.parts inputs outputs) (all_messages messages.layers) (all_draws source s (exponent_at c.parts 0) (all_messages messages.layers)) ≡ Accepted
 
-pub accepted : OneTree → InputsAre → IsComputed → HonestIsAccepted → (c p : Content) → IsProved c p → IsVerdictOn p Accepted
-accepted one inputs_are computes honest c p is =
+pub accepted : (form : ProofForm) → OneTree → InputsAre → IsComputed → HonestIsAccepted form → (c p : Content) → IsProved form c p → IsVerdictOn p Accepted
+accepted form one inputs_are computes honest c p is =
     let there = meaning_there one inputs_are computes c is.parts is.compiled is.outputs is.evaluated in
-    let verdict = honest (sound c.program is.parts is.compiled) c.inputs is.outputs transcript (start_state c.program c.inputs is.outputs) is.messages there.as_many there.stand is.of_shape is.honest in
+    let verdict = honest (sound c.program is.parts is.compiled) c.inputs is.outputs transcript (start_of form c.program c.inputs is.outputs) is.messages there.as_many there.stand is.of_shape is.honest in
     subst (λ (q : Content). IsVerdictOn q Accepted) (sym is.proved_is) (record {
       parts = is.parts;
       outputs = is.outputs;
       claim = record { compiled = is.compiled; counted = there.counted; outputs_are = refl };
       as_many = there.as_many;
+      form = form;
       messages = is.messages;
       of_shape = is.of_shape;
       spelled = refl;
@@ -63,43 +66,43 @@ flat_layer : (m : LayerMessages) (qs : List (List K)) → flat (messages_of m ++
 flat_layer m qs =
     flat_map-append (λ (q : List K). q) (messages_of m) qs
     ∙ ap (λ (xs : List K). xs ++ flat qs)
-    (flat_map-append (λ (q : List K). q) (round_messages m.rounds) (m.line ∷ [])
-    ∙ ap (λ (xs : List K). xs ++ (m.line ++ [])) (flat_rounds m.rounds)
-    ∙ ap (λ (xs : List K). flat_map coefficients_of m.rounds ++ xs) (append-nil m.line))
+    (flat_map-append (λ (q : List K). q) (round_messages m.rounds) (m.last ∷ [])
+    ∙ ap (λ (xs : List K). xs ++ (m.last ++ [])) (flat_rounds m.rounds)
+    ∙ ap (λ (xs : List K). flat_map coefficients_of m.rounds ++ xs) (append-nil m.last))
 
 flat_messages : (ms : List LayerMessages) → flat (all_messages ms) ≡ all_coefficients ms
 flat_messages [] = refl
 flat_messages (m ∷ ms) = flat_layer m (all_messages ms) ∙ ap (λ (xs : List K). layer_coefficients m ++ xs) (flat_messages ms)
 
 -- messages that are one list have one spelling
-same_spelling : (a b : Messages) → all_messages a.layers ≡ all_messages b.layers → spelling a ≡ spelling b
-same_spelling a b e = ap (λ (xs : List K). magic ++ flat_map bytes_of xs) (sym (flat_messages a.layers) ∙ ap flat e ∙ flat_messages b.layers)
+same_spelling : (form : ProofForm) (a b : Messages) → all_messages a.layers ≡ all_messages b.layers → spelling form a ≡ spelling form b
+same_spelling form a b e = ap (λ (xs : List K). magic form ++ flat_map bytes_of xs) (sym (flat_messages a.layers) ∙ ap flat e ∙ flat_messages b.layers)
 
 abbrev pub OneCircuit : Type 0
 OneCircuit = (text : List ℕ) (a b : Parts) → IsCompiled text a → IsCompiled text b → a ≡ b
 
-abbrev pub HonestIsUnique : Type 0
-HonestIsUnique = (layers : List GateLayer) (input z : List K) (source : Source) (s : List ℕ) (qs others : List (List K)) → length qs ≡ message_count layers → length others ≡ message_count layers →
-    AreHonest Line layers input (At z) qs (draws source s qs) → AreHonest Line layers input (At z) others (draws source s others) → qs ≡ others
+abbrev pub HonestIsUnique : ProofForm → Type 0
+HonestIsUnique form = (layers : List GateLayer) (input z : List K) (source : Source) (s : List ℕ) (qs others : List (List K)) → length qs ≡ message_count layers → length others ≡ message_count layers →
+    AreHonest form layers input (At z) qs (draws source s qs) → AreHonest form layers input (At z) others (draws source s others) → qs ≡ others
 
-count : (p : Parts) (messages : Messages) → HaveShape (drop 1 (exponents p)) messages.layers → length (all_messages messages.layers) ≡ message_count (layers_of p)
-count p messages shape = length-all (layers_of p) messages.layers (have_shape p messages shape)
+count : (form : ProofForm) (p : Parts) (messages : Messages) → HaveShape form (drop 1 (exponents p)) messages.layers → length (all_messages messages.layers) ≡ message_count (layers_of p)
+count form p messages shape = length-all form (layers_of p) messages.layers (have_shape form p messages shape)
 
-one_proof : HonestIsUnique → (p : Parts) (inputs : List F) (s : List ℕ) (a b : Messages) → HaveShape (drop 1 (exponents p)) a.layers → HaveShape (drop 1 (exponents p)) b.layers →
-    IsHonestProof p inputs transcript s (all_messages a.layers) → IsHonestProof p inputs transcript s (all_messages b.layers) → spelling a ≡ spelling b
-one_proof unique p inputs s a b shape shape' honest honest' =
+one_proof : (form : ProofForm) → HonestIsUnique form → (p : Parts) (inputs : List F) (s : List ℕ) (a b : Messages) → HaveShape form (drop 1 (exponents p)) a.layers → HaveShape form (drop 1 (exponents p)) b.layers →
+    AreHonestMessages form p inputs transcript s (all_messages a.layers) → AreHonestMessages form p inputs transcript s (all_messages b.layers) → spelling form a ≡ spelling form b
+one_proof form unique p inputs s a b shape shape' honest honest' =
     let k : ℕ = exponent_at p 0 in
-    same_spelling a b
+    same_spelling form a b
     (unique (layers_of p) (input_table p inputs) (coordinates transcript s k) transcript (state_after_coordinates transcript s k) (all_messages a.layers) (all_messages b.layers)
-    (count p a shape) (count p b shape') honest honest')
+    (count form p a shape) (count form p b shape') honest honest')
 
-pub one_proved : OneTree → OneCircuit → HonestIsUnique → (c p q : Content) → IsProved c p → IsProved c q → p ≡ q
-one_proved one circuit unique c p q is is' =
+pub one_proved : (form : ProofForm) → OneTree → OneCircuit → HonestIsUnique form → (c p q : Content) → IsProved form c p → IsProved form c q → p ≡ q
+one_proved form one circuit unique c p q is is' =
     let parts : is.parts ≡ is'.parts = circuit c.program is.parts is'.parts is.compiled is'.compiled in
     let outputs : is.outputs ≡ is'.outputs = one_meaning one c is.outputs is'.outputs is.evaluated is'.evaluated in
-    let shape = subst (λ (p : Parts). HaveShape (drop 1 (exponents p)) is.messages.layers) parts is.of_shape in
-    let honest = coe 0 1 (i. IsHonestProof (parts i) c.inputs transcript (start_state c.program c.inputs (outputs i)) (all_messages is.messages.layers)) is.honest in
-    let proof : spelling is.messages ≡ spelling is'.messages = one_proof unique is'.parts c.inputs (start_state c.program c.inputs is'.outputs) is.messages is'.messages shape is'.of_shape honest is'.honest in
+    let shape = subst (λ (p : Parts). HaveShape form (drop 1 (exponents p)) is.messages.layers) parts is.of_shape in
+    let honest = coe 0 1 (i. AreHonestMessages form (parts i) c.inputs transcript (start_of form c.program c.inputs (outputs i)) (all_messages is.messages.layers)) is.honest in
+    let proof : spelling form is.messages ≡ spelling form is'.messages = one_proof form unique is'.parts c.inputs (start_of form c.program c.inputs is'.outputs) is.messages is'.messages shape is'.of_shape honest is'.honest in
     is.proved_is ∙ (λ i. record { program = c.program; inputs = c.inputs; outputs = Some (outputs i); proof = Some (proof i) }) ∙ sym is'.proved_is
 
 -- cases of the same parts are the same

@@ -11,6 +11,9 @@ use Rattle.field_ext.specs.Field.{F}
 use Rattle.circuit_core.specs.Parts.{Parts, height}
 use Rattle.circuit_core.specs.Sound.{SoundCircuit, exponent_at, exponents}
 use Rattle.circuit_core.proofs.Faultless.{none_from_test, height_bounds, width_power, exponents_bounded}
+use Rattle.proof_wire.specs.declared.form.ProofForm.{ProofForm}
+use Rattle.proof_wire.specs.declared.form.ProofForm.TheVariants.{Line, Pair}
+use Rattle.proof_wire.specs.Forms.{last_degree}
 use Rattle.proof_wire.specs.Spelling.{coefficient_count, length_of}
 use Rattle.gkr_layers.proofs.Shapes.{outputs_room}
 use Rattle.case_text.specs.Content.{Fits}
@@ -21,34 +24,39 @@ few_outputs c =
     let small : 2 ^ exponent_at c.parts 0 ≤ 65536 = pow-le-pow_right {n = 2} (omega arith) power.2 in
     omega (arith, small, power.0, outputs_room c)
 
-few_coefficients : (ks : List ℕ) → list_all (λ k. nat_le 1 k && nat_le k 16) ks ≡ true → coefficient_count ks ≤ 113 * length ks
-few_coefficients [] h = omega arith
-few_coefficients (k ∷ ks) h =
+few_each : (form : ProofForm) (k : ℕ) → 1 ≤ k → k ≤ 16 → 6 * k + (last_degree form k + 1) ≤ 113
+few_each Line k u v = omega (arith, v)
+few_each Pair k u v = omega (arith, v)
+
+few_coefficients : (form : ProofForm) (ks : List ℕ) → list_all (λ k. nat_le 1 k && nat_le k 16) ks ≡ true → coefficient_count form ks ≤ 113 * length ks
+few_coefficients form [] h = omega arith
+few_coefficients form (k ∷ ks) h =
     let parts = and_parts (nat_le 1 k && nat_le k 16) (list_all (λ k. nat_le 1 k && nat_le k 16) ks) h in
-    let low : k ≤ 16 = leb-true k 16 (and_parts (nat_le 1 k) (nat_le k 16) parts.0).1 in
-    omega (arith, few_coefficients ks parts.1, low, sum_by-cons (λ k. 7 * k + 1) k ks)
+    let ends = and_parts (nat_le 1 k) (nat_le k 16) parts.0 in
+    let each = few_each form k (leb-true 1 k ends.0) (leb-true k 16 ends.1) in
+    omega (arith, few_coefficients form ks parts.1, each, sum_by-cons (λ k. 6 * k + (last_degree form k + 1)) k ks)
 
 -- the bytes of a proof
-pub short_proof : (c : SoundCircuit) → length_of (exponents c.parts) ≤ 231428
-short_proof c =
+pub short_proof : (form : ProofForm) (c : SoundCircuit) → length_of form (exponents c.parts) ≤ 231428
+short_proof form c =
     let p : Parts = c.parts in
     let none = none_from_test _ c.faultless in
     let below : List ℕ = map (exponent_at p) (range_with_len 1 (height p)) in
     let same : drop 1 (exponents c.parts) ≡ map (exponent_at c.parts) (range_with_len 1 (height c.parts)) = ap (λ (n : ℕ). drop 1 (map (exponent_at p) (range_with_len 0 n))) (add-one (height p)) in
     let many : length (map (exponent_at c.parts) (range_with_len 1 (height c.parts))) ≡ height c.parts =
     length-map (range_with_len 1 (height p)) (exponent_at p) ∙ length-range_with_len 1 (height p) in
-    let few : coefficient_count (map (exponent_at c.parts) (range_with_len 1 (height c.parts))) ≤ 113 * length (map (exponent_at c.parts) (range_with_len 1 (height c.parts))) =
-    few_coefficients below (exponents_bounded p none 1 (height p) (omega arith)) in
-    let whole : coefficient_count (drop 1 (exponents c.parts)) ≡ coefficient_count (map (exponent_at c.parts) (range_with_len 1 (height c.parts))) = ap coefficient_count same in
+    let few : coefficient_count form (map (exponent_at c.parts) (range_with_len 1 (height c.parts))) ≤ 113 * length (map (exponent_at c.parts) (range_with_len 1 (height c.parts))) =
+    few_coefficients form below (exponents_bounded p none 1 (height p) (omega arith)) in
+    let whole : coefficient_count form (drop 1 (exponents c.parts)) ≡ coefficient_count form (map (exponent_at c.parts) (range_with_len 1 (height c.parts))) = ap (coefficient_count form) same in
     let low : height c.parts ≤ 256 = (height_bounds p none).1 in
     omega (arith, whole, few, many, low)
 
 -- what is proved is within the limits of cases
-pub fits : (c : SoundCircuit) (program : List ℕ) (inputs outputs : List F) (proof : List ℕ) → length program ≤ 65536 → length inputs ≤ 262144 → length outputs ≡ c.parts.outputs →
-    length proof ≡ length_of (exponents c.parts) → Fits (record { program = program; inputs = inputs; outputs = Some outputs; proof = Some proof })
-fits c program inputs outputs proof text line many size = record {
+pub fits : (form : ProofForm) (c : SoundCircuit) (program : List ℕ) (inputs outputs : List F) (proof : List ℕ) → length program ≤ 65536 → length inputs ≤ 262144 → length outputs ≡ c.parts.outputs →
+    length proof ≡ length_of form (exponents c.parts) → Fits (record { program = program; inputs = inputs; outputs = Some outputs; proof = Some proof })
+fits form c program inputs outputs proof text line many size = record {
   program = text;
   inputs = line;
   outputs = omega (arith, many, few_outputs c);
-  proof = omega (arith, size, short_proof c);
+  proof = omega (arith, size, short_proof form c);
 }

@@ -10,7 +10,10 @@ use Rattle.hex.proofs.HexLemmas.{length-encode_with}
 use Rattle.field_ext.specs.Field.{F, K}
 use Rattle.field_ext.specs.Bytes.{bytes_of}
 use Rattle.proof_wire.specs.declared.messages.Messages.{Messages}
-use Rattle.proof_wire.specs.Spelling.{all_coefficients, magic, spelling}
+use Rattle.proof_wire.specs.declared.form.ProofForm.{ProofForm}
+use Rattle.proof_wire.specs.declared.form.ProofForm.TheVariants.{Line, Pair}
+use Rattle.proof_wire.specs.Forms.{magic, mark}
+use Rattle.proof_wire.specs.Spelling.{all_coefficients, spelling}
 use Rattle.case_text.specs.Rules.{behind_value}
 use Rattle.case_text.specs.Content.{Content, Fits}
 use Rattle.case_text.specs.Spelling.{header, number, program_text, values_text, counted_text, outputs_text, proof_text, last_line, lower_case_text, Spells}
@@ -41,16 +44,20 @@ coefficient_bytes (x ∷ xs) =
     (joined_bytes (to_le_bytes w32 x.re.value) (to_le_bytes w32 x.im.value) (word_bytes x.re.value) (word_bytes x.im.value))
     (coefficient_bytes xs)
 
-proof_bytes : (messages : Messages) → IsBytes (spelling messages)
-proof_bytes messages =
-    joined_bytes magic (flat_map bytes_of (all_coefficients messages.layers))
-    (four_bytes 71 75 82 49 (omega arith) (omega arith) (omega arith) (omega arith)) (coefficient_bytes (all_coefficients messages.layers))
+mark_byte : (form : ProofForm) → mark form < 256
+mark_byte Line = omega arith
+mark_byte Pair = omega arith
 
-pub spells : (program : List ℕ) (inputs outputs : List F) (messages : Messages) →
-    let c : Content = record { program = program; inputs = inputs; outputs = Some outputs; proof = Some (spelling messages) } in
+proof_bytes : (form : ProofForm) (messages : Messages) → IsBytes (spelling form messages)
+proof_bytes form messages =
+    joined_bytes (magic form) (flat_map bytes_of (all_coefficients messages.layers))
+    (four_bytes 71 75 82 (mark form) (omega arith) (omega arith) (omega arith) (mark_byte form)) (coefficient_bytes (all_coefficients messages.layers))
+
+pub spells : (form : ProofForm) (program : List ℕ) (inputs outputs : List F) (messages : Messages) →
+    let c : Content = record { program = program; inputs = inputs; outputs = Some outputs; proof = Some (spelling form messages) } in
     Fits c → Spells Full (lower_case_text c) c
-spells program inputs outputs messages fits =
-    lower_spells (record { program = program; inputs = inputs; outputs = Some outputs; proof = Some (spelling messages) }) _ fits (lower_is_hex (spelling messages) (proof_bytes messages)) refl Full tt tt
+spells form program inputs outputs messages fits =
+    lower_spells (record { program = program; inputs = inputs; outputs = Some outputs; proof = Some (spelling form messages) }) _ fits (lower_is_hex (spelling form messages) (proof_bytes form messages)) refl Full tt tt
 
 -- ---- its length
 

@@ -8,7 +8,7 @@ use Rattle.circuit_core.specs.Parts.{Parts, height, width_of}
 use Rattle.circuit_core.specs.Sound.{exponent_at, exponents}
 use Rattle.gkr_layers.specs.Layers.{layers_of, challenges_of}
 use Rattle.gkr_layers.specs.Soundness.{sum_of_bounds}
-use Rattle.gkr_layers.specs.Forms.Form.{Line}
+use Rattle.proof_wire.specs.declared.form.ProofForm.TheVariants.{Line}
 use Rattle.proof_wire.specs.Spelling.{length_of}
 use Rattle.arr_compile.specs.Circuits.{IsCompiled, IsCircuitRefusal}
 use Rattle.case_text.specs.Content.{Content}
@@ -36,7 +36,7 @@ layer_size p i = record { positions = width_of p i; products = products p i }
 abbrev pub sizes_of : Parts → Sizes
 sizes_of p = record {
   layers = map (layer_size p) (range_with_len 0 (height p + 1));
-  proof = length_of (exponents p);
+  proof = length_of Line (exponents p);
   challenges = challenges_of p;
   bound = sum_of_bounds Line (exponent_at p 0) (layers_of p);
 }

@@ -4,4 +4,5 @@ pub mod Circuits
 pub mod Evaluated
 pub mod Proved
 pub mod Sound
+pub mod Started
 pub mod Verified

@@ -5,16 +5,19 @@ use Rattle.circuit_core.specs.Parts.{Parts}
 use Rattle.circuit_core.specs.Sound.{exponents}
 use Rattle.proof_wire.specs.declared.messages.Messages.{Messages}
 use Rattle.proof_wire.specs.declared.refused.BadProof.{BadProof}
+use Rattle.proof_wire.specs.declared.form.ProofForm.{ProofForm}
+use Rattle.proof_wire.specs.Forms.{form_of}
 use Rattle.proof_wire.specs.Spelling.{spelling}
 use Rattle.proof_wire.specs.Trouble.{TroubleIs}
 use Rattle.transcript_fs.specs.Source.{all_draws}
-use Rattle.transcript_fs.specs.Transcript.{start_state, transcript}
-use Rattle.gkr_layers.specs.Acceptance.{Accepts, claim_of, verdict_of}
+use Rattle.transcript_fs.specs.Transcript.{transcript}
+use Rattle.gkr_layers.specs.Acceptance.{Accepts, claim_in, verdict_of}
 use Rattle.proof_wire.specs.Lists.{all_messages, HaveShape}
 use Rattle.gkr_layers.specs.declared.verdict.Verdict.{Verdict}
 use Rattle.arr_compile.specs.Circuits.{IsCompiled, IsCircuitRefusal}
 use Rattle.case_text.specs.Content.{Content}
 use Rattle.case_prove.specs.Circuits.{IsCircuitMiscounted}
+use Rattle.case_prove.specs.Started.{start_of}
 use Rattle.case_prove.specs.declared.refused.Refused.{Refused}
 use Rattle.case_prove.specs.declared.refused.Refused.TheVariants.{Program, Input, Output, Proof, Memory}
 
@@ -25,37 +28,41 @@ pub record IsClaim (c : Content) (parts : Parts) (outputs : List F) : Type 0 whe
   pub outputs_are : c.outputs ≡ Some outputs
 
 -- the answer to these messages, with the challenges of the case's own transcript
-abbrev pub transcript_verdict : Content → Parts → List F → Messages → Verdict
-transcript_verdict c parts outputs messages =
-    let stated = claim_of parts c.inputs outputs in
+abbrev pub transcript_verdict : ProofForm → Content → Parts → List F → Messages → Verdict
+transcript_verdict form c parts outputs messages =
+    let stated = claim_in form parts c.inputs outputs in
     let qs = all_messages messages.layers in
-    verdict_of stated qs (all_draws transcript (start_state c.program c.inputs outputs) stated.k qs)
+    verdict_of stated qs
+    (all_draws transcript (start_of form c.program c.inputs outputs) stated.k qs)
 
--- The case's proof spells messages of the circuit's shape, and this is the first equation of acceptance that fails, or none.
+-- The case's proof spells messages of a form and of the circuit's shape, and this is the first equation of acceptance that fails, or none.
 pub record IsVerdictOn (c : Content) (verdict : Verdict) : Type 0 where
   pub parts : Parts
   pub outputs : List F
   pub claim : IsClaim c parts outputs
   pub as_many : length outputs ≡ parts.outputs
+  pub form : ProofForm
   pub messages : Messages
-  pub of_shape : HaveShape (drop 1 (exponents parts)) messages.layers
-  pub spelled : c.proof ≡ Some (spelling messages)
-  pub verdict_is : verdict ≡ transcript_verdict c parts outputs messages
+  pub of_shape : HaveShape form (drop 1 (exponents parts)) messages.layers
+  pub spelled : c.proof ≡ Some (spelling form messages)
+  pub verdict_is : verdict ≡ transcript_verdict form c parts outputs messages
 
--- The case's proof spells messages of the circuit's shape, and every equation of acceptance holds for
+-- The case's proof spells messages of a form and of the circuit's shape, and every equation of acceptance holds for
 -- them and the challenges of the case's own transcript.
 pub record HasAcceptedProof (c : Content) : Type 0 where
   pub parts : Parts
   pub outputs : List F
   pub claim : IsClaim c parts outputs
   pub as_many : length outputs ≡ parts.outputs
+  pub form : ProofForm
   pub messages : Messages
-  pub of_shape : HaveShape (drop 1 (exponents parts)) messages.layers
-  pub spelled : c.proof ≡ Some (spelling messages)
+  pub of_shape : HaveShape form (drop 1 (exponents parts)) messages.layers
+  pub spelled : c.proof ≡ Some (spelling form messages)
   pub accepts :
-      let stated = claim_of parts c.inputs outputs in
+      let stated = claim_in form parts c.inputs outputs in
       let qs = all_messages messages.layers in
-      Accepts stated qs (all_draws transcript (start_state c.program c.inputs outputs) stated.k qs)
+      Accepts stated qs
+      (all_draws transcript (start_of form c.program c.inputs outputs) stated.k qs)
 
 -- The case has another number of outputs than its circuit.
 pub record IsOutputMiscounted (c : Content) (have need : ℕ) : Type 0 where
@@ -66,7 +73,8 @@ pub record IsOutputMiscounted (c : Content) (have need : ℕ) : Type 0 where
   pub circuit_has : need ≡ parts.outputs
   pub differ : have ≢ need
 
--- The case's proof is no spelling of messages of the circuit's shape; this is its first trouble.
+-- The case's proof is no spelling of messages of the circuit's shape; this is its first trouble in the form that its
+-- fourth byte names.
 pub record IsBadProof (c : Content) (bad : BadProof) : Type 0 where
   pub parts : Parts
   pub outputs : List F
@@ -74,7 +82,9 @@ pub record IsBadProof (c : Content) (bad : BadProof) : Type 0 where
   pub as_many : length outputs ≡ parts.outputs
   pub proof : List ℕ
   pub proof_is : c.proof ≡ Some proof
-  pub trouble : TroubleIs (exponents parts) proof bad
+  pub form : ProofForm
+  pub form_is : form ≡ form_of proof
+  pub trouble : TroubleIs form (exponents parts) proof bad
 
 -- A call refuses a case as the definitions do, or memory ran out.
 abbrev pub RefusesVerify : Content → Refused → Type 0

@@ -9,6 +9,7 @@ ghost use Rattle.arr_lex.specs.declared.token.Token.{Token};
 ghost use Rattle.arr_lex.specs.Lexing.{tokens_from};
 ghost use Rattle.arr_parse.specs.Unplaced.{unplaced};
 ghost use Rattle.gkr_layers.specs.declared.verdict.Verdict.TheVariants.{Accepted};
+ghost use Rattle.proof_wire.specs.declared.form.ProofForm.{ProofForm};
 ghost use Rattle.case_text.specs.Content.{Content, Fits};
 ghost use Rattle.case_text.specs.Spelling.{Spells, lower_case_text};
 ghost use Rattle.case_text.specs.declared.form.Form.TheVariants.{Full};
@@ -57,16 +58,18 @@ pub fn white_space_means_nothing()
 
 /// The verifier accepts what the prover gives.
 pub fn proved_is_accepted()
-    ensures { (c proved : Content) → IsProved c proved → IsVerdictOn proved Accepted }
+    ensures { (form : ProofForm) (c proved : Content) → IsProved form c proved
+        → IsVerdictOn proved Accepted }
 {
     one_tree();
     circuit_computes();
     honest_is_accepted();
 }
 
-/// A case has one proof: what the prover gives depends on the case alone.
+/// A case has one proof of a form: what the prover gives depends on the case and the form alone.
 pub fn proved_is_one()
-    ensures { (c proved other : Content) → IsProved c proved → IsProved c other → proved ≡ other }
+    ensures { (form : ProofForm) (c proved other : Content) → IsProved form c proved
+        → IsProved form c other → proved ≡ other }
 {
     one_tree();
     one_circuit();
@@ -75,7 +78,8 @@ pub fn proved_is_one()
 
 /// What the prover gives keeps to the limits of cases.
 pub fn proved_fits()
-    ensures { (c proved : Content) → Fits c → IsProved c proved → Fits proved }
+    ensures { (form : ProofForm) (c proved : Content) → Fits c → IsProved form c proved
+        → Fits proved }
 {
     one_tree();
     circuit_computes();
@@ -84,7 +88,7 @@ pub fn proved_fits()
 
 /// The text of what the prover gives is one of a case with outputs and a proof, and of this case.
 pub fn proved_is_full()
-    ensures { (c proved : Content) → Fits c → IsProved c proved
+    ensures { (form : ProofForm) (c proved : Content) → Fits c → IsProved form c proved
         → Spells Full (lower_case_text proved) proved }
 {
     proved_fits();
@@ -92,7 +96,7 @@ pub fn proved_is_full()
 
 /// The text of what the prover gives is short enough to be read: it has fewer than 4,194,304 bytes.
 pub fn proved_is_short()
-    ensures { (c proved : Content) → Fits c → IsProved c proved
+    ensures { (form : ProofForm) (c proved : Content) → Fits c → IsProved form c proved
         → length (lower_case_text proved) < 4194304 }
 {
     one_tree();

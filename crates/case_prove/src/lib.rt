@@ -2,9 +2,10 @@
 //!
 //! `eval_case` reads the program of a case and gives its outputs: the program's meaning on the case's inputs.
 //! `circuit_case` lays the program out as a circuit and gives its sizes. `prove_case` gives the case with its outputs and
-//! their proof, and `verify_case` the verdict on the case's proof. The refusals come in one order: the program, the number
-//! of inputs, that of outputs, and the proof's bytes. `laws` says that what is proved is accepted, is one and has a text
-//! short enough to be read, and that white space between tokens changes neither a program's tree nor its outputs.
+//! their proof, by lines or by pairs, and `verify_case` the verdict on the case's proof, whose fourth byte tells its form.
+//! The refusals come in one order: the program, the number of inputs, that of outputs, and the proof's bytes. `laws` says
+//! that what is proved is accepted, is one for its form and has a text short enough to be read, and that white space
+//! between tokens changes neither a program's tree nor its outputs.
 //!
 //! ```text
 //! the case of `input a; output a;` with the input 5       // the output 5
@@ -18,6 +19,7 @@ mod evaluation;
 pub mod laws;
 mod proving;
 mod refused;
+mod started;
 mod verification;
 
 pub use answered::{Answered, answer_case};

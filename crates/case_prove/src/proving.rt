@@ -3,45 +3,48 @@
 ghost use Rattle.std.specs.Prelude.{◌≡◌, ◌<◌, ◌^◌, length, map, take, drop, IfOk, IfErr};
 ghost use Rattle.circuit_core.specs.Sound.{exponents};
 ghost use Rattle.circuit_eval.specs.Tables.{AreTables};
-ghost use Rattle.transcript_fs.specs.Transcript.{start_state, transcript};
+ghost use Rattle.transcript_fs.specs.Transcript.{transcript};
 ghost use Rattle.proof_wire.specs.Lists.{all_messages, HaveShape};
-ghost use Rattle.gkr_layers.specs.Honest.{IsHonestProof};
+ghost use Rattle.gkr_layers.specs.Honest.{AreHonestMessages};
 ghost use Rattle.phase_run.specs.Work.{IsWorkerCount};
 ghost use Rattle.arr_compile.specs.Circuits.{IsCompiled};
 ghost use Rattle.case_prove.specs.Circuits.{RefusesCircuit};
 ghost use Rattle.case_prove.specs.Proved.{IsProved};
+ghost use Rattle.case_prove.specs.Started.{start_of};
 
 use crate::refused::{Refused, program_refused};
+use crate::started::transcript_of;
 use arr_compile::compile;
 use arr_compile::laws::circuit_computes;
 use case_text::Case;
 use circuit_core::Circuit;
 use circuit_eval::{Values, layer_values};
 use field_ext::Fp;
-use gkr_prove::prove;
+use gkr_prove::prove_as;
 use io_edge::Gate;
 use mle_table::Table;
 use proof_wire::laws::one_length;
-use proof_wire::{Messages, encode};
+use proof_wire::{Messages, ProofForm, encode_as};
 use std::alloc::{AllocError, Global};
 use std::marker::Sync;
 use std::thread::Threads;
+use transcript_fs::Statement;
 use transcript_fs::laws::always_has;
-use transcript_fs::{Statement, Transcript};
 
-/// The case with its program's meaning on its inputs as outputs, and with the one honest proof of them. It is refused as
-/// `Program` exactly where the program's text or its layout is refused so, and else as `Input` exactly where the numbers of
-/// inputs differ. Outputs and proof of the given case play no part. The proof is the same for every number of workers; each
-/// enters the gate with a piece of a round before it sums it.
+/// The case with its program's meaning on its inputs as outputs, and with the one honest proof of this form of them. It is
+/// refused as `Program` exactly where the program's text or its layout is refused so, and else as `Input` exactly where the
+/// numbers of inputs differ. Outputs and proof of the given case play no part. The proof is the same for every number of
+/// workers; each enters the gate with a piece of a round before it sums it.
 pub fn prove_case<R: Threads + Sync, G: Gate>(
     rt: &R,
     alloc: Global,
     case: &Case,
+    form: ProofForm,
     workers: u32,
     gate: &G,
 ) -> Result<Case, Refused>
     requires workers { IsWorkerCount workers }
-    ensures proved { IfOk result (λ proved. IsProved case.now proved) }
+    ensures proved { IfOk result (λ proved. IsProved form case.now proved) }
     ensures refused { IfErr result (λ refused. RefusesCircuit case.now refused) }
 {
     let compiled = match compile(alloc, case.program()) {
@@ -53,7 +56,7 @@ pub fn prove_case<R: Threads + Sync, G: Gate>(
     if have != need {
         return Err(Refused::Input { have, need });
     }
-    match prove_claim(rt, alloc, case, &compiled.circuit, workers, gate) {
+    match prove_claim(rt, alloc, case, &compiled.circuit, form, workers, gate) {
         Ok(proved) => Ok(proved),
         Err(_) => Err(Refused::Memory),
     }
@@ -65,20 +68,23 @@ fn prove_claim<R: Threads + Sync, G: Gate>(
     alloc: Global,
     case: &Case,
     circuit: &Circuit,
+    form: ProofForm,
     workers: u32,
     gate: &G,
 ) -> Result<Case, AllocError>
     requires compiled { IsCompiled case.now.program circuit.now.parts }
     requires counted { length case.now.inputs ≡ circuit.now.parts.inputs }
     requires workers { IsWorkerCount workers }
-    ensures { IfOk result (λ proved. IsProved case.now proved) }
+    ensures { IfOk result (λ proved. IsProved form case.now proved) }
 {
     circuit_computes();
     one_length();
     let values = layer_values(rt, alloc, circuit, case.inputs())?;
     let outputs = real_parts(alloc, values.table(0), circuit.outputs() as usize)?;
-    let messages = honest_messages(rt, alloc, case, circuit, &values, &outputs, workers, gate)?;
-    let proof = encode(alloc, &messages)?;
+    let messages = honest_messages(
+        rt, alloc, case, circuit, &values, &outputs, form, workers, gate,
+    )?;
+    let proof = encode_as(alloc, form, &messages)?;
     let program = Vec::from_slice(alloc, case.program())?;
     let inputs = Vec::from_slice(alloc, case.inputs())?;
     Ok(Case::new(program, inputs, Some(outputs), Some(proof)))
@@ -106,6 +112,7 @@ fn honest_messages<R: Threads + Sync, G: Gate>(
     circuit: &Circuit,
     values: &Values,
     outputs: &[Fp],
+    form: ProofForm,
     workers: u32,
     gate: &G,
 ) -> Result<Messages, AllocError>
@@ -113,13 +120,23 @@ fn honest_messages<R: Threads + Sync, G: Gate>(
     requires tables { AreTables circuit.now.parts case.now.inputs values.now }
     requires few { length outputs.now < 2 ^ 32 }
     ensures honest { IfOk result
-        (λ messages. IsHonestProof circuit.now.parts case.now.inputs transcript
-        (start_state case.now.program case.now.inputs outputs.now) (all_messages messages.layers)) }
+        (λ messages. AreHonestMessages form circuit.now.parts case.now.inputs transcript
+        (start_of form case.now.program case.now.inputs outputs.now)
+        (all_messages messages.layers)) }
     ensures shape { IfOk result
-        (λ messages. HaveShape (drop 1 (exponents circuit.now.parts)) messages.layers) }
+        (λ messages. HaveShape form (drop 1 (exponents circuit.now.parts)) messages.layers) }
 {
     always_has();
     let statement = Statement::of(case.program(), case.inputs(), outputs);
-    let mut challenges = Transcript::start(&statement);
-    prove(rt, alloc, circuit, values, &mut challenges, workers, gate)
+    let mut challenges = transcript_of(form, &statement);
+    prove_as(
+        rt,
+        alloc,
+        form,
+        circuit,
+        values,
+        &mut challenges,
+        workers,
+        gate,
+    )
 }

@@ -5,19 +5,21 @@ ghost use Rattle.arr_compile.specs.Circuits.{IsCompiled};
 ghost use Rattle.case_prove.specs.Verified.{IsVerdictOn, RefusesVerify};
 
 use crate::refused::{Refused, program_refused};
+use crate::started::transcript_of;
 use arr_compile::compile;
 use case_text::Case;
 use circuit_core::Circuit;
-use gkr_verify::{Verdict, check};
-use proof_wire::{ProofRefused, decode};
+use gkr_verify::{Verdict, check_as};
+use proof_wire::{ProofForm, ProofRefused, decode_as};
 use std::alloc::Global;
+use transcript_fs::Statement;
 use transcript_fs::laws::always_has;
-use transcript_fs::{Statement, Transcript};
 
 /// The verdict on the case's proof that its program gives its outputs on its inputs, with the challenges of the
 /// transcript of these three. It is refused as `Program` exactly where the program's text or its layout is refused so,
 /// and else as `Input` or `Output` where the numbers of these differ from the circuit's, and else as `Proof` where the
-/// proof's bytes spell no messages of the circuit's shape.
+/// proof's bytes spell no messages of the circuit's shape. The proof is by pairs where its fourth byte is `P`, and else by
+/// lines.
 pub fn verify_case(alloc: Global, case: &Case) -> Result<Verdict, Refused>
     requires outputs { IsSome case.now.outputs }
     requires proof { IsSome case.now.proof }
@@ -53,16 +55,18 @@ fn check_claim(alloc: Global, case: &Case, circuit: &Circuit) -> Result<Verdict,
     if had != need {
         return Err(Refused::Output { have: had, need });
     }
-    let messages = match decode(alloc, proof, circuit.shape()) {
+    let form = ProofForm::of(proof);
+    let messages = match decode_as(alloc, form, proof, circuit.shape()) {
         Ok(messages) => messages,
         Err(ProofRefused::Bad(bad)) => return Err(Refused::Proof(bad)),
         Err(ProofRefused::Memory) => return Err(Refused::Memory),
     };
     always_has();
     let statement = Statement::of(case.program(), case.inputs(), outputs);
-    let mut challenges = Transcript::start(&statement);
-    match check(
+    let mut challenges = transcript_of(form, &statement);
+    match check_as(
         alloc,
+        form,
         circuit,
         case.inputs(),
         outputs,

@@ -12,6 +12,9 @@ use Rattle.case_text.specs.declared.demo.DemoSummary.{DemoSummary}
 use Rattle.case_text.specs.declared.sizes.LayerSize.{LayerSize}
 use Rattle.case_text.specs.Sizes.{Sizes}
 use Rattle.case_text.specs.Served.{Served, proved_count}
+use Rattle.case_text.specs.Histories.{History, withdrawn_count}
+use Rattle.case_text.specs.declared.history.HistoryLine.{HistoryLine}
+use Rattle.case_text.specs.declared.history.HistoryLine.TheVariants.{Submit, Take, Finish, Withdraw}
 use Rattle.case_text.specs.declared.reply.Reply.{Reply}
 use Rattle.case_text.specs.declared.reply.Reply.TheVariants as replies
 use Rattle.case_text.specs.Spelling.{number, counted_text, lower_case_text}
@@ -120,6 +123,29 @@ summary_text jobs proved =
 abbrev pub served_text : List Served → List ℕ
 served_text jobs = served_lines jobs ++ summary_text (length jobs) (proved_count jobs)
 
+abbrev pub history_line_text : HistoryLine → List ℕ
+history_line_text (Submit job place) = pair_text (codes "submit ") job place
+history_line_text (Take job) = line_text (codes "take ") job
+history_line_text (Finish job) = line_text (codes "finish ") job
+history_line_text (Withdraw job) = line_text (codes "withdraw ") job
+
+abbrev pub history_lines : List HistoryLine → List ℕ
+history_lines [] = []
+history_lines (line ∷ lines) = history_line_text line ++ history_lines lines
+
+-- how many jobs there are, and how many of them were proved, refused and withdrawn
+abbrev pub history_summary_text : ℕ → ℕ → ℕ → List ℕ
+history_summary_text jobs proved withdrawn =
+    concat (codes "jobs " ∷ number jobs 32 ∷ codes "proved " ∷ number proved 32 ∷ codes "refused "
+    ∷ number (jobs - proved - withdrawn) 32 ∷ line_text (codes "withdrawn ") withdrawn ∷ [])
+
+-- the replies, a line on all of them, how long the history is, and its lines
+abbrev pub history_text : History → List ℕ
+history_text h =
+    concat (served_lines h.jobs
+    ∷ history_summary_text (length h.jobs) (proved_count h.jobs) (withdrawn_count h.lines)
+    ∷ line_text (codes "history ") (length h.lines) ∷ history_lines h.lines ∷ [])
+
 abbrev pub reply_text : Reply → List ℕ
 reply_text (replies.Outputs values) = codes "output " ++ counted_text values
 reply_text replies.Usage = codes "refused usage" ++ 10 ∷ []
@@ -137,6 +163,7 @@ reply_text (replies.Proof bad) = bad_proof_text bad
 reply_text (replies.Proved c) = lower_case_text c
 reply_text (replies.Demo summary) = demo_text summary
 reply_text (replies.Served jobs) = served_text jobs
+reply_text (replies.History history) = history_text history
 reply_text replies.Accepted = codes "accepted" ++ 10 ∷ []
 reply_text (replies.RejectedSum layer round had claim) =
     failed_round_text (codes "rejected sum ") layer round had claim

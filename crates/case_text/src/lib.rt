@@ -10,6 +10,7 @@
 mod case;
 mod demo;
 mod form;
+mod history;
 mod parts;
 mod refusal;
 mod rule;
@@ -21,6 +22,7 @@ mod values;
 pub use case::Case;
 pub use demo::DemoSummary;
 pub use form::Form;
+pub use history::{HistoryLine, ServedHistory, write_history};
 pub use parts::{decimal, word};
 pub use reading::{case_of, read_case};
 pub use reply::{Reply, write_reply};

@@ -5,6 +5,7 @@ ghost use Rattle.case_text.specs.Replies.{reply_text, sizes_text, layer_lines, l
 
 use crate::case::Case;
 use crate::demo::DemoSummary;
+use crate::history::{ServedHistory, write_history};
 use crate::refusal::{BadCase, Kind};
 use crate::served::{ServedJobs, write_served};
 use crate::sizes::{CircuitSizes, LayerSize};
@@ -61,6 +62,8 @@ pub enum Reply {
     Demo(DemoSummary),
     /// The replies to the jobs of a script.
     Served(ServedJobs),
+    /// The replies to the jobs of a script, and the history of its table.
+    History(ServedHistory),
     /// The proof is accepted.
     Accepted,
     /// A round's message at 0 plus that at 1 isn't the claim before it. Layers count from 0, rounds from 1.
@@ -172,7 +175,12 @@ fn put_totals(out: &mut Vec<u8>, sizes: &CircuitSizes) -> Result<(), AllocError>
 
 /// A word and two numbers on a line.
 #[tactic(auto, unfolding(crate::specs::Replies::pair_text))]
-fn put_pair(out: &mut Vec<u8>, word: &[u8], first: u64, second: u64) -> Result<(), AllocError>
+pub(crate) fn put_pair(
+    out: &mut Vec<u8>,
+    word: &[u8],
+    first: u64,
+    second: u64,
+) -> Result<(), AllocError>
     ensures { OnOk result (out.new.items ≡ out.old.items ++ pair_text word.now first second) }
 {
     out.extend_from_slice(word)?;
@@ -334,6 +342,7 @@ pub fn write_reply(alloc: Global, reply: &Reply) -> Result<Vec<u8>, AllocError>
         Reply::Proved(case) => return write_case(alloc, case),
         Reply::Demo(demo) => put_demo(alloc, &mut out, demo)?,
         Reply::Served(jobs) => return write_served(alloc, jobs.as_slice()),
+        Reply::History(history) => return write_history(alloc, history),
         Reply::Accepted => out.extend_from_slice(b"accepted\n")?,
         Reply::RejectedSum {
             layer,

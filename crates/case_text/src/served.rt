@@ -26,7 +26,8 @@ impl Model for ServedJob {
 }
 
 impl ServedJob {
-    ghost use Rattle.std.specs.Prelude.{◌≡◌};
+    ghost use Rattle.std.specs.Prelude.{◌≡◌, IfOk};
+    ghost use Rattle.case_text.specs.Served.{withdrawn_job};
 
     /// The reply to a job of this client, without a copy.
     pub fn new(client: u32, proved: bool, text: Vec<u8>) -> ServedJob
@@ -37,6 +38,15 @@ impl ServedJob {
             proved,
             text,
         }
+    }
+
+    /// The reply to a job that this client withdrew.
+    pub fn withdrawn(alloc: Global, client: u32) -> Result<ServedJob, AllocError>
+        ensures { IfOk result (λ job. job ≡ withdrawn_job client) }
+    {
+        let mut text = Vec::new(alloc);
+        text.extend_from_slice(b"withdrawn\n")?;
+        Ok(ServedJob::new(client, false, text))
     }
 
     /// The number of the client.
@@ -95,7 +105,7 @@ impl ServedJobs {
 }
 
 /// The lines of a script's jobs.
-fn put_served_lines(out: &mut Vec<u8>, jobs: &[ServedJob]) -> Result<(), AllocError>
+pub(crate) fn put_served_lines(out: &mut Vec<u8>, jobs: &[ServedJob]) -> Result<(), AllocError>
     ensures { OnOk result (out.new.items ≡ out.old.items ++ served_lines jobs.now) }
 {
     for job in jobs {
@@ -106,7 +116,7 @@ fn put_served_lines(out: &mut Vec<u8>, jobs: &[ServedJob]) -> Result<(), AllocEr
 }
 
 /// How many of the cases were proved.
-fn proved_count(jobs: &[ServedJob]) -> u64
+pub(crate) fn proved_count(jobs: &[ServedJob]) -> u64
     ensures { result ≡ proved_count jobs.now }
 {
     let mut count: u64 = 0;

@@ -46,7 +46,7 @@ fn program(alloc: Global, inputs: u32, nodes: &[Node], outputs: &[u32]) -> Resul
 }
 
 /// The gates of each layer by position, and the width of the input layer with the leaves.
-fn show(alloc: Global, circuit: &Circuit) -> Result<String, AllocError> {
+pub(crate) fn show(alloc: Global, circuit: &Circuit) -> Result<String, AllocError> {
     let mut text = String::new(alloc);
     for layer in 0..circuit.height() {
         for gate in circuit.gates(layer) {

@@ -1,4 +1,5 @@
-//! Tests of circuits and of the array language: tokens, trees, counts, nodes, layouts, values and wiring.
+//! Tests of circuits and of the array language: tokens, trees, counts, lists, nodes, layouts, outputs, values
+//! and wiring.
 //!
 //! They call public functions alone, and compare with values worked by hand: what no contract says.
 #![tactic(auto)]
@@ -16,9 +17,13 @@ mod layouts;
 #[cfg(test)]
 mod limits;
 #[cfg(test)]
+mod lists;
+#[cfg(test)]
 mod nodes;
 #[cfg(test)]
 mod programs;
+#[cfg(test)]
+mod texts;
 #[cfg(test)]
 mod wirings;
 #[cfg(test)]

@@ -3,6 +3,7 @@
 use crate::numbers::element;
 use field_ext::{Ext, Fp};
 use sha2::{Digest, Sha256};
+use std::process::Abort;
 use std::test::Fail;
 use transcript_fs::{Challenges, Given, Statement, Transcript};
 
@@ -33,9 +34,21 @@ fn halves(hash: &[u8; 32]) -> Ext {
 #[test]
 fn hashes_all_that_came_before(rt: HostRuntime) {
     let five = [Fp::reduce(5)];
-    let mut transcript = Transcript::start(&Statement::of(TEXT, &five, &five));
-    let mut state = hash(b"gkr-transcript-1\n", STATEMENT);
+    let statement = Statement::of(TEXT, &five, &five);
+    follows(
+        &rt,
+        Transcript::start(&statement),
+        hash(b"gkr-transcript-1\n", STATEMENT),
+    );
+    follows(
+        &rt,
+        Transcript::start_pair(&statement),
+        hash(b"gkr-transcript-p\n", STATEMENT),
+    );
+}
 
+/// Sees the challenges of a transcript that begins in this state.
+fn follows<R: Abort>(rt: &R, mut transcript: Transcript, mut state: [u8; 32]) {
     let messages: [(&[Ext], &[u8]); 3] = [
         (
             &[element(1, 2), element(2_147_483_646, 0)],

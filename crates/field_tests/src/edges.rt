@@ -8,11 +8,10 @@ use std::io;
 use std::io::{Read, Write};
 use std::test::Fail;
 
-/// Reads and writes in memory, at most three bytes a call. The second call fails, and the third write takes nothing.
+/// Reads in memory, at most three bytes a call. The second call fails.
 #[derive(Drop)]
 struct Halting<'a> {
     left: &'a [u8],
-    held: Vec<u8>,
     calls: u8,
 }
 
@@ -27,7 +26,14 @@ impl Read for Halting<'_> {
     }
 }
 
-impl Write for Halting<'_> {
+/// Writes into a list that is lent, at most three bytes a call. The second call fails, and the third takes nothing.
+#[derive(Drop)]
+struct Filling<'a> {
+    held: &'a mut Vec<u8>,
+    calls: u8,
+}
+
+impl Write for Filling<'_> {
     fn write(&mut self, piece: &[u8]) -> io::Result<usize> {
         self.calls = self.calls.saturating_add(1);
         if self.calls == 2 {
@@ -50,7 +56,6 @@ impl Write for Halting<'_> {
 fn reads_through_std(rt: HostRuntime) {
     let mut source = StdSource::new(Halting {
         left: b"abcd",
-        held: Vec::new(rt.alloc()),
         calls: 0,
     });
     for (want, bytes) in [
@@ -67,9 +72,9 @@ fn reads_through_std(rt: HostRuntime) {
 
 #[test]
 fn writes_through_std(rt: HostRuntime) {
-    let mut sink = StdSink::new(Halting {
-        left: b"",
-        held: Vec::new(rt.alloc()),
+    let mut arrived = Vec::new(rt.alloc());
+    let mut sink = StdSink::new(Filling {
+        held: &mut arrived,
         calls: 0,
     });
     for (piece, want) in [
@@ -81,6 +86,8 @@ fn writes_through_std(rt: HostRuntime) {
     ] {
         assert_eq!(rt; sink.write(piece.as_bytes()), want);
     }
+    drop(sink);
+    assert_eq!(rt; arrived.as_slice(), b"abcd".as_slice());
 }
 
 #[test]

@@ -3,7 +3,8 @@
 use crate::numbers::number;
 use circuit_core::Shape;
 use proof_wire::{
-    BadProof, LayerMessages, Listed, Messages, ProofRefused, Round, decode, encode, proof_len,
+    BadProof, LayerMessages, Listed, Messages, ProofForm, ProofRefused, Round, decode, encode,
+    proof_len,
 };
 use std::alloc::{AllocError, Global};
 use std::test::Fail;
@@ -14,6 +15,13 @@ const PROOF: [u8; 68] = *b"GKR1\
 \x78\0\0\0\0\0\0\0\xaf\xff\xff\x7f\0\0\0\0\xd7\xff\xff\x7f\0\0\0\0\
 \x0f\0\0\0\0\0\0\0\x05\0\0\0\0\0\0\0";
 
+/// `GKR1` and 64 zeros, a proof of the same shape.
+fn zeros() -> [u8; 68] {
+    let mut bytes = [0; 68];
+    bytes[..4].copy_from_slice(b"GKR1");
+    bytes
+}
+
 /// The rounds (0, -5, 15) and (120, -80, -40), and the line (15, 5).
 fn messages(alloc: Global) -> Result<Messages, AllocError> {
     let rounds = [
@@ -23,11 +31,25 @@ fn messages(alloc: Global) -> Result<Messages, AllocError> {
     let mut layers = Vec::new(alloc);
     layers.push(LayerMessages {
         rounds: Listed::of(Vec::from_slice(alloc, &rounds)?),
-        line: Listed::of(Vec::from_slice(alloc, &[number(15), number(5)])?),
+        last: Listed::of(Vec::from_slice(alloc, &[number(15), number(5)])?),
     })?;
     Ok(Messages {
         layers: Listed::of(layers),
     })
+}
+
+#[test]
+fn tells_forms_by_the_fourth_byte(rt: HostRuntime) {
+    for (bytes, form) in [
+        (&b""[..], ProofForm::Line),
+        (b"GKR", ProofForm::Line),
+        (b"GKR1", ProofForm::Line),
+        (b"GKRp", ProofForm::Line),
+        (b"GKRP", ProofForm::Pair),
+        (b"\0\0\0P\0", ProofForm::Pair),
+    ] {
+        assert_eq!(rt; ProofForm::of(bytes), form);
+    }
 }
 
 fn one_and_one(alloc: Global) -> Result<Shape, AllocError> {
@@ -64,23 +86,28 @@ fn reads_a_worked_proof(rt: HostRuntime) -> Result<(), Fail> {
 }
 
 #[test]
-fn refuses_each_front(rt: HostRuntime) -> Result<(), Fail> {
-    for at in 0..68 {
-        let short = ProofRefused::Bad(BadProof::Short { at, need: 68 });
-        assert_eq!(rt; refusal(rt.alloc(), &PROOF[..at])?, Some(short));
+fn refuses_each_prefix(rt: HostRuntime) -> Result<(), Fail> {
+    for proof in [PROOF, zeros()] {
+        for at in 0..68 {
+            let short = ProofRefused::Bad(BadProof::Short { at, need: 68 });
+            assert_eq!(rt; refusal(rt.alloc(), &proof[..at])?, Some(short));
+        }
+        assert_eq!(rt; refusal(rt.alloc(), &proof)?, None);
     }
     Ok(())
 }
 
 #[test]
 fn refuses_each_half_at_the_prime(rt: HostRuntime) -> Result<(), Fail> {
-    for half in 0..16 {
-        let mut bytes = PROOF;
-        bytes[4 + 4 * half..8 + 4 * half].copy_from_slice(b"\xff\xff\xff\x7f");
-        let range = ProofRefused::Bad(BadProof::Range {
-            at: 4 + 8 * (half / 2),
-        });
-        assert_eq!(rt; refusal(rt.alloc(), &bytes)?, Some(range));
+    for proof in [PROOF, zeros()] {
+        for half in 0..16 {
+            let mut bytes = proof;
+            bytes[4 + 4 * half..8 + 4 * half].copy_from_slice(b"\xff\xff\xff\x7f");
+            let range = ProofRefused::Bad(BadProof::Range {
+                at: 4 + 8 * (half / 2),
+            });
+            assert_eq!(rt; refusal(rt.alloc(), &bytes)?, Some(range));
+        }
     }
     Ok(())
 }

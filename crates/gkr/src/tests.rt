@@ -7,6 +7,7 @@ mod lays_out;
 mod proves;
 mod refuses;
 mod serves;
+mod tells;
 mod verifies;
 mod works;
 
@@ -57,6 +58,15 @@ struct Room {
     ghost some: { 0 < piece },
 }
 
+/// The words of a command line.
+fn owned_words(alloc: Global, words: &[&str]) -> Result<Vec<String>, AllocError> {
+    let mut owned = Vec::new(alloc);
+    for word in words {
+        owned.push(String::from_str(alloc, word)?)?;
+    }
+    Ok(owned)
+}
+
 /// Runs the program with these words; answers how it ended and what it wrote.
 fn ended<R: Threads + Wait + Sync + Abort + AllocGlobal>(
     rt: &R,
@@ -76,10 +86,7 @@ fn ended_by<R: Threads + Wait + Sync + Abort + AllocGlobal, G: Gate>(
     gate: &G,
 ) -> Result<(Status, Vec<u8>), Fail> {
     let alloc = rt.alloc();
-    let mut owned = Vec::new(alloc);
-    for word in words {
-        owned.push(String::from_str(alloc, word)?)?;
-    }
+    let owned = owned_words(alloc, words)?;
     let mut source = MemorySource::new(alloc, ends.input, ends.piece, ends.failing_reads)?;
     let mut sink = MemorySink::new(alloc, room.most, room.piece, ends.failing_writes)?;
     let status = gkr_run(rt, alloc, &owned, &mut source, &mut sink, gate);

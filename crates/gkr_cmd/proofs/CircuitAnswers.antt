@@ -46,6 +46,7 @@ answer c (replies.Circuit sizes) is = laid_out sizes is
 answer c (replies.Proved proved) is = absurd is
 answer c (replies.Demo summary) is = absurd is
 answer c (replies.Served jobs) is = absurd is
+answer c (replies.History history) is = absurd is
 answer c (replies.OutputCount have need) is = absurd is
 answer c (replies.Proof bad) is = absurd is
 answer c replies.Accepted is = absurd is

@@ -11,6 +11,7 @@ use Rattle.gkr_cmd.specs.Demo.{IsDemo, demo_case}
 use Rattle.gkr_cmd.specs.Replies.{IsDemoAnswer, status_of}
 use Rattle.gkr_cmd.specs.declared.status.Status.TheVariants.{Done}
 use Rattle.gkr_cmd.proofs.CircuitAnswers.{IsOne}
+use Rattle.proof_wire.specs.declared.form.ProofForm.TheVariants.{Line}
 use Rattle.gkr_cmd.proofs.ProveAnswers.{IsOneProved}
 
 same_some : {A : Type 0} (o : Option A) (a b : A) → o ≡ Some a → o ≡ Some b → a ≡ b
@@ -25,7 +26,7 @@ summary_of number size output layers proof digest = record { number = number; si
 same_summary : IsOne → IsOneProved → (number : ℕ) (a b : DemoSummary) → IsDemo number a → IsDemo number b → a ≡ b
 unfolding summary_of
 same_summary one proofs number a b is is' =
-    let same = proofs.proved (demo_case number) is.proved is'.proved is.is_proved is'.is_proved in
+    let same = proofs.proved Line (demo_case number) is.proved is'.proved is.is_proved is'.is_proved in
     let outputs = same_some is'.proved.outputs (a.output ∷ is.output_is.others) (b.output ∷ is'.output_is.others)
     (subst (λ (p : Content). p.outputs ≡ Some (a.output ∷ is.output_is.others)) same is.output_is.outputs_are) is'.output_is.outputs_are in
     let proof = same_some is'.proved.proof is.proof is'.proof (subst (λ (p : Content). p.proof ≡ Some is.proof) same is.proof_is) is'.proof_is in
@@ -62,6 +63,7 @@ answer number (replies.Outputs outputs) is = absurd is
 answer number (replies.Circuit sizes) is = absurd is
 answer number (replies.Proved proved) is = absurd is
 answer number (replies.Served jobs) is = absurd is
+answer number (replies.History history) is = absurd is
 answer number (replies.OutputCount have need) is = absurd is
 answer number (replies.Proof bad) is = absurd is
 answer number replies.Accepted is = absurd is

@@ -23,7 +23,8 @@ use Rattle.gkr_cmd.specs.Finished.{Finishes, WritesSome}
 use Rattle.gkr_cmd.specs.RunLaws.{RunLaws}
 use Rattle.gkr_cmd.proofs.AcceptedCases.{accepted_of, sound_of}
 use Rattle.gkr_cmd.proofs.ProvedCases.{accepted_text, proved_of}
-use Rattle.gkr_cmd.proofs.Replied.{demo_done_of, done_of, input_of, no_more, script_reply_of, whole_front}
+use Rattle.gkr_cmd.proofs.Replied.{demo_done_of, done_of, history_reply_of, input_of, no_more, script_reply_of, whole_front}
+use Rattle.gkr_cmd.proofs.HistoryReplies.{tells}
 use Rattle.gkr_cmd.proofs.ScriptReplies.{serves}
 
 -- the reply that the run made
@@ -127,23 +128,23 @@ headline_of laws run whole =
           let w = some.wrote in
           subst (λ r. Grows run.before.written run.after.written (reply_text r))
           (accepted_of command input some.reply asks.named (w.made.is_reply input (input_of Verify command left input asks.named asks.told)) (sym w.status ∙ done)).0 w.written;
-      honest = λ input workers content asks read done.
+      honest = λ input workers form content asks read done.
           let some = whole (done_replies run.ended done) in
           let w = some.wrote in
-          let case = proved_of workers command input content some.reply asks.named (w.made.is_reply input (input_of (Prove workers) command left input asks.named asks.told)) (sym w.status ∙ done) read in
+          let case = proved_of workers form command input content some.reply asks.named (w.made.is_reply input (input_of (Prove workers form) command left input asks.named asks.told)) (sym w.status ∙ done) read in
           record {
             proved = case.proved;
             is_proved = case.is_proved;
             written = subst (λ r. Grows run.before.written run.after.written (reply_text r)) case.reply_is w.written;
-            accepted = accepted_text laws.proved_accepted laws.proved_full laws.proved_short laws.exactly input content case.proved read case.is_proved;
+            accepted = accepted_text form (laws.proved_accepted form) (laws.proved_full form) (laws.proved_short form) laws.exactly input content case.proved read case.is_proved;
           };
       sound = λ input content asks read done wrong.
           let some = whole (done_replies run.ended done) in
           let w = some.wrote in
           sound_of laws.sound input content (accepted_of command input some.reply asks.named (w.made.is_reply input (input_of Verify command left input asks.named asks.told)) (sym w.status ∙ done)).1 read wrong;
-      proved = λ input workers asks case replies.
+      proved = λ input workers form asks case replies.
           let w = (whole replies).wrote in
-          w.status ∙ done_of Plain (Prove workers) HasCircuit laws.provable command input (whole replies).reply asks.named (w.made.is_reply input (input_of (Prove workers) command left input asks.named asks.told)) case;
+          w.status ∙ done_of Plain (Prove workers form) HasCircuit (laws.provable form) command input (whole replies).reply asks.named (w.made.is_reply input (input_of (Prove workers form) command left input asks.named asks.told)) case;
       laid_out = λ input asks case replies.
           let w = (whole replies).wrote in
           w.status ∙ done_of Plain Circuit HasCircuit laws.laid_out command input (whole replies).reply asks.named (w.made.is_reply input (input_of Circuit command left input asks.named asks.told)) case;
@@ -161,6 +162,17 @@ headline_of laws run whole =
             record {
               served = case.jobs;
               replies = case.replies_are;
+              written = subst (λ r. Grows run.before.written run.after.written (reply_text r)) case.reply_is w.written;
+            },
+          );
+      told = λ input workers provers clients script asks read within replies.
+          let w = (whole replies).wrote in
+          let is = history_reply_of workers provers clients command left (whole replies).reply asks.named (w.made.is_reply) input asks.told in
+          let case = tells input (whole replies).reply is script read within in (
+            w.status ∙ case.done,
+            record {
+              history = case.history;
+              told = case.told;
               written = subst (λ r. Grows run.before.written run.after.written (reply_text r)) case.reply_is w.written;
             },
           );

@@ -13,5 +13,6 @@ mod ProvedCases
 mod InputReads
 mod Replied
 mod ScriptReplies
+mod HistoryReplies
 mod SumLevels
 mod VerifyAnswers

@@ -1,6 +1,8 @@
 -- Words and an input have at most one reply, where each case has at most one answer.
 use Rattle.std.proofs.Common.{◌≡◌, ℕ, List, subst, Option, Some, None, Result, Ok, Err, sym, ap, ◌∙◌, arith}
 use Rattle.case_text.specs.declared.form.Form.{Form}
+use Rattle.proof_wire.specs.declared.form.ProofForm.{ProofForm}
+use Rattle.proof_wire.specs.declared.form.ProofForm.TheVariants.{Line}
 use Rattle.case_text.specs.Content.{Content}
 use Rattle.case_text.specs.Reading.{reading}
 use Rattle.case_text.specs.declared.refusal.BadCase.{BadCase}
@@ -8,10 +10,10 @@ use Rattle.case_text.specs.declared.reply.Reply.{Reply}
 use Rattle.case_text.specs.declared.reply.Reply.TheVariants as replies
 use Rattle.gkr_cmd.specs.declared.status.Status.TheVariants.{Done}
 use Rattle.gkr_words.specs.declared.words.Command.{Command}
-use Rattle.gkr_words.specs.declared.words.Command.TheVariants.{OfCase, Demo, Serve}
+use Rattle.gkr_words.specs.declared.words.Command.TheVariants.{OfCase, Demo, Serve, ServeHistory}
 use Rattle.gkr_words.specs.declared.words.CaseCommand.{CaseCommand}
 use Rattle.gkr_words.specs.declared.words.CaseCommand.TheVariants.{Eval, Circuit, Prove, Verify}
-use Rattle.gkr_words.specs.Commands.{case_limit, command_of}
+use Rattle.gkr_words.specs.Commands.{PrintsHistory, case_limit, command_of}
 use Rattle.gkr_cmd.proofs.ScriptReplies.{one_script}
 use Rattle.gkr_cmd.specs.Replies.{IsWithinLimit, IsOfCase, IsNoCase, IsTooLong, IsCaseReply, IsAnswer, IsEvalAnswer, IsCircuitAnswer, IsDemoAnswer, IsVerifyAnswer, form_of, IsCommandReply, IsReply, status_of}
 use Rattle.case_prove.specs.Answers.{IsProveAnswer}
@@ -39,6 +41,7 @@ found form answers input (replies.Circuit sizes) is = of_case is.content is.with
 found form answers input (replies.Proved proved) is = of_case is.content is.within is.read is.holds
 found form answers input (replies.Demo summary) is = of_case is.content is.within is.read is.holds
 found form answers input (replies.Served jobs) is = of_case is.content is.within is.read is.holds
+found form answers input (replies.History history) is = of_case is.content is.within is.read is.holds
 found form answers input (replies.OutputCount have need) is = of_case is.content is.within is.read is.holds
 found form answers input (replies.Proof bad) is = of_case is.content is.within is.read is.holds
 found form answers input replies.Accepted is = of_case is.content is.within is.read is.holds
@@ -75,26 +78,27 @@ one_found form answers one input {a} {b} (of_case c within read answer) (of_case
 pub record OneEach : Type 0 where
   pub eval : OneAnswer IsEvalAnswer
   pub circuit : OneAnswer IsCircuitAnswer
-  pub prove : OneAnswer IsProveAnswer
+  pub prove : (form : ProofForm) → OneAnswer (IsProveAnswer form)
   pub verify : OneAnswer IsVerifyAnswer
   pub demo : (number : ℕ) (a b : Reply) → IsDemoAnswer number a → IsDemoAnswer number b → a ≡ b
 
 one_of_each : OneEach → (command : CaseCommand) → OneAnswer (IsAnswer command)
 one_of_each one Eval = one.eval
 one_of_each one Circuit = one.circuit
-one_of_each one (Prove workers) = one.prove
+one_of_each one (Prove workers form) = one.prove form
 one_of_each one Verify = one.verify
 
-one_of_command : OneEach → (command : Option Command) (input : List ℕ) (a b : Reply) → IsCommandReply command input a → IsCommandReply command input b → a ≡ b
-one_of_command one None input a b is is' = is ∙ sym is'
-one_of_command one (Some (OfCase command)) input a b is is' =
+one_of_command : OneEach → (command : Option Command) (input : List ℕ) (a b : Reply) → ¬ PrintsHistory command → IsCommandReply command input a → IsCommandReply command input b → a ≡ b
+one_of_command one None input a b told is is' = is ∙ sym is'
+one_of_command one (Some (OfCase command)) input a b told is is' =
     let found_in = found (form_of command) (IsAnswer command) input in
     one_found (form_of command) (IsAnswer command) (one_of_each one command) input (found_in a is) (found_in b is')
-one_of_command one (Some (Demo number workers)) input a b is is' = one.demo number a b is is'
-one_of_command one (Some (Serve workers provers clients)) input a b is is' = one_script one.prove input a b is is'
+one_of_command one (Some (Demo number workers)) input a b told is is' = one.demo number a b is is'
+one_of_command one (Some (Serve workers provers clients)) input a b told is is' = one_script (one.prove Line) input a b is is'
+one_of_command one (Some (ServeHistory workers provers clients)) input a b told is is' = absurd (told tt)
 
-pub one_reply : OneEach → (words : List (List ℕ)) (input : List ℕ) (a b : Reply) → IsReply words input a → IsReply words input b → a ≡ b
-one_reply one words input a b is is' = one_of_command one (command_of words) input a b is is'
+pub one_reply : OneEach → (words : List (List ℕ)) (input : List ℕ) (a b : Reply) → ¬ PrintsHistory (command_of words) → IsReply words input a → IsReply words input b → a ≡ b
+one_reply one words input a b told is is' = one_of_command one (command_of words) input a b told is is'
 
 -- where each answer to such a case is a success, so is the reply to an input that is one
 found_done : (form : Form) (answers : Content → Reply → Type 0) (P : Content → Type 0) → ((c : Content) (reply : Reply) → P c → answers c reply → status_of reply ≡ Done)

@@ -12,6 +12,7 @@ use Rattle.case_prove.specs.Verified.{IsVerdictOn, RefusesVerify}
 use Rattle.case_text.specs.Forms.{Allows}
 use Rattle.gkr_layers.specs.declared.verdict.Verdict.{Verdict}
 use Rattle.gkr_layers.specs.declared.verdict.Verdict.TheVariants as verdicts
+use Rattle.proof_wire.specs.declared.form.ProofForm.{ProofForm}
 use Rattle.case_text.specs.Content.{Content}
 use Rattle.case_text.specs.Reading.{reading}
 use Rattle.case_text.specs.declared.form.Form.{Form}
@@ -22,12 +23,12 @@ use Rattle.gkr_cmd.specs.declared.reply_error.ReplyError.{ReplyError}
 use Rattle.gkr_cmd.specs.declared.status.Status.{Status}
 use Rattle.gkr_cmd.specs.declared.status.Status.TheVariants as statuses
 use Rattle.gkr_words.specs.declared.words.Command.{Command}
-use Rattle.gkr_words.specs.declared.words.Command.TheVariants.{OfCase, Demo, Serve}
+use Rattle.gkr_words.specs.declared.words.Command.TheVariants.{OfCase, Demo, Serve, ServeHistory}
 use Rattle.gkr_words.specs.declared.words.CaseCommand.{CaseCommand}
 use Rattle.gkr_words.specs.declared.words.CaseCommand.TheVariants.{Eval, Circuit, Prove, Verify}
 use Rattle.io_edge.specs.Written.{Grows}
 use Rattle.gkr_cmd.specs.Reached.{ReadsUpTo, WritesFront}
-use Rattle.gkr_cmd.specs.Replies.{IsWithinLimit, IsTooLong, IsCommandReply, IsScriptReply, IsCaseReply, IsAnswer, IsCircuitAnswer, IsDemoAnswer, IsEvalAnswer, IsVerifyAnswer, IsOfCase, form_of, refused_reply, verdict_reply, status_of}
+use Rattle.gkr_cmd.specs.Replies.{IsWithinLimit, IsTooLong, IsCommandReply, IsHistoryReply, IsScriptReply, IsCaseReply, IsAnswer, IsCircuitAnswer, IsDemoAnswer, IsEvalAnswer, IsVerifyAnswer, IsOfCase, form_of, refused_reply, verdict_reply, status_of}
 use Rattle.gkr_words.specs.Commands.{case_limit, script_limit}
 use Rattle.case_prove.specs.Answers.{IsProveAnswer}
 use Rattle.gkr_cmd.specs.Runs.{IsInput, IsReplied, WritesNoMore, WritesReplyFront}
@@ -46,6 +47,9 @@ too_long command left new bytes h long input e = longer case_limit left new byte
 
 pub script_too_long : (left new : Option (List ℕ)) (bytes : List ℕ) → ReadsUpTo (script_limit + 1) left new bytes → script_limit < length bytes → (input : List ℕ) → left ≡ Some input → IsScriptReply input (replies.TooLong script_limit)
 script_too_long left new bytes h long input e = longer script_limit left new bytes h long input e
+
+pub history_too_long : (left new : Option (List ℕ)) (bytes : List ℕ) → ReadsUpTo (script_limit + 1) left new bytes → script_limit < length bytes → (input : List ℕ) → left ≡ Some input → IsHistoryReply input (replies.TooLong script_limit)
+history_too_long left new bytes h long input e = longer script_limit left new bytes h long input e
 
 whole : (most : ℕ) (left new : Option (List ℕ)) (bytes : List ℕ) → ReadsUpTo (most + 1) left new bytes → length bytes ≤ most → (input : List ℕ) → left ≡ Some input → bytes ≡ input
 whole most left new bytes h short input e =
@@ -69,6 +73,11 @@ pub script_replied : (left new : Option (List ℕ)) (bytes : List ℕ) (result :
 script_replied left new bytes result h short replied =
     replied_whole script_limit (λ read reply. IsScriptReply read reply) left new bytes result h short replied
 
+pub history_replied : (left new : Option (List ℕ)) (bytes : List ℕ) (result : Result Reply ReplyError) → ReadsUpTo (script_limit + 1) left new bytes → length bytes ≤ script_limit
+    → IfOk result (λ reply. IsHistoryReply bytes reply) → IfOk result (λ reply. (input : List ℕ) → left ≡ Some input → IsHistoryReply input reply)
+history_replied left new bytes result h short replied =
+    replied_whole script_limit (λ read reply. IsHistoryReply read reply) left new bytes result h short replied
+
 -- the reply of `serve` doesn't refuse the words
 pub script_named : (input : List ℕ) (reply : Reply) → IsScriptReply input reply → status_of reply ≢ statuses.Usage
 script_named input (replies.Outputs values) is = absurd is
@@ -83,6 +92,7 @@ script_named input (replies.Circuit sizes) is = absurd is
 script_named input (replies.Proved proved) is = absurd is
 script_named input (replies.Demo summary) is = absurd is
 script_named input (replies.Served served) is = λ e. cc
+script_named input (replies.History history) is = absurd is
 script_named input (replies.OutputCount have need) is = absurd is
 script_named input (replies.Proof bad) is = absurd is
 script_named input replies.Accepted is = absurd is
@@ -90,10 +100,33 @@ script_named input (replies.RejectedSum layer round had claim) is = absurd is
 script_named input (replies.RejectedEnd layer had want) is = absurd is
 script_named input (replies.RejectedInput had want) is = absurd is
 
+-- the reply of `serve --history` doesn't refuse the words
+pub history_named : (input : List ℕ) (reply : Reply) → IsHistoryReply input reply → status_of reply ≢ statuses.Usage
+history_named input (replies.Outputs values) is = absurd is
+history_named input replies.Usage is = absurd is
+history_named input (replies.TooLong limit) is = λ e. cc
+history_named input (replies.Case bad) is = λ e. cc
+history_named input (replies.Program kind at) is = absurd is
+history_named input (replies.Deep levels) is = absurd is
+history_named input (replies.Wide height width) is = absurd is
+history_named input (replies.InputCount have need) is = absurd is
+history_named input (replies.Circuit sizes) is = absurd is
+history_named input (replies.Proved proved) is = absurd is
+history_named input (replies.Demo summary) is = absurd is
+history_named input (replies.Served served) is = absurd is
+history_named input (replies.History history) is = λ e. cc
+history_named input (replies.OutputCount have need) is = absurd is
+history_named input (replies.Proof bad) is = absurd is
+history_named input replies.Accepted is = absurd is
+history_named input (replies.RejectedSum layer round had claim) is = absurd is
+history_named input (replies.RejectedEnd layer had want) is = absurd is
+history_named input (replies.RejectedInput had want) is = absurd is
+
 -- a named command's input is told by its source
 pub input_of : (named : CaseCommand) (command : Option Command) (left : Option (List ℕ)) (input : List ℕ) → command ≡ Some (OfCase named) → left ≡ Some input → IsInput command left input
 input_of named (Some (Demo number workers)) left input is told = absurd cc
 input_of named (Some (Serve workers provers clients)) left input is told = absurd cc
+input_of named (Some (ServeHistory workers provers clients)) left input is told = absurd cc
 input_of named None left input is told = absurd cc
 input_of named (Some (OfCase command)) left input is told = told
 
@@ -115,6 +148,12 @@ pub script_reply_of : (workers provers clients : ℕ) (command : Option Command)
 script_reply_of workers provers clients command left reply is replied input told =
     subst (λ c. IsCommandReply c input reply) is (replied input (subst (λ c. IsInput c left input) (sym is) told))
 
+-- the reply of `serve --history` is one to the script that is told
+pub history_reply_of : (workers provers clients : ℕ) (command : Option Command) (left : Option (List ℕ)) (reply : Reply) → command ≡ Some (ServeHistory workers provers clients)
+    → ((input : List ℕ) → IsInput command left input → IsCommandReply command input reply) → (input : List ℕ) → left ≡ Some input → IsHistoryReply input reply
+history_reply_of workers provers clients command left reply is replied input told =
+    subst (λ c. IsCommandReply c input reply) is (replied input (subst (λ c. IsInput c left input) (sym is) told))
+
 -- the status of a reply is none of a run that wrote none
 pub replied : (reply : Reply) → IsReplied (status_of reply)
 replied (replies.Outputs values) = tt
@@ -129,6 +168,7 @@ replied (replies.Circuit sizes) = tt
 replied (replies.Proved proved) = tt
 replied (replies.Demo summary) = tt
 replied (replies.Served jobs) = tt
+replied (replies.History history) = tt
 replied (replies.OutputCount have need) = tt
 replied (replies.Proof bad) = tt
 replied replies.Accepted = tt
@@ -150,6 +190,7 @@ named form answers input (replies.Circuit sizes) is = λ e. cc
 named form answers input (replies.Proved proved) is = λ e. cc
 named form answers input (replies.Demo summary) is = λ e. cc
 named form answers input (replies.Served jobs) is = λ e. cc
+named form answers input (replies.History history) is = λ e. cc
 named form answers input (replies.OutputCount have need) is = λ e. cc
 named form answers input (replies.Proof bad) is = λ e. cc
 named form answers input replies.Accepted is = λ e. cc
@@ -178,14 +219,14 @@ circuit_refused (refusals.Proof bad) c is = absurd is
 circuit_refused refusals.Memory c is = tt
 
 -- what is made of a refusal of `prove` is its answer
-pub prove_refused : (refused : Refused) (c : Content) → RefusesCircuit c refused → IfOk (refused_reply refused) (λ reply. IsProveAnswer c reply)
-prove_refused (refusals.Program (At at kind)) c is = is
-prove_refused (refusals.Program (Deep levels)) c is = is
-prove_refused (refusals.Program (Wide height width)) c is = is
-prove_refused (refusals.Input have need) c is = is
-prove_refused (refusals.Output have need) c is = absurd is
-prove_refused (refusals.Proof bad) c is = absurd is
-prove_refused refusals.Memory c is = tt
+pub prove_refused : (form : ProofForm) (refused : Refused) (c : Content) → RefusesCircuit c refused → IfOk (refused_reply refused) (λ reply. IsProveAnswer form c reply)
+prove_refused form (refusals.Program (At at kind)) c is = is
+prove_refused form (refusals.Program (Deep levels)) c is = is
+prove_refused form (refusals.Program (Wide height width)) c is = is
+prove_refused form (refusals.Input have need) c is = is
+prove_refused form (refusals.Output have need) c is = absurd is
+prove_refused form (refusals.Proof bad) c is = absurd is
+prove_refused form refusals.Memory c is = tt
 
 -- the answer of `demo` doesn't refuse the words
 pub demo_named : (number : ℕ) (reply : Reply) → IsDemoAnswer number reply → status_of reply ≢ statuses.Usage
@@ -201,6 +242,7 @@ demo_named number (replies.Circuit sizes) is = absurd is
 demo_named number (replies.Proved proved) is = absurd is
 demo_named number (replies.Demo summary) is = λ e. cc
 demo_named number (replies.Served jobs) is = absurd is
+demo_named number (replies.History history) is = absurd is
 demo_named number (replies.OutputCount have need) is = absurd is
 demo_named number (replies.Proof bad) is = absurd is
 demo_named number replies.Accepted is = absurd is
@@ -236,15 +278,15 @@ answers_a_case : (command : CaseCommand) (c : Content) (reply : Reply) → IsAns
 answers_a_case command c (replies.Outputs values) is = tt
 answers_a_case Eval c replies.Usage is = absurd is
 answers_a_case Circuit c replies.Usage is = absurd is
-answers_a_case (Prove workers) c replies.Usage is = absurd is
+answers_a_case (Prove workers form) c replies.Usage is = absurd is
 answers_a_case Verify c replies.Usage is = absurd is
 answers_a_case Eval c (replies.TooLong limit) is = absurd is
 answers_a_case Circuit c (replies.TooLong limit) is = absurd is
-answers_a_case (Prove workers) c (replies.TooLong limit) is = absurd is
+answers_a_case (Prove workers form) c (replies.TooLong limit) is = absurd is
 answers_a_case Verify c (replies.TooLong limit) is = absurd is
 answers_a_case Eval c (replies.Case bad) is = absurd is
 answers_a_case Circuit c (replies.Case bad) is = absurd is
-answers_a_case (Prove workers) c (replies.Case bad) is = absurd is
+answers_a_case (Prove workers form) c (replies.Case bad) is = absurd is
 answers_a_case Verify c (replies.Case bad) is = absurd is
 answers_a_case command c (replies.Program kind at) is = tt
 answers_a_case command c (replies.Deep levels) is = tt
@@ -254,6 +296,7 @@ answers_a_case command c (replies.Circuit sizes) is = tt
 answers_a_case command c (replies.Proved proved) is = tt
 answers_a_case command c (replies.Demo summary) is = tt
 answers_a_case command c (replies.Served jobs) is = tt
+answers_a_case command c (replies.History history) is = tt
 answers_a_case command c (replies.OutputCount have need) is = tt
 answers_a_case command c (replies.Proof bad) is = tt
 answers_a_case command c replies.Accepted is = tt
@@ -274,6 +317,7 @@ of_case form answers input (replies.Circuit sizes) of is = is
 of_case form answers input (replies.Proved proved) of is = is
 of_case form answers input (replies.Demo summary) of is = is
 of_case form answers input (replies.Served jobs) of is = is
+of_case form answers input (replies.History history) of is = is
 of_case form answers input (replies.OutputCount have need) of is = is
 of_case form answers input (replies.Proof bad) of is = is
 of_case form answers input replies.Accepted of is = is

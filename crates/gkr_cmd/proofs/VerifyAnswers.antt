@@ -5,11 +5,13 @@ use Rattle.circuit_core.specs.Parts.{Parts}
 use Rattle.circuit_core.specs.Sound.{exponents}
 use Rattle.proof_wire.specs.declared.messages.Messages.{Messages}
 use Rattle.proof_wire.specs.declared.refused.BadProof.{BadProof}
+use Rattle.proof_wire.specs.declared.form.ProofForm.{ProofForm}
+use Rattle.proof_wire.specs.Forms.{form_of}
 use Rattle.proof_wire.specs.Spelling.{spelling}
 use Rattle.proof_wire.specs.Trouble.{TroubleIs}
 use Rattle.transcript_fs.specs.Source.{all_draws}
-use Rattle.transcript_fs.specs.Transcript.{start_state, transcript}
-use Rattle.gkr_layers.specs.Acceptance.{claim_of, verdict_of}
+use Rattle.transcript_fs.specs.Transcript.{transcript}
+use Rattle.gkr_layers.specs.Acceptance.{claim_in, verdict_of}
 use Rattle.proof_wire.specs.Lists.{all_messages, HaveShape}
 use Rattle.gkr_layers.specs.declared.verdict.Verdict.{Verdict}
 use Rattle.gkr_layers.specs.declared.verdict.Verdict.TheVariants as verdicts
@@ -20,6 +22,7 @@ use Rattle.case_text.specs.Content.{Content}
 use Rattle.case_text.specs.declared.reply.Reply.{Reply}
 use Rattle.case_text.specs.declared.reply.Reply.TheVariants as replies
 use Rattle.case_prove.specs.Circuits.{IsCircuitMiscounted}
+use Rattle.case_prove.specs.Started.{start_of}
 use Rattle.case_prove.specs.Verified.{IsClaim, IsVerdictOn, IsOutputMiscounted, IsBadProof, RefusesVerify}
 use Rattle.case_prove.specs.declared.refused.Refused.{Refused}
 use Rattle.case_prove.specs.declared.refused.Refused.TheVariants as refusals
@@ -28,11 +31,12 @@ use Rattle.gkr_cmd.specs.Replies.{IsVerifyAnswer, status_of, verdict_reply}
 use Rattle.gkr_cmd.proofs.CircuitAnswers.{IsOne, reply_to, same_counts, counted_or_not}
 use Rattle.gkr_cmd.proofs.OneReply.{OneAnswer}
 
--- bytes spell the same messages or have one first trouble
+-- bytes spell messages in one form alone, and there the same messages, or have one first trouble
 pub record IsOneProof : Type 0 where
-  pub reading : (ks : List ℕ) (some others : Messages) → HaveShape (drop 1 ks) some.layers → HaveShape (drop 1 ks) others.layers → spelling some ≡ spelling others → some ≡ others
-  pub trouble : (ks bytes : List ℕ) (trouble other : BadProof) → TroubleIs ks bytes trouble → TroubleIs ks bytes other → trouble ≡ other
-  pub none : (ks : List ℕ) (messages : Messages) (trouble : BadProof) → HaveShape (drop 1 ks) messages.layers → TroubleIs ks (spelling messages) trouble → ⊥
+  pub form : (form : ProofForm) (messages : Messages) → form_of (spelling form messages) ≡ form
+  pub reading : (form : ProofForm) (ks : List ℕ) (some others : Messages) → HaveShape form (drop 1 ks) some.layers → HaveShape form (drop 1 ks) others.layers → spelling form some ≡ spelling form others → some ≡ others
+  pub trouble : (form : ProofForm) (ks bytes : List ℕ) (trouble other : BadProof) → TroubleIs form ks bytes trouble → TroubleIs form ks bytes other → trouble ≡ other
+  pub none : (form : ProofForm) (ks : List ℕ) (messages : Messages) (trouble : BadProof) → HaveShape form (drop 1 ks) messages.layers → TroubleIs form ks (spelling form messages) trouble → ⊥
 
 -- what is said of a case
 pub data Answer (c : Content) : Reply → Type 0 where
@@ -55,6 +59,7 @@ answer c (replies.Circuit sizes) is = absurd is
 answer c (replies.Proved proved) is = absurd is
 answer c (replies.Demo summary) is = absurd is
 answer c (replies.Served jobs) is = absurd is
+answer c (replies.History history) is = absurd is
 answer c (replies.OutputCount have need) is = outputs_miscounted have need is
 answer c (replies.Proof bad) is = bad_proof bad is
 answer c replies.Accepted is = verdict verdicts.Accepted is
@@ -96,31 +101,36 @@ same_trouble : IsOne → IsOneProof → (c : Content) (a b : BadProof) → IsBad
 same_trouble one proofs c a b is is' =
     let parts = same_parts one c is'.parts is.parts is'.outputs is.outputs is'.claim is.claim in
     let proof = one_list c.proof is'.proof is.proof is'.proof_is is.proof_is in
-    proofs.trouble (exponents is.parts) is.proof a b is.trouble
-    (subst (λ (q : Parts). TroubleIs (exponents q) is.proof b) parts (subst (λ (bytes : List ℕ). TroubleIs (exponents is'.parts) bytes b) proof is'.trouble))
+    let form : is'.form ≡ is.form = is'.form_is ∙ ap form_of proof ∙ sym is.form_is in
+    proofs.trouble is.form (exponents is.parts) is.proof a b is.trouble
+    (coe 0 1 (i. TroubleIs (form i) (exponents (parts i)) (proof i) b) is'.trouble)
 
 spelled_or_not : IsOne → IsOneProof → (c : Content) (bad : BadProof) (v : Verdict) → IsBadProof c bad → IsVerdictOn c v → ⊥
 spelled_or_not one proofs c bad v is is' =
     let parts = same_parts one c is.parts is'.parts is.outputs is'.outputs is.claim is'.claim in
-    let proof = one_list c.proof is.proof (spelling is'.messages) is.proof_is is'.spelled in
-    proofs.none (exponents is'.parts) is'.messages bad is'.of_shape
-    (subst (λ (q : Parts). TroubleIs (exponents q) (spelling is'.messages) bad) parts (subst (λ (bytes : List ℕ). TroubleIs (exponents is.parts) bytes bad) proof is.trouble))
+    let proof = one_list c.proof is.proof (spelling is'.form is'.messages) is.proof_is is'.spelled in
+    let form : is.form ≡ is'.form = is.form_is ∙ ap form_of proof ∙ proofs.form is'.form is'.messages in
+    proofs.none is'.form (exponents is'.parts) is'.messages bad is'.of_shape
+    (coe 0 1 (i. TroubleIs (form i) (exponents (parts i)) (proof i) bad) is.trouble)
 
-abbrev by_messages : Content → Parts → List F → Messages → Verdict
-by_messages c parts outputs messages =
-    let stated = claim_of parts c.inputs outputs in
-    verdict_of stated (all_messages messages.layers) (all_draws transcript (start_state c.program c.inputs outputs) stated.k (all_messages messages.layers))
+abbrev by_messages : ProofForm → Content → Parts → List F → Messages → Verdict
+by_messages form c parts outputs messages =
+    let stated = claim_in form parts c.inputs outputs in
+    verdict_of stated (all_messages messages.layers) (all_draws transcript (start_of form c.program c.inputs outputs) stated.k (all_messages messages.layers))
 
 same_verdict : IsOne → IsOneProof → (c : Content) (v w : Verdict) → IsVerdictOn c v → IsVerdictOn c w → v ≡ w
 same_verdict one proofs c v w is is' =
     let parts = same_parts one c is'.parts is.parts is'.outputs is.outputs is'.claim is.claim in
     let outputs = same_outputs c is'.parts is.parts is'.outputs is.outputs is'.claim is.claim in
-    let bytes = one_list c.proof (spelling is.messages) (spelling is'.messages) is.spelled is'.spelled in
-    let messages : is.messages ≡ is'.messages = proofs.reading (exponents is.parts) is.messages is'.messages is.of_shape (subst (λ (q : Parts). HaveShape (drop 1 (exponents q)) is'.messages.layers) parts is'.of_shape) bytes in
+    let bytes = one_list c.proof (spelling is.form is.messages) (spelling is'.form is'.messages) is.spelled is'.spelled in
+    let form : is'.form ≡ is.form = sym (proofs.form is'.form is'.messages) ∙ ap form_of (sym bytes) ∙ proofs.form is.form is.messages in
+    let shape : HaveShape is.form (drop 1 (exponents is.parts)) is'.messages.layers = coe 0 1 (i. HaveShape (form i) (drop 1 (exponents (parts i))) is'.messages.layers) is'.of_shape in
+    let messages : is.messages ≡ is'.messages = proofs.reading is.form (exponents is.parts) is.messages is'.messages is.of_shape shape (bytes ∙ ap (λ (f : ProofForm). spelling f is'.messages) form) in
     is.verdict_is
-    ∙ ap (by_messages c is.parts is.outputs) messages
-    ∙ ap (λ (o : List F). by_messages c is.parts o is'.messages) (sym outputs)
-    ∙ ap (λ (q : Parts). by_messages c q is'.outputs is'.messages) (sym parts)
+    ∙ ap (by_messages is.form c is.parts is.outputs) messages
+    ∙ ap (λ (o : List F). by_messages is.form c is.parts o is'.messages) (sym outputs)
+    ∙ ap (λ (q : Parts). by_messages is.form c q is'.outputs is'.messages) (sym parts)
+    ∙ ap (λ (f : ProofForm). by_messages f c is'.parts is'.outputs is'.messages) (sym form)
     ∙ sym is'.verdict_is
 
 one_answer : IsOne → IsOneProof → (c : Content) {a b : Reply} → Answer c a → Answer c b → a ≡ b

@@ -4,6 +4,7 @@ use Rattle.io_edge.specs.Calls.{Calls}
 use Rattle.io_edge.specs.Causes.{Rose}
 use Rattle.io_edge.specs.Written.{Grows}
 use Rattle.case_prove.specs.Sound.{HasExceptionalChallenge, HasMeaning}
+use Rattle.proof_wire.specs.declared.form.ProofForm.{ProofForm}
 use Rattle.case_text.specs.Content.{Content}
 use Rattle.case_text.specs.Reading.{reading}
 use Rattle.case_text.specs.Replies.{reply_text}
@@ -12,16 +13,18 @@ use Rattle.case_text.specs.declared.reply.Reply.TheVariants as replies
 use Rattle.gkr_cmd.specs.declared.status.Status.{Status}
 use Rattle.gkr_cmd.specs.declared.status.Status.TheVariants as statuses
 use Rattle.gkr_words.specs.declared.words.Command.{Command}
-use Rattle.gkr_words.specs.declared.words.Command.TheVariants.{OfCase, Demo, Serve}
+use Rattle.gkr_words.specs.declared.words.Command.TheVariants.{OfCase, Demo, Serve, ServeHistory}
 use Rattle.gkr_words.specs.declared.words.CaseCommand.TheVariants.{Eval, Circuit, Prove, Verify}
+use Rattle.script_text.specs.declared.script.MarkedJob.{MarkedJob}
 use Rattle.script_text.specs.declared.script.ScriptJob.{ScriptJob}
-use Rattle.script_text.specs.Scripts.{script_reading}
+use Rattle.script_text.specs.Scripts.{history_script_reading, script_reading}
 use Rattle.gkr_words.specs.Commands.{ReadsCase, command_of, input_limit, read_room, script_limit}
 use Rattle.gkr_cmd.specs.Reached.{IsReadUpTo, ReadsWithin}
 use Rattle.gkr_cmd.specs.Replies.{IsOfCase}
 use Rattle.case_prove.specs.Verified.{HasAcceptedProof}
 use Rattle.gkr_cmd.specs.Runs.{EndsWithReply, HasCircuit, IsEvaluable, IsInput}
-use Rattle.gkr_cmd.specs.Runs.{IsReplied, WritesHonestProof, WritesNoMore, WritesReplies}
+use Rattle.gkr_cmd.specs.Runs.{IsReplied, WritesHistory, WritesHonestProof, WritesNoMore}
+use Rattle.gkr_cmd.specs.Runs.{WritesReplies}
 
 -- What the source and the sink of a run tell at one moment: the bytes that are left, the calls that
 -- read and the bytes that were written, where they tell them, and how often each has failed.
@@ -48,25 +51,28 @@ pub record Asks (run : Run) (command : Command) (input : List ℕ) : Type 0 wher
 -- ---- the headline
 
 pub record Headline (run : Run) : Type 0 where
-  -- `verify` accepts exactly the cases whose proof meets every equation of acceptance.
+  -- `verify` accepts exactly the cases whose proof, by lines or by pairs, meets every equation of
+  -- acceptance.
   pub accepted : (input : List ℕ) → Asks run (OfCase Verify) input → IsReplied run.ended
       → (run.ended ≡ statuses.Done) ↔ IsOfCase Full input HasAcceptedProof
   -- It then writes that they are accepted.
   pub accepted_text : (input : List ℕ) → Asks run (OfCase Verify) input → run.ended ≡ statuses.Done
       → Grows run.before.written run.after.written (reply_text replies.Accepted)
   -- What `prove` writes, with any number of workers, is the case with its program's meaning as
-  -- outputs and the one honest proof of them; and that text is accepted.
-  pub honest : (input : List ℕ) (workers : ℕ) (content : Content)
-      → Asks run (OfCase (Prove workers)) input → reading Plain input ≡ Ok content
+  -- outputs and the one honest proof of them, by lines or by pairs as the words ask; and that text
+  -- is accepted.
+  pub honest : (input : List ℕ) (workers : ℕ) (form : ProofForm) (content : Content)
+      → Asks run (OfCase (Prove workers form)) input → reading Plain input ≡ Ok content
       → run.ended ≡ statuses.Done
-      → WritesHonestProof content run.before.written run.after.written
+      → WritesHonestProof form content run.before.written run.after.written
   -- Where an accepted case's outputs aren't its program's meaning on its inputs, some challenge is
   -- one of few exceptional ones, which earlier messages fix.
   pub sound : (input : List ℕ) (content : Content) → Asks run (OfCase Verify) input
       → reading Full input ≡ Ok content → run.ended ≡ statuses.Done → ¬ HasMeaning content
       → (n : ℕ) × HasExceptionalChallenge content n
   -- A case whose program has a circuit with as many inputs is proved.
-  pub proved : (input : List ℕ) (workers : ℕ) → Asks run (OfCase (Prove workers)) input
+  pub proved : (input : List ℕ) (workers : ℕ) (form : ProofForm)
+      → Asks run (OfCase (Prove workers form)) input
       → IsOfCase Plain input HasCircuit → IsReplied run.ended → run.ended ≡ statuses.Done
   -- Such a case is answered by `circuit` with the circuit's sizes.
   pub laid_out : (input : List ℕ) → Asks run (OfCase Circuit) input
@@ -83,8 +89,15 @@ pub record Headline (run : Run) : Type 0 where
       → Asks run (Serve workers provers clients) input → script_reading input ≡ Ok script
       → length input ≤ script_limit → IsReplied run.ended
       → (run.ended ≡ statuses.Done) × WritesReplies script run.before.written run.after.written
+  -- `serve --history` answers every script with the replies of `prove` to the jobs that its clients
+  -- don't withdraw, in the script's order, and with a history that its table had.
+  pub told : (input : List ℕ) (workers provers clients : ℕ) (script : List MarkedJob)
+      → Asks run (ServeHistory workers provers clients) input
+      → history_script_reading input ≡ Ok script
+      → length input ≤ script_limit → IsReplied run.ended
+      → (run.ended ≡ statuses.Done) × WritesHistory script run.before.written run.after.written
 
--- ---- the one reply
+-- ---- the one reply, which for `serve --history` is one that the schedule chose
 
 pub record HasOneReply (run : Run) : Type 0 where
   -- The run ends with the status of the reply to the words and the input, and writes its text.

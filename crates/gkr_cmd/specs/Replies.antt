@@ -25,12 +25,14 @@ use Rattle.gkr_cmd.specs.declared.status.Status.TheVariants as statuses
 use Rattle.gkr_words.specs.declared.words.CaseCommand.{CaseCommand}
 use Rattle.gkr_words.specs.declared.words.CaseCommand.TheVariants as commands
 use Rattle.gkr_words.specs.declared.words.Command.{Command}
-use Rattle.gkr_words.specs.declared.words.Command.TheVariants.{OfCase, Demo, Serve}
+use Rattle.gkr_words.specs.declared.words.Command.TheVariants.{OfCase, Demo, Serve, ServeHistory}
 use Rattle.case_prove.specs.Answers.{IsProveAnswer}
+use Rattle.case_text.specs.Histories.{History}
 use Rattle.case_text.specs.Served.{Served}
+use Rattle.script_text.specs.declared.script.MarkedJob.{MarkedJob}
 use Rattle.script_text.specs.declared.script.ScriptJob.{ScriptJob}
-use Rattle.script_text.specs.Scripts.{script_reading}
-use Rattle.script_prove.specs.Served.{AreServed}
+use Rattle.script_text.specs.Scripts.{history_script_reading, script_reading}
+use Rattle.script_prove.specs.Served.{AreServed, IsServedHistory}
 use Rattle.gkr_words.specs.Commands.{case_limit, command_of, script_limit}
 use Rattle.gkr_cmd.specs.Demo.{IsDemo}
 
@@ -97,14 +99,14 @@ IsCaseReply form answers input reply = IsOfCase form input (λ c. answers c repl
 abbrev pub form_of : CaseCommand → Form
 form_of commands.Eval = Plain
 form_of commands.Circuit = Plain
-form_of (commands.Prove workers) = Plain
+form_of (commands.Prove workers form) = Plain
 form_of commands.Verify = Full
 
 -- when a reply is what a command says of a case
 abbrev pub IsAnswer : CaseCommand → Content → Reply → Type 0
 IsAnswer commands.Eval = IsEvalAnswer
 IsAnswer commands.Circuit = IsCircuitAnswer
-IsAnswer (commands.Prove workers) = IsProveAnswer
+IsAnswer (commands.Prove workers form) = IsProveAnswer form
 IsAnswer commands.Verify = IsVerifyAnswer
 
 -- when a reply is the one of `demo`, whose case is always proved and accepted
@@ -131,15 +133,37 @@ IsScriptReply input (replies.Case bad) = IsNoScript input bad
 IsScriptReply input (replies.Served served) = IsServedScript input served
 IsScriptReply input reply = ⊥
 
--- when a reply is the one of a command, or of words that name none
+-- The input is within the limit and no text of a script whose jobs may be withdrawn.
+pub record IsNoHistoryScript (input : List ℕ) (bad : BadCase) : Type 0 where
+  pub within : length input ≤ script_limit
+  pub read : history_script_reading input ≡ Err bad
+
+-- The input is a text of such a script, and these are the replies to its jobs and a history that
+-- its table had.
+pub record IsToldScript (input : List ℕ) (history : History) : Type 0 where
+  pub within : length input ≤ script_limit
+  pub script : List MarkedJob
+  pub read : history_script_reading input ≡ Ok script
+  pub told : IsServedHistory script history.jobs history.lines
+
+-- when a reply is one of `serve --history`
+abbrev pub IsHistoryReply : List ℕ → Reply → Type 0
+IsHistoryReply input (replies.TooLong limit) = IsTooLong script_limit input limit
+IsHistoryReply input (replies.Case bad) = IsNoHistoryScript input bad
+IsHistoryReply input (replies.History history) = IsToldScript input history
+IsHistoryReply input reply = ⊥
+
+-- when a reply is one of a command, or of words that name none
 abbrev pub IsCommandReply : Option Command → List ℕ → Reply → Type 0
 IsCommandReply None input reply = reply ≡ replies.Usage
 IsCommandReply (Some (OfCase command)) input reply = IsCaseReply (form_of command)
     (IsAnswer command) input reply
 IsCommandReply (Some (Demo number workers)) input reply = IsDemoAnswer number reply
 IsCommandReply (Some (Serve workers provers clients)) input reply = IsScriptReply input reply
+IsCommandReply (Some (ServeHistory workers provers clients)) input reply =
+    IsHistoryReply input reply
 
--- The reply to the words, and to the input of the command that they name.
+-- A reply to the words, and to the input of the command that they name.
 abbrev pub IsReply : List (List ℕ) → List ℕ → Reply → Type 0
 IsReply words input reply = IsCommandReply (command_of words) input reply
 
@@ -158,6 +182,7 @@ status_of (replies.Circuit sizes) = statuses.Done
 status_of (replies.Proved proved) = statuses.Done
 status_of (replies.Demo summary) = statuses.Done
 status_of (replies.Served jobs) = statuses.Done
+status_of (replies.History history) = statuses.Done
 status_of replies.Accepted = statuses.Done
 status_of (replies.RejectedSum layer round had claim) = statuses.Rejected
 status_of (replies.RejectedEnd layer had want) = statuses.Rejected

@@ -4,6 +4,7 @@ use Rattle.case_prove.specs.Answers.{IsProveAnswer}
 use Rattle.case_prove.specs.Proved.{IsProved}
 use Rattle.case_prove.specs.Sound.{HasExceptionalChallenge, HasMeaning}
 use Rattle.case_prove.specs.Verified.{HasAcceptedProof, IsVerdictOn}
+use Rattle.proof_wire.specs.declared.form.ProofForm.{ProofForm}
 use Rattle.case_text.specs.Content.{Content, Fits}
 use Rattle.case_text.specs.Reading.{reading}
 use Rattle.case_text.specs.Spelling.{Spells, lower_case_text}
@@ -21,7 +22,8 @@ pub record RunLaws : Type 0 where
       → IsOfCase Plain input IsEvaluable → status_of reply ≡ statuses.Done
   pub laid_out : (input : List ℕ) (reply : Reply) → IsCaseReply Plain IsCircuitAnswer input reply
       → IsOfCase Plain input HasCircuit → status_of reply ≡ statuses.Done
-  pub provable : (input : List ℕ) (reply : Reply) → IsCaseReply Plain IsProveAnswer input reply
+  pub provable : (form : ProofForm) (input : List ℕ) (reply : Reply)
+      → IsCaseReply Plain (IsProveAnswer form) input reply
       → IsOfCase Plain input HasCircuit → status_of reply ≡ statuses.Done
   pub demo : (number : ℕ) (reply : Reply) → IsDemoAnswer number reply
       → status_of reply ≡ statuses.Done
@@ -29,9 +31,11 @@ pub record RunLaws : Type 0 where
       → IsOfCase Full input HasAcceptedProof → status_of reply ≡ statuses.Done
   pub sound : (c : Content) → IsVerdictOn c verdicts.Accepted → ¬ HasMeaning c
       → (n : ℕ) × HasExceptionalChallenge c n
-  pub proved_accepted : (c p : Content) → IsProved c p → IsVerdictOn p verdicts.Accepted
-  pub proved_full : (c p : Content) → Fits c → IsProved c p → Spells Full (lower_case_text p) p
-  pub proved_short : (c p : Content) → Fits c → IsProved c p
+  pub proved_accepted : (form : ProofForm) (c p : Content) → IsProved form c p
+      → IsVerdictOn p verdicts.Accepted
+  pub proved_full : (form : ProofForm) (c p : Content) → Fits c → IsProved form c p
+      → Spells Full (lower_case_text p) p
+  pub proved_short : (form : ProofForm) (c p : Content) → Fits c → IsProved form c p
       → length (lower_case_text p) < 4194304
   pub exactly : (form : Form) (bytes : List ℕ) (c : Content)
       → (reading form bytes ≡ Ok c) ↔ Spells form bytes c

@@ -8,16 +8,19 @@ use Rattle.arr_compile.specs.Circuits.{IsCompiled}
 use Rattle.circuit_core.specs.Parts.{Parts}
 use Rattle.case_prove.specs.Proved.{IsProved}
 use Rattle.case_prove.specs.Verified.{HasAcceptedProof}
+use Rattle.proof_wire.specs.declared.form.ProofForm.{ProofForm}
 use Rattle.case_text.specs.Content.{Content}
-use Rattle.case_text.specs.Replies.{reply_text, served_text}
+use Rattle.case_text.specs.Histories.{History}
+use Rattle.case_text.specs.Replies.{history_text, reply_text, served_text}
 use Rattle.case_text.specs.Served.{Served}
+use Rattle.script_text.specs.declared.script.MarkedJob.{MarkedJob}
 use Rattle.script_text.specs.declared.script.ScriptJob.{ScriptJob}
-use Rattle.script_prove.specs.Served.{AreServed}
+use Rattle.script_prove.specs.Served.{AreServed, IsServedHistory}
 use Rattle.case_text.specs.Spelling.{lower_case_text}
 use Rattle.case_text.specs.declared.form.Form.TheVariants.{Full}
 use Rattle.case_text.specs.declared.reply.Reply.{Reply}
 use Rattle.gkr_words.specs.declared.words.Command.{Command}
-use Rattle.gkr_words.specs.declared.words.Command.TheVariants.{OfCase, Demo, Serve}
+use Rattle.gkr_words.specs.declared.words.Command.TheVariants.{OfCase, Demo, Serve, ServeHistory}
 use Rattle.gkr_cmd.specs.declared.status.Status.{Status}
 use Rattle.gkr_cmd.specs.declared.status.Status.TheVariants as statuses
 use Rattle.gkr_cmd.specs.Replies.{IsOfCase, IsReply, status_of}
@@ -30,6 +33,7 @@ IsInput None left input = ⊤
 IsInput (Some (OfCase command)) left input = left ≡ Some input
 IsInput (Some (Demo number workers)) left input = ⊤
 IsInput (Some (Serve workers provers clients)) left input = left ≡ Some input
+IsInput (Some (ServeHistory workers provers clients)) left input = left ≡ Some input
 
 -- A run that wrote its reply whole.
 abbrev pub IsReplied : Status → Type 0
@@ -38,7 +42,7 @@ IsReplied statuses.WriteFault = ⊥
 IsReplied statuses.Memory = ⊥
 IsReplied status = ⊤
 
--- The run ended with the status of the reply to its words and input, and wrote that reply's text.
+-- The run ended with the status of a reply to its words and input, and wrote that reply's text.
 pub record EndsWithReply (words : List (List ℕ)) (input : List ℕ) (ended : Status)
     (before after : Option (List ℕ)) : Type 0 where
   pub reply : Reply
@@ -46,7 +50,7 @@ pub record EndsWithReply (words : List (List ℕ)) (input : List ℕ) (ended : S
   pub status : ended ≡ status_of reply
   pub written : Grows before after (reply_text reply)
 
--- The run wrote a front of the text of the reply to its words and input.
+-- The run wrote a front of the text of a reply to its words and input.
 pub record WritesReplyFront (words : List (List ℕ)) (input : List ℕ)
     (before after : Option (List ℕ)) : Type 0 where
   pub reply : Reply
@@ -74,10 +78,11 @@ pub record HasCircuit (c : Content) : Type 0 where
   pub counted : length c.inputs ≡ parts.inputs
 
 -- The run wrote the text of this case with its program's meaning on its inputs as outputs and the
--- one honest proof of them, and that text is one of an accepted case.
-pub record WritesHonestProof (c : Content) (before after : Option (List ℕ)) : Type 0 where
+-- one honest proof of this form of them, and that text is one of an accepted case.
+pub record WritesHonestProof (form : ProofForm) (c : Content) (before after : Option (List ℕ))
+    : Type 0 where
   pub proved : Content
-  pub is_proved : IsProved c proved
+  pub is_proved : IsProved form c proved
   pub written : Grows before after (lower_case_text proved)
   pub accepted : IsOfCase Full (lower_case_text proved) HasAcceptedProof
 
@@ -86,3 +91,10 @@ pub record WritesReplies (script : List ScriptJob) (before after : Option (List 
   pub served : List Served
   pub replies : AreServed script served
   pub written : Grows before after (served_text served)
+
+-- The run wrote the replies to these jobs, in their order, the line on all of them, and a history
+-- that their table had.
+pub record WritesHistory (script : List MarkedJob) (before after : Option (List ℕ)) : Type 0 where
+  pub history : History
+  pub told : IsServedHistory script history.jobs history.lines
+  pub written : Grows before after (history_text history)

@@ -15,6 +15,7 @@ use case_text::{Case, CaseRefused, Form, Reply, Values, read_case};
 use gkr_verify::Verdict;
 use gkr_words::{CaseCommand, Command};
 use io_edge::Gate;
+use proof_wire::ProofForm;
 use std::alloc::Global;
 use std::marker::Sync;
 use std::thread::Threads;
@@ -69,7 +70,7 @@ fn answer_case<R: Threads + Sync, G: Gate>(
     match command {
         CaseCommand::Eval => evaluate(alloc, case),
         CaseCommand::Circuit => lay_out(alloc, case),
-        CaseCommand::Prove { workers } => prove(rt, alloc, case, workers, gate),
+        CaseCommand::Prove { workers, form } => prove(rt, alloc, case, form, workers, gate),
         CaseCommand::Verify => verify(alloc, case),
     }
 }
@@ -98,20 +99,21 @@ fn lay_out(alloc: Global, case: &Case) -> Result<Reply, ReplyError>
     }
 }
 
-/// What `prove` says of a case, by so many workers.
+/// What `prove` says of a case, with a proof of this form by so many workers.
 #[tactic(auto, using(crate::proofs::Replied::prove_refused))]
 fn prove<R: Threads + Sync, G: Gate>(
     rt: &R,
     alloc: Global,
     case: &Case,
+    form: ProofForm,
     workers: u32,
     gate: &G,
 ) -> Result<Reply, ReplyError>
     requires { IsWorkerCount workers }
-    ensures reply { IfOk result (λ reply. IsProveAnswer case.now reply) }
+    ensures reply { IfOk result (λ reply. IsProveAnswer form case.now reply) }
     ensures fault { result ≢ Err ReplyError.ReadFault }
 {
-    match prove_case(rt, alloc, case, workers, gate) {
+    match prove_case(rt, alloc, case, form, workers, gate) {
         Ok(proved) => Ok(Reply::Proved(proved)),
         Err(refused) => refused_reply(refused),
     }

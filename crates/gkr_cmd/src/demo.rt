@@ -22,7 +22,8 @@ use field_ext::Fp;
 use gkr_verify::Verdict;
 use io_edge::Gate;
 use itoa::Buffer;
-use proof_wire::laws::{no_trouble, one_reading, one_trouble};
+use proof_wire::ProofForm;
+use proof_wire::laws::{no_trouble, one_form, one_reading, one_trouble};
 use sha2::{Digest, Sha256};
 use std::alloc::{AllocError, Global};
 use std::marker::Sync;
@@ -45,7 +46,7 @@ pub fn demo<R: Threads + Sync, G: Gate>(
         Ok(sizes) => sizes,
         Err(refused) => return Err(want_of_memory(number, refused)),
     };
-    let proved = match prove_case(rt, alloc, &case, workers, gate) {
+    let proved = match prove_case(rt, alloc, &case, ProofForm::Line, workers, gate) {
         Ok(proved) => proved,
         Err(refused) => return Err(want_of_memory(number, refused)),
     };
@@ -123,13 +124,14 @@ fn demo_inputs(alloc: Global, number: u32, count: u32) -> Result<Vec<Fp>, AllocE
 
 /// Verifies a case that was proved, which is always accepted.
 fn accept(alloc: Global, case: &Case, proved: &Case) -> Result<(), ReplyError>
-    requires proved { IsProved case.now proved.now }
+    requires proved { IsProved ProofForm.Line case.now proved.now }
     ensures accepted { OnOk result (IsVerdictOn proved.now Accepted) }
     ensures fault { result ≢ Err ReplyError.ReadFault }
 {
     one_circuit();
     one_circuit_refusal();
     compiled_or_refused();
+    one_form();
     one_reading();
     one_trouble();
     no_trouble();
@@ -148,7 +150,7 @@ fn accept(alloc: Global, case: &Case, proved: &Case) -> Result<(), ReplyError>
 
 /// The first output of a case that was proved.
 fn first_output(case: &Case, proved: &Case) -> Fp
-    requires { IsProved case.now proved.now }
+    requires { IsProved ProofForm.Line case.now proved.now }
     ensures { HasFirst proved.now.outputs result }
 {
     one_tree();
@@ -175,7 +177,7 @@ fn proof_of(proved: &Case) -> &[u8]
 fn summary(number: u32, sizes: &CircuitSizes, case: &Case, proved: &Case) -> DemoSummary
     requires case { case.now ≡ demo_case number }
     requires laid_out { IsLaidOut case.now sizes.now }
-    requires proved { IsProved case.now proved.now }
+    requires proved { IsProved ProofForm.Line case.now proved.now }
     requires accepted { IsVerdictOn proved.now Accepted }
     ensures { IsDemo number result }
 {

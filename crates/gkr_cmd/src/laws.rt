@@ -5,10 +5,12 @@ ghost use Rattle.case_text.specs.declared.form.Form.TheVariants.{Full, Plain};
 ghost use Rattle.case_text.specs.declared.reply.Reply.{Reply};
 ghost use Rattle.gkr_cmd.specs.declared.status.Status.TheVariants.{Done};
 ghost use Rattle.gkr_cmd.specs.Replies.{IsCaseReply, IsCircuitAnswer, IsDemoAnswer, IsEvalAnswer, IsVerifyAnswer, IsOfCase, IsReply, status_of};
+ghost use Rattle.proof_wire.specs.declared.form.ProofForm.{ProofForm};
 ghost use Rattle.case_prove.specs.Answers.{IsProveAnswer};
 ghost use Rattle.case_prove.specs.Verified.{HasAcceptedProof};
 ghost use Rattle.gkr_cmd.specs.Runs.{HasCircuit, IsEvaluable};
 ghost use Rattle.gkr_cmd.specs.Demo.{demo_case};
+ghost use Rattle.gkr_words.specs.Commands.{PrintsHistory, command_of};
 
 use arr_compile::laws::{
     accepted_or_refused, circuit_computes, compiled_or_refused, one_circuit, one_circuit_refusal,
@@ -16,12 +18,13 @@ use arr_compile::laws::{
 };
 use arr_lower::laws::nodes_in_order;
 use case_prove::laws::proved_is_one;
-use proof_wire::laws::{no_trouble, one_reading, one_trouble};
+use proof_wire::laws::{no_trouble, one_form, one_reading, one_trouble};
 
-/// Words and an input have at most one reply.
+/// Words and an input have at most one reply, but where the words ask for a history, which the schedule chooses.
 pub fn one_reply()
-    ensures { (words : List (List ℕ)) (input : List ℕ) (a b : Reply) → IsReply words input a
-        → IsReply words input b → a ≡ b }
+    ensures { (words : List (List ℕ)) (input : List ℕ) (a b : Reply)
+        → ¬ PrintsHistory (command_of words) → IsReply words input a → IsReply words input b
+        → a ≡ b }
 {
     one_tree();
     one_refusal();
@@ -29,6 +32,7 @@ pub fn one_reply()
     one_circuit();
     one_circuit_refusal();
     compiled_or_refused();
+    one_form();
     one_reading();
     one_trouble();
     no_trouble();
@@ -59,7 +63,8 @@ pub fn laid_out_is_done()
 /// The reply of `prove` to a case whose program has a circuit with as many inputs is the case with
 /// the proof.
 pub fn provable_is_done()
-    ensures { (input : List ℕ) (reply : Reply) → IsCaseReply Plain IsProveAnswer input reply
+    ensures { (form : ProofForm) (input : List ℕ) (reply : Reply)
+        → IsCaseReply Plain (IsProveAnswer form) input reply
         → IsOfCase Plain input HasCircuit → status_of reply ≡ Done }
 {
     one_circuit();
@@ -87,6 +92,7 @@ pub fn accepted_is_done()
     one_circuit();
     one_circuit_refusal();
     compiled_or_refused();
+    one_form();
     one_reading();
     one_trouble();
     no_trouble();

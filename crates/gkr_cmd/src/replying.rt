@@ -77,6 +77,6 @@ pub fn reply_alone<R: Threads + Sync, S: Source, G: Gate>(
         None => Ok(Reply::Usage),
         Some(Command::OfCase(command)) => run_command(rt, alloc, command, source, gate),
         Some(Command::Demo { number, workers }) => demo(rt, alloc, number, workers, gate),
-        Some(Command::Serve { .. }) => unreachable!(),
+        Some(Command::Serve { .. } | Command::ServeHistory { .. }) => unreachable!(),
     }
 }

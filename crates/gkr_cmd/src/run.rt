@@ -1,9 +1,7 @@
 //! The whole program.
 
-ghost use Rattle.std.specs.Prelude.{◌≡◌, IfNone, IfSome, Some, map, string_bytes};
-ghost use Rattle.phase_run.specs.Work.{IsWorkerCount};
+ghost use Rattle.std.specs.Prelude.{◌≡◌, IfNone, IfSome, map, string_bytes};
 ghost use Rattle.gkr_words.specs.Commands.{HasWorkers, IsService, ReadsCase, command_of};
-ghost use Rattle.gkr_words.specs.declared.words.Command.TheVariants.{Serve};
 ghost use Rattle.gkr_cmd.specs.Headline.{KeepsPromises};
 ghost use Rattle.gkr_cmd.specs.RunLaws.{RunLaws};
 
@@ -12,13 +10,12 @@ use crate::laws::{
 };
 use crate::output::finish;
 use crate::replying::reply_alone;
-use crate::serving::serve;
+use crate::serving::reply_service;
 use crate::status::Status;
 use case_prove::laws::{proved_is_accepted, proved_is_full, proved_is_short, sound};
 use case_text::laws::read_exactly;
 use gkr_words::{Command, named_command};
 use io_edge::{Gate, Sink, Source};
-use script_prove::Threading;
 use std::alloc::Global;
 use std::marker::Sync;
 use std::sync::Wait;
@@ -81,36 +78,11 @@ pub fn run_alone<R: Threads + Sync, S: Source, K: Sink, G: Gate>(
     let Ok(command) = named_command(alloc, words) else {
         return Some(Status::Memory);
     };
-    if let Some(Command::Serve { .. }) = command {
+    if let Some(Command::Serve { .. } | Command::ServeHistory { .. }) = command {
         return None;
     }
     let made = reply_alone(rt, alloc, command, source, gate);
     Some(finish(alloc, made, sink))
-}
-
-// The numbers of threads that the command `serve` asks for.
-fn threading_of(command: Option<Command>) -> Threading
-    requires service { IsService command }
-    requires workers { IfSome command HasWorkers }
-    ensures asked { command ≡ Some (Serve result.workers result.provers result.clients) }
-    ensures workers { IsWorkerCount result.workers }
-    ensures provers { IsWorkerCount result.provers }
-    ensures clients { IsWorkerCount result.clients }
-{
-    match command {
-        Some(
-            Command::Serve {
-                workers,
-                provers,
-                clients,
-            },
-        ) => Threading {
-            workers,
-            provers,
-            clients,
-        },
-        _ => unreachable!(),
-    }
 }
 
 // Runs the command `serve`, which the words name.
@@ -147,8 +119,7 @@ fn run_service<R: Threads + Wait + Sync, S: Source, K: Sink, G: Gate>(
     let Ok(command) = named_command(alloc, words) else {
         return Status::Memory;
     };
-    let threading = threading_of(command);
-    let made = serve(rt, alloc, threading, source, gate);
+    let made = reply_service(rt, alloc, command, source, gate);
     finish(alloc, made, sink)
 }
 

@@ -43,6 +43,7 @@ impl Status {
             | Reply::Proved(_)
             | Reply::Demo(_)
             | Reply::Served(_)
+            | Reply::History(_)
             | Reply::Accepted => Status::Done,
             Reply::RejectedSum { .. } | Reply::RejectedEnd { .. } | Reply::RejectedInput { .. } => {
                 Status::Rejected

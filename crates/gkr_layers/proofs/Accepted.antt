@@ -8,7 +8,8 @@ use Rattle.field_ext.specs.Polynomial.{value_at}
 use Rattle.gkr_layers.specs.declared.verdict.Verdict.{Verdict}
 use Rattle.gkr_layers.specs.declared.verdict.Verdict.TheVariants.{Accepted, Sum, End, Input}
 use Rattle.gkr_layers.specs.Places.{Place, value_over, weighted_summand_from}
-use Rattle.gkr_layers.specs.Forms.{Form, said_left, said_right}
+use Rattle.proof_wire.specs.declared.form.ProofForm.{ProofForm}
+use Rattle.gkr_layers.specs.Forms.{said_left, said_right}
 use Rattle.gkr_layers.specs.Sumcheck.{RoundsHold}
 use Rattle.gkr_layers.specs.Layers.{GateLayer, next_place, LayersHold, message_count}
 use Rattle.gkr_layers.specs.Equations.{Equation, sum_equation, end_equation, input_equation, claim_after, sum_equations, equations, first_failure}
@@ -89,7 +90,7 @@ rounds_accepted layer round claim (q ∷ qs) [] last rest h e = absurd h
 rounds_accepted layer round claim (q ∷ qs) (r ∷ rs) last rest h e =
     one_accepted (sum_equation layer round q claim) (sum_equations layer (suc round) (value_at k_ops q r) qs rs ++ rest) h.0 (rounds_accepted layer (suc round) (value_at k_ops q r) qs rs last rest h.1 e)
 
-module _ (form : Form) where
+module _ (form : ProofForm) where
   pub layers_hold : (number : ℕ) (layers : List GateLayer) (input : List K) (place : Place K) (claim : K) (qs : List (List K)) (rs : List K) → length qs ≡ message_count layers → length rs ≡ message_count layers →
       first_failure (equations form number layers input place claim qs rs) ≡ Accepted → LayersHold k_ops form layers input place claim qs rs
   layers_hold number [] input place claim qs rs u v h = (one_holds _ [] refl h).0

@@ -8,7 +8,7 @@ use Rattle.gkr_layers.specs.declared.verdict.Verdict.{Verdict}
 use Rattle.gkr_layers.specs.declared.verdict.Verdict.TheVariants.{Accepted}
 use Rattle.gkr_layers.specs.Places.{Place, value_over}
 use Rattle.gkr_layers.specs.Places.Place.{At}
-use Rattle.gkr_layers.specs.Forms.{Form}
+use Rattle.proof_wire.specs.declared.form.ProofForm.{ProofForm}
 use Rattle.gkr_layers.specs.Layers.{GateLayer, next_place, message_count}
 use Rattle.gkr_layers.specs.Equations.{Equation, sum_equations, equations, first_failure, Answered, answer}
 use Rattle.gkr_layers.specs.Acceptance.{CircuitClaim, answer_from, verdict_of}
@@ -62,7 +62,7 @@ count-sums layer round claim [] rs e = refl
 count-sums layer round claim (q ∷ qs) [] e = absurd (omega (arith, e))
 count-sums layer round claim (q ∷ qs) (r ∷ rs) e = ap (λ (n : ℕ). suc n) (count-sums layer (suc round) (value_at k_ops q r) qs rs (omega (arith, e)))
 
-tell-all : (form : Form) (number : ℕ) (layers : List GateLayer) (input : List K) (place : Place K) (claim : K) (qs : List (List K)) (rs : List K) → Tell (equations form number layers input place claim qs rs)
+tell-all : (form : ProofForm) (number : ℕ) (layers : List GateLayer) (input : List K) (place : Place K) (claim : K) (qs : List (List K)) (rs : List K) → Tell (equations form number layers input place claim qs rs)
 tell-all form number [] input place claim qs rs = (refl, tt)
 tell-all form number (layer ∷ layers) input place claim qs rs =
     let k = layer.k in
@@ -70,7 +70,7 @@ tell-all form number (layer ∷ layers) input place claim qs rs =
     (refl, tell-all form (suc number) layers input (next_place k_ops form k rs) (value_at k_ops (get_or qs (k + k) []) (get_or rs (k + k) zero_k)) (drop (k + k + 1) qs) (drop (k + k + 1) rs))
 
 -- there is an equation for each message, and one more
-count-all : (form : Form) (number : ℕ) (layers : List GateLayer) (input : List K) (place : Place K) (claim : K) (qs : List (List K)) (rs : List K) → length qs ≡ message_count layers → length rs ≡ message_count layers →
+count-all : (form : ProofForm) (number : ℕ) (layers : List GateLayer) (input : List K) (place : Place K) (claim : K) (qs : List (List K)) (rs : List K) → length qs ≡ message_count layers → length rs ≡ message_count layers →
     length (equations form number layers input place claim qs rs) ≡ message_count layers + 1
 count-all form number [] input place claim qs rs e f = refl
 count-all form number (layer ∷ layers) input place claim qs rs e f =

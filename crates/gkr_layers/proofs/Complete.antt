@@ -9,7 +9,9 @@ use Rattle.mle_table.proofs.SumLaws.{sum_cube-same}
 use Rattle.gkr_layers.specs.Sumcheck.{RoundsHold, round_polynomial}
 use Rattle.gkr_layers.specs.Layers.{GateLayer, values_over, FitTogether, message_count, next_place, LayersHold}
 use Rattle.gkr_layers.specs.Places.{Place, IsOver, value_over, weighted_summand_from, weighted_summand_at}
-use Rattle.gkr_layers.specs.Forms.{Form, last_polynomial, last_degree}
+use Rattle.proof_wire.specs.declared.form.ProofForm.{ProofForm}
+use Rattle.proof_wire.specs.Forms.{last_degree}
+use Rattle.gkr_layers.specs.Forms.{last_polynomial}
 use Rattle.gkr_layers.specs.Honest.{AreHonest}
 use Rattle.gkr_layers.proofs.Coefficients.{value-coefficients}
 use Rattle.gkr_layers.proofs.PlaceSums.{place_sum, value-round_polynomial}
@@ -38,7 +40,7 @@ module _ {A : Type 0} (o : Ops A) (l : Laws A o) where
       (first r ∙ sum_cube-same o l n _ _ (λ w. ap f (sym (append_assoc bound (r ∷ []) w)))) in
       (ap₂ o.add (first o.zero) (first o.one) ∙ sym is, subst (λ (last : A). RoundsHold o (value_at o q r) qs rs last) (ap f (append_assoc bound (r ∷ []) rs)) rest)
 
-  module _ (form : Form) where
+  module _ (form : ProofForm) where
     -- the rounds' messages have the values of the true polynomials, and the last message is the true one
     abbrev pub AreTrue : List GateLayer → List A → Place A → List (List A) → List A → Type 0
     AreTrue [] input place qs rs = Unit {0}
@@ -87,7 +89,7 @@ module _ {A : Type 0} (o : Ops A) (l : Laws A o) where
               (at e ∙ value-last o l form t b c e),
         )
 
-module _ (form : Form) where
+module _ (form : ProofForm) where
   honest_true : (layers : List GateLayer) (input : List K) (place : Place K) (qs : List (List K)) (rs : List K) → AreHonest form layers input place qs rs → AreTrue k_ops k_laws form layers input place qs rs
   honest_true [] input place qs rs h = tt
   honest_true (layer ∷ layers) input place qs rs h =

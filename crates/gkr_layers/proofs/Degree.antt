@@ -12,8 +12,10 @@ use Rattle.circuit_core.specs.declared.gate.CircuitGate.{CircuitGate}
 use Rattle.wiring_poly.specs.Wiring.{by_kind, sum_gates, gate_weight, wiring_add, wiring_mul}
 use Rattle.gkr_layers.specs.Places.{Place, map_place, weighted, weighted_summand}
 use Rattle.gkr_layers.specs.Places.Place.{At, AtBoth}
-use Rattle.gkr_layers.specs.Forms.{Form, last_polynomial, last_degree}
-use Rattle.gkr_layers.specs.Forms.Form.{Line, Pair}
+use Rattle.proof_wire.specs.declared.form.ProofForm.{ProofForm}
+use Rattle.proof_wire.specs.Forms.{last_degree}
+use Rattle.gkr_layers.specs.Forms.{last_polynomial}
+use Rattle.proof_wire.specs.declared.form.ProofForm.TheVariants.{Line, Pair}
 use Rattle.gkr_layers.specs.Sumcheck.{round_polynomial, line_between, line_polynomial}
 use Rattle.gkr_layers.proofs.Soundness.{few_exceptional}
 
@@ -143,7 +145,7 @@ module _ {A : Type 0} (o : Ops A) where
   pub length-line_polynomial : (t b c : List A) → length (line_polynomial o t b c) ≤ length b + 1
   length-line_polynomial t b c = omega (arith, length-extension_at t (line_between o b c), degrees-line b c)
 
-  pub length-last : (form : Form) (t b c : List A) (k : ℕ) → length b ≤ k → length (last_polynomial o form t b c) ≤ last_degree form k + 1
+  pub length-last : (form : ProofForm) (t b c : List A) (k : ℕ) → length b ≤ k → length (last_polynomial o form t b c) ≤ last_degree form k + 1
   length-last Line t b c k u = omega (arith, length-line_polynomial t b c)
   length-last Pair t b c k u = omega arith
 

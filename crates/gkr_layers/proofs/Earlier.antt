@@ -8,10 +8,11 @@ use Rattle.gkr_layers.specs.Acceptance.{CircuitClaim, true_table}
 use Rattle.gkr_layers.proofs.Lists.{from_one, from_other, to_one, to_other, drop-take}
 use Rattle.gkr_layers.specs.Places.{Place}
 use Rattle.gkr_layers.specs.Places.Place.{At}
-use Rattle.gkr_layers.specs.Forms.{Form, last_polynomial, place_between}
+use Rattle.proof_wire.specs.declared.form.ProofForm.{ProofForm}
+use Rattle.gkr_layers.specs.Forms.{last_polynomial, place_between}
 use Rattle.gkr_layers.specs.Soundness.{IsExceptionalChallenge}
 
-module _ (form : Form) where
+module _ (form : ProofForm) where
   -- of a layer and those below, challenge n hangs on the first n + 1 messages and the first n challenges
   pub earlier_layers : (layers : List GateLayer) (input : List K) (place : Place K) (qs : List (List K)) (rs : List K) (n m : ℕ) (v : K) → m ≡ suc n →
       IsExceptional k_ops form layers input place qs rs n v → IsExceptional k_ops form layers input place (take m qs) (take n rs) n v

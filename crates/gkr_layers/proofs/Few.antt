@@ -16,8 +16,10 @@ use Rattle.gkr_layers.proofs.Output.{few_output}
 use Rattle.gkr_layers.specs.Acceptance.{CircuitClaim, true_table, output_place, challenge_count}
 use Rattle.gkr_layers.proofs.Lists.{drop-take}
 use Rattle.gkr_layers.specs.Places.{Place}
-use Rattle.gkr_layers.specs.Forms.{Form, last_polynomial, last_degree}
-use Rattle.gkr_layers.specs.Forms.Form.{Line, Pair}
+use Rattle.proof_wire.specs.declared.form.ProofForm.{ProofForm}
+use Rattle.proof_wire.specs.Forms.{last_degree}
+use Rattle.gkr_layers.specs.Forms.{last_polynomial}
+use Rattle.proof_wire.specs.declared.form.ProofForm.TheVariants.{Line, Pair}
 use Rattle.gkr_layers.specs.Soundness.{IsExceptionalChallenge, layer_bounds, bounds_of, bounds, bound, sum_of_bounds, HaveDegrees}
 use Rattle.gkr_layers.proofs.Degree.{length-round_polynomial, length-last}
 
@@ -61,7 +63,7 @@ front_all P j m qs all i d u =
     let c : i < length (take j qs) = omega (arith, u, length-take j (take m qs), length-take m qs, length-take j qs) in
     subst P (get_or-take j qs i d a ∙ sym (get_or-take m qs i d b) ∙ sym (get_or-take j (take m qs) i d a)) (all i d c)
 
-module _ (form : Form) where
+module _ (form : ProofForm) where
   -- the first messages of messages with these degrees have them
   pub degrees_front : (layers : List GateLayer) (m : ℕ) (qs : List (List K)) → HaveDegrees form layers qs → HaveDegrees form layers (take m qs)
   degrees_front [] m qs degrees = tt
@@ -139,7 +141,7 @@ sum-front (suc m) x rest =
     let times : suc m * x ≡ x + m * x = omega arith in
     omega (arith, first, times, sum-front m x rest)
 
-module _ (form : Form) where
+module _ (form : ProofForm) where
   bounds_front : (layer : GateLayer) (layers : List GateLayer) → sum (layer_bounds form (layer ∷ layers)) ≡ (layer.k + layer.k) * 2 + last_degree form layer.k + sum (layer_bounds form layers)
   bounds_front layer layers =
       let last : sum (last_degree form layer.k ∷ layer_bounds form layers) ≡ last_degree form layer.k + sum (layer_bounds form layers) = sum_by-cons (λ y. y) (last_degree form layer.k) (layer_bounds form layers) in
@@ -158,7 +160,7 @@ length-front : (m x : ℕ) (rest : List ℕ) → length (replicate m x ++ rest) 
 length-front zero x rest = omega arith
 length-front (suc m) x rest = omega (arith, length-front m x rest)
 
-length-bounds : (form : Form) (layers : List GateLayer) → length (layer_bounds form layers) ≡ message_count layers
+length-bounds : (form : ProofForm) (layers : List GateLayer) → length (layer_bounds form layers) ≡ message_count layers
 length-bounds form [] = refl
 length-bounds form (layer ∷ layers) = omega (arith, length-front (layer.k + layer.k) 2 (last_degree form layer.k ∷ layer_bounds form layers), length-bounds form layers)
 
@@ -178,7 +180,7 @@ front_read xs (suc n) u =
     ∙ ap (λ (m : ℕ). take m xs) (add-one n)
 
 -- so that the bounds of all challenges add to the bounds
-summed : (form : Form) (k : ℕ) (layers : List GateLayer) → sum_of_bounds form k layers ≡ k + sum (layer_bounds form layers)
+summed : (form : ProofForm) (k : ℕ) (layers : List GateLayer) → sum_of_bounds form k layers ≡ k + sum (layer_bounds form layers)
 summed form k layers =
     let all : List ℕ = bounds_of form k layers in
     let count : length (bounds_of form k layers) ≡ k + message_count layers = omega (arith, length-front k 1 (layer_bounds form layers), length-bounds form layers) in

@@ -10,11 +10,11 @@ use Rattle.proof_wire.specs.Lists.{all_messages, HaveShape}
 use Rattle.gkr_layers.specs.declared.verdict.Verdict.TheVariants.{Accepted}
 use Rattle.gkr_layers.specs.Places.{value_over}
 use Rattle.gkr_layers.specs.Places.Place.{At}
-use Rattle.gkr_layers.specs.Forms.{Form}
+use Rattle.proof_wire.specs.declared.form.ProofForm.{ProofForm}
 use Rattle.gkr_layers.specs.Layers.{FitTogether, message_count}
 use Rattle.gkr_layers.specs.Equations.{equations, first_failure}
-use Rattle.gkr_layers.specs.Acceptance.{CircuitClaim, claim_in, claim_of, true_table, verdict_of}
-use Rattle.gkr_layers.specs.Honest.{AreHonest, AreHonestMessages, IsHonestProof}
+use Rattle.gkr_layers.specs.Acceptance.{CircuitClaim, claim_in, true_table, verdict_of}
+use Rattle.gkr_layers.specs.Honest.{AreHonest, AreHonestMessages}
 use Rattle.gkr_layers.proofs.Accepted.{layers_accepted}
 use Rattle.gkr_layers.proofs.Complete.{honest_hold}
 use Rattle.gkr_layers.proofs.Circuits.{layers_fit, over-embed}
@@ -25,7 +25,7 @@ use Rattle.gkr_layers.proofs.Shapes.{have_shape, length-all}
 pub honest_accepted : (stated : CircuitClaim) (source : Source) (s : List ℕ) (qs : List (List K)) → FitTogether stated.k stated.layers → length qs ≡ message_count stated.layers → stated.claimed_table ≡ true_table stated →
     AreHonest stated.form stated.layers stated.input_table (At (coordinates source s stated.k)) qs (draws source (state_after_coordinates source s stated.k) qs) → verdict_of stated qs (all_draws source s stated.k qs) ≡ Accepted
 honest_accepted stated source s qs fits size are honest =
-    let form : Form = stated.form in
+    let form : ProofForm = stated.form in
     let k : ℕ = stated.k in
     let z : List K = coordinates source s k in
     let rest : List K = draws source (state_after_coordinates source s k) qs in
@@ -35,7 +35,7 @@ honest_accepted stated source s qs fits size are honest =
     (honest_hold form k stated.layers stated.input_table (At z) qs rest (length-coordinates source s k) fits size (length-draws source (state_after_coordinates source s k) qs ∙ size) honest)
 
 -- of a circuit that has the claimed outputs
-pub honest_of_circuit : (form : Form) (c : SoundCircuit) (inputs outputs : List F) (source : Source) (s : List ℕ) (qs : List (List K)) → length outputs ≡ c.parts.outputs →
+pub honest_of_circuit : (form : ProofForm) (c : SoundCircuit) (inputs outputs : List F) (source : Source) (s : List ℕ) (qs : List (List K)) → length outputs ≡ c.parts.outputs →
     outputs ≡ take (length outputs) (drop 1 (layer_values c.parts inputs 0)) → let stated = claim_in form c.parts inputs outputs in length qs ≡ message_count stated.layers →
     AreHonestMessages form c.parts inputs source s qs → verdict_of stated qs (all_draws source s stated.k qs) ≡ Accepted
 honest_of_circuit form c inputs outputs source s qs count are size honest =
@@ -44,11 +44,11 @@ honest_of_circuit form c inputs outputs source s qs count are size honest =
     ap (map embed_k) (sym (outputs_padded c inputs outputs count are)) ∙ over-embed c.parts 0 c.parts.layers (padded_values c.parts.input_width (map (leaf_value inputs) c.parts.leaves)) in
     honest_accepted stated source s qs (layers_fit c) size claimed honest
 
--- of a proof by lines
-pub honest_proof : (c : SoundCircuit) (inputs outputs : List F) (source : Source) (s : List ℕ) (messages : Messages) → length outputs ≡ c.parts.outputs →
-    outputs ≡ take (length outputs) (drop 1 (layer_values c.parts inputs 0)) → HaveShape (drop 1 (exponents c.parts)) messages.layers →
-    let stated = claim_of c.parts inputs outputs in let qs = all_messages messages.layers in
-    IsHonestProof c.parts inputs source s qs → verdict_of stated qs (all_draws source s stated.k qs) ≡ Accepted
-honest_proof c inputs outputs source s messages count are shape honest =
-    let stated : CircuitClaim = claim_of c.parts inputs outputs in
-    honest_of_circuit stated.form c inputs outputs source s (all_messages messages.layers) count are (length-all stated.layers messages.layers (have_shape c.parts messages shape)) honest
+-- of the messages of a proof
+pub honest_proof : (form : ProofForm) (c : SoundCircuit) (inputs outputs : List F) (source : Source) (s : List ℕ) (messages : Messages) → length outputs ≡ c.parts.outputs →
+    outputs ≡ take (length outputs) (drop 1 (layer_values c.parts inputs 0)) → HaveShape form (drop 1 (exponents c.parts)) messages.layers →
+    let stated = claim_in form c.parts inputs outputs in let qs = all_messages messages.layers in
+    AreHonestMessages form c.parts inputs source s qs → verdict_of stated qs (all_draws source s stated.k qs) ≡ Accepted
+honest_proof form c inputs outputs source s messages count are shape honest =
+    let stated : CircuitClaim = claim_in form c.parts inputs outputs in
+    honest_of_circuit form c inputs outputs source s (all_messages messages.layers) count are (length-all form stated.layers messages.layers (have_shape form c.parts messages shape)) honest

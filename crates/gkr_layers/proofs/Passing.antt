@@ -10,7 +10,7 @@ use Rattle.field_ext.proofs.KLaws.{k_same}
 use Rattle.gkr_layers.specs.Examples.{number, zero_for_five, false_round_messages, false_round_challenges, false_line_messages, false_line_challenges, thirteen_for_twelve, true_product_messages, zero_challenges, five_for_five, true_pair_messages, true_pair_challenges, zero_for_five_by_pair, false_pair_messages, false_pair_challenges}
 use Rattle.gkr_layers.specs.Places.{value_over}
 use Rattle.gkr_layers.specs.Places.Place.{AtBoth}
-use Rattle.gkr_layers.specs.Forms.Form.{Pair}
+use Rattle.proof_wire.specs.declared.form.ProofForm.TheVariants.{Pair}
 use Rattle.gkr_layers.proofs.Few.{few_challenges}
 use Rattle.gkr_layers.proofs.Accepted.{equal, unequal}
 

@@ -18,24 +18,24 @@ use Rattle.proof_wire.specs.declared.messages.Round.{Round}
 use Rattle.proof_wire.specs.Spelling.{coefficients_of}
 use Rattle.gkr_layers.specs.declared.verdict.Verdict.TheVariants.{Accepted}
 use Rattle.proof_wire.specs.Lists.{messages_of, all_messages, round_messages, HasShape, HaveShape}
-use Rattle.gkr_layers.specs.Acceptance.{CircuitClaim, claim_in, claim_of, true_table, challenge_count, verdict_of}
+use Rattle.gkr_layers.specs.Acceptance.{CircuitClaim, claim_in, true_table, challenge_count, verdict_of}
 use Rattle.gkr_layers.specs.Soundness.{HaveDegrees, IsFalse, LetsPass}
 use Rattle.gkr_layers.proofs.Lists.{front-take, next-read, rest-drop}
 use Rattle.transcript_fs.proofs.Draws.{length-draws, length-coordinates, has_front, has_behind}
-use Rattle.gkr_layers.specs.Forms.{Form}
-use Rattle.gkr_layers.specs.Forms.Form.{Line}
+use Rattle.proof_wire.specs.declared.form.ProofForm.{ProofForm}
+use Rattle.proof_wire.specs.Forms.{last_degree}
 use Rattle.gkr_layers.proofs.Sound.{lets_pass}
 
-pub length-messages : (k : ℕ) (m : LayerMessages) → HasShape k m → length (messages_of m) ≡ k + k + 1
-length-messages k m h = omega (arith, length-append (map coefficients_of m.rounds) (m.line ∷ []), length-map m.rounds coefficients_of, h.rounds)
+pub length-messages : (form : ProofForm) (k : ℕ) (m : LayerMessages) → HasShape form k m → length (messages_of m) ≡ k + k + 1
+length-messages form k m h = omega (arith, length-append (map coefficients_of m.rounds) (m.last ∷ []), length-map m.rounds coefficients_of, h.rounds)
 
 -- the challenges of a layer and of those below it are there
 module _ (source : Source) (s : List ℕ) (layer : GateLayer) (layers : List GateLayer) (has : IsTrue (source.has s (message_count (layer ∷ layers)))) where
   pub has_layer : IsTrue (source.has s (layer.k + layer.k + 1))
   has_layer = has_front source s (layer.k + layer.k + 1) (message_count layers) has
 
-  pub has_below : (m : LayerMessages) → HasShape layer.k m → IsTrue (source.has (state_after source s (messages_of m)) (message_count layers))
-  has_below m h = has_behind source s (messages_of m) (message_count layers) (subst (λ (n : ℕ). IsTrue (source.has s (n + message_count layers))) (sym (length-messages layer.k m h)) has)
+  pub has_below : (form : ProofForm) (m : LayerMessages) → HasShape form layer.k m → IsTrue (source.has (state_after source s (messages_of m)) (message_count layers))
+  has_below form m h = has_behind source s (messages_of m) (message_count layers) (subst (λ (n : ℕ). IsTrue (source.has s (n + message_count layers))) (sym (length-messages form layer.k m h)) has)
 
 exponents_from : (p : Parts) (i : ℕ) (layers : List (List CircuitGate)) → lower_exponents (layers_from p i layers) ≡ map (exponent_at p) (range_with_len (i + 1) (length layers))
 exponents_from p i [] = refl
@@ -46,26 +46,26 @@ lower_exponents_of : (p : Parts) → lower_exponents (layers_of p) ≡ drop 1 (e
 lower_exponents_of p = exponents_from p 0 p.layers ∙ sym (ap (λ (n : ℕ). drop 1 (map (exponent_at p) (range_with_len 0 n))) (add-one (height p)))
 
 -- messages of a circuit's shape are so for each layer, and the other way round
-pub have_shape : (p : Parts) (messages : Messages) → HaveShape (drop 1 (exponents p)) messages.layers → HaveShape (lower_exponents (layers_of p)) messages.layers
-have_shape p messages h = subst (λ (ks : List ℕ). HaveShape ks messages.layers) (sym (lower_exponents_of p)) h
+pub have_shape : (form : ProofForm) (p : Parts) (messages : Messages) → HaveShape form (drop 1 (exponents p)) messages.layers → HaveShape form (lower_exponents (layers_of p)) messages.layers
+have_shape form p messages h = subst (λ (ks : List ℕ). HaveShape form ks messages.layers) (sym (lower_exponents_of p)) h
 
-pub have_circuit_shape : (p : Parts) (layers : List LayerMessages) → HaveShape (lower_exponents (layers_of p)) layers → HaveShape (drop 1 (exponents p)) layers
-have_circuit_shape p layers h = subst (λ (ks : List ℕ). HaveShape ks layers) (lower_exponents_of p) h
+pub have_circuit_shape : (form : ProofForm) (p : Parts) (layers : List LayerMessages) → HaveShape form (lower_exponents (layers_of p)) layers → HaveShape form (drop 1 (exponents p)) layers
+have_circuit_shape form p layers h = subst (λ (ks : List ℕ). HaveShape form ks layers) (lower_exponents_of p) h
 
-same_length : (layers : List GateLayer) (ms : List LayerMessages) → HaveShape (lower_exponents layers) ms → length ms ≡ length layers
-same_length [] [] h = refl
-same_length [] (m ∷ ms) h = absurd h
-same_length (layer ∷ layers) [] h = absurd h
-same_length (layer ∷ layers) (m ∷ ms) h = ap (λ (n : ℕ). suc n) (same_length layers ms h.1)
+same_length : (form : ProofForm) (layers : List GateLayer) (ms : List LayerMessages) → HaveShape form (lower_exponents layers) ms → length ms ≡ length layers
+same_length form [] [] h = refl
+same_length form [] (m ∷ ms) h = absurd h
+same_length form (layer ∷ layers) [] h = absurd h
+same_length form (layer ∷ layers) (m ∷ ms) h = ap (λ (n : ℕ). suc n) (same_length form layers ms h.1)
 
-pub messages_height : (p : Parts) (messages : Messages) → HaveShape (drop 1 (exponents p)) messages.layers → length messages.layers ≡ height p
-messages_height p messages h = same_length (layers_of p) messages.layers (have_shape p messages h) ∙ length-layers p 0 p.layers
+pub messages_height : (form : ProofForm) (p : Parts) (messages : Messages) → HaveShape form (drop 1 (exponents p)) messages.layers → length messages.layers ≡ height p
+messages_height form p messages h = same_length form (layers_of p) messages.layers (have_shape form p messages h) ∙ length-layers p 0 p.layers
 
-pub length-all : (layers : List GateLayer) (ms : List LayerMessages) → HaveShape (lower_exponents layers) ms → length (all_messages ms) ≡ message_count layers
-length-all [] [] h = refl
-length-all [] (m ∷ ms) h = absurd h
-length-all (layer ∷ layers) [] h = absurd h
-length-all (layer ∷ layers) (m ∷ ms) h = omega (arith, length-append (messages_of m) (all_messages ms), length-messages layer.k m h.0, length-all layers ms h.1)
+pub length-all : (form : ProofForm) (layers : List GateLayer) (ms : List LayerMessages) → HaveShape form (lower_exponents layers) ms → length (all_messages ms) ≡ message_count layers
+length-all form [] [] h = refl
+length-all form [] (m ∷ ms) h = absurd h
+length-all form (layer ∷ layers) [] h = absurd h
+length-all form (layer ∷ layers) (m ∷ ms) h = omega (arith, length-append (messages_of m) (all_messages ms), length-messages form layer.k m h.0, length-all form layers ms h.1)
 
 three_each : (rounds : List Round) → All (λ q. length q ≤ 3) (round_messages rounds)
 three_each rounds i d u =
@@ -78,23 +78,23 @@ three_each rounds i d u =
     at (round ∷ rounds) zero d u = omega arith
     at (round ∷ rounds) (suc i) d u = at rounds i d (omega arith)
 
-degrees_of : (layers : List GateLayer) (ms : List LayerMessages) → HaveShape (lower_exponents layers) ms → HaveDegrees Line layers (all_messages ms)
-degrees_of [] [] h = tt
-degrees_of [] (m ∷ ms) h = absurd h
-degrees_of (layer ∷ layers) [] h = absurd h
-degrees_of (layer ∷ layers) (m ∷ ms) h =
+degrees_of : (form : ProofForm) (layers : List GateLayer) (ms : List LayerMessages) → HaveShape form (lower_exponents layers) ms → HaveDegrees form layers (all_messages ms)
+degrees_of form [] [] h = tt
+degrees_of form [] (m ∷ ms) h = absurd h
+degrees_of form (layer ∷ layers) [] h = absurd h
+degrees_of form (layer ∷ layers) (m ∷ ms) h =
     let k = layer.k in
     let rounds : List (List K) = round_messages m.rounds in
-    let line : List K = m.line in
+    let end : List K = m.last in
     let rest : List (List K) = all_messages ms in
-    let flat : (round_messages m.rounds ++ m.line ∷ []) ++ all_messages ms ≡ round_messages m.rounds ++ m.line ∷ all_messages ms = append_assoc rounds (line ∷ []) rest in
+    let flat : (round_messages m.rounds ++ m.last ∷ []) ++ all_messages ms ≡ round_messages m.rounds ++ m.last ∷ all_messages ms = append_assoc rounds (end ∷ []) rest in
     let count : length (round_messages m.rounds) ≡ layer.k + layer.k = length-map m.rounds coefficients_of ∙ h.0.rounds in
     let after : layer.k + layer.k + 1 ≡ suc (layer.k + layer.k) = omega arith in
-    let last : length m.line ≤ layer.k + 1 = omega (arith, h.0.line) in
-    subst (λ (qs : List (List K)). HaveDegrees Line (layer ∷ layers) qs) (sym flat) (
-      subst (λ (qs : List (List K)). All (λ q. length q ≤ 3) qs) (sym (front-take rounds (line ∷ rest) (k + k) count)) (three_each m.rounds),
-      subst (λ (q : List K). length q ≤ layer.k + 1) (sym (next-read rounds rest line [] (k + k) count)) last,
-      subst (λ (qs : List (List K)). HaveDegrees Line layers qs) (sym (rest-drop rounds rest line (k + k) (k + k + 1) count after)) (degrees_of layers ms h.1),
+    let last : length m.last ≤ last_degree form layer.k + 1 = omega (arith, h.0.last) in
+    subst (λ (qs : List (List K)). HaveDegrees form (layer ∷ layers) qs) (sym flat) (
+      subst (λ (qs : List (List K)). All (λ q. length q ≤ 3) qs) (sym (front-take rounds (end ∷ rest) (k + k) count)) (three_each m.rounds),
+      subst (λ (q : List K). length q ≤ last_degree form layer.k + 1) (sym (next-read rounds rest end [] (k + k) count)) last,
+      subst (λ (qs : List (List K)). HaveDegrees form layers qs) (sym (rest-drop rounds rest end (k + k) (k + k + 1) count after)) (degrees_of form layers ms h.1),
     )
 
 length-challenges : (source : Source) (s : List ℕ) (stated : CircuitClaim) (qs : List (List K)) → length qs ≡ message_count stated.layers → length (all_draws source s stated.k qs) ≡ challenge_count stated
@@ -102,11 +102,11 @@ length-challenges source s stated qs e =
     omega (arith, length-append (coordinates source s stated.k) (draws source (state_after_coordinates source s stated.k) qs), length-coordinates source s stated.k, length-draws source (state_after_coordinates source s stated.k) qs, e)
 
 -- a source gives as many challenges for messages of the shape
-pub drawn : (p : Parts) (inputs outputs : List F) (source : Source) (s : List ℕ) (messages : Messages) → HaveShape (drop 1 (exponents p)) messages.layers →
-    length (all_draws source s (exponent_at p 0) (all_messages messages.layers)) ≡ challenge_count (claim_of p inputs outputs)
-drawn p inputs outputs source s messages shape =
-    let stated : CircuitClaim = claim_of p inputs outputs in
-    length-challenges source s stated (all_messages messages.layers) (length-all stated.layers messages.layers (have_shape p messages shape))
+pub drawn : (form : ProofForm) (p : Parts) (inputs outputs : List F) (source : Source) (s : List ℕ) (messages : Messages) → HaveShape form (drop 1 (exponents p)) messages.layers →
+    length (all_draws source s (exponent_at p 0) (all_messages messages.layers)) ≡ challenge_count (claim_in form p inputs outputs)
+drawn form p inputs outputs source s messages shape =
+    let stated : CircuitClaim = claim_in form p inputs outputs in
+    length-challenges source s stated (all_messages messages.layers) (length-all form stated.layers messages.layers (have_shape form p messages shape))
 
 -- the outputs stand behind position 0
 pub outputs_room : (c : SoundCircuit) → c.parts.outputs < width_of c.parts 0
@@ -123,7 +123,7 @@ parts_of (x ∷ xs) = ap (λ (ys : List F). x ∷ ys) (parts_of xs)
 
 module _ (c : SoundCircuit) (inputs outputs : List F) (count : length outputs ≡ c.parts.outputs) where
   -- a claimed table that is the true one holds the outputs that the circuit has
-  outputs_true : (form : Form) → (claim_in form c.parts inputs outputs).claimed_table ≡ true_table (claim_in form c.parts inputs outputs) → outputs ≡ take (length outputs) (drop 1 (layer_values c.parts inputs 0))
+  outputs_true : (form : ProofForm) → (claim_in form c.parts inputs outputs).claimed_table ≡ true_table (claim_in form c.parts inputs outputs) → outputs ≡ take (length outputs) (drop 1 (layer_values c.parts inputs 0))
   outputs_true form e =
       let width = width_of c.parts 0 in
       let input = padded_values c.parts.input_width (map (leaf_value inputs) c.parts.leaves) in
@@ -132,7 +132,7 @@ module _ (c : SoundCircuit) (inputs outputs : List F) (count : length outputs �
       sym (take-front outputs (replicate (width_of c.parts 0 - (1 + length outputs)) zero_f)) ∙ ap (λ (t : List F). take (length outputs) (drop 1 t)) same
 
   -- in either form
-  pub sound_in : (form : Form) (qs : List (List K)) (rs : List K) → HaveDegrees form (claim_in form c.parts inputs outputs).layers qs →
+  pub sound_in : (form : ProofForm) (qs : List (List K)) (rs : List K) → HaveDegrees form (claim_in form c.parts inputs outputs).layers qs →
       length qs ≡ message_count (claim_in form c.parts inputs outputs).layers → length rs ≡ challenge_count (claim_in form c.parts inputs outputs) →
       verdict_of (claim_in form c.parts inputs outputs) qs rs ≡ Accepted → IsFalse c.parts inputs outputs → (n : ℕ) × LetsPass (claim_in form c.parts inputs outputs) qs rs n
   sound_in form qs rs degrees all drawn' accepted false' =
@@ -146,9 +146,9 @@ module _ (c : SoundCircuit) (inputs outputs : List F) (count : length outputs �
       all drawn' accepted (λ e. false' (outputs_true form e)) degrees
 
   -- and for messages of the shape of a proof
-  pub sound : (messages : Messages) (rs : List K) → HaveShape (drop 1 (exponents c.parts)) messages.layers → length rs ≡ challenge_count (claim_of c.parts inputs outputs) →
-      verdict_of (claim_of c.parts inputs outputs) (all_messages messages.layers) rs ≡ Accepted → IsFalse c.parts inputs outputs →
-      (n : ℕ) × LetsPass (claim_of c.parts inputs outputs) (all_messages messages.layers) rs n
-  sound messages rs shape drawn' accepted false' =
-      let have = have_shape c.parts messages shape in
-      sound_in Line (all_messages messages.layers) rs (degrees_of (layers_of c.parts) messages.layers have) (length-all (layers_of c.parts) messages.layers have) drawn' accepted false'
+  pub sound : (form : ProofForm) (messages : Messages) (rs : List K) → HaveShape form (drop 1 (exponents c.parts)) messages.layers → length rs ≡ challenge_count (claim_in form c.parts inputs outputs) →
+      verdict_of (claim_in form c.parts inputs outputs) (all_messages messages.layers) rs ≡ Accepted → IsFalse c.parts inputs outputs →
+      (n : ℕ) × LetsPass (claim_in form c.parts inputs outputs) (all_messages messages.layers) rs n
+  sound form messages rs shape drawn' accepted false' =
+      let have = have_shape form c.parts messages shape in
+      sound_in form (all_messages messages.layers) rs (degrees_of form (layers_of c.parts) messages.layers have) (length-all form (layers_of c.parts) messages.layers have) drawn' accepted false'

@@ -11,7 +11,8 @@ use Rattle.gkr_layers.specs.Layers.{GateLayer, values_over, FitTogether, message
 use Rattle.gkr_layers.proofs.Soundness.{SomeExceptional, sound_rounds}
 use Rattle.gkr_layers.proofs.Lists.{to_one, to_other}
 use Rattle.gkr_layers.specs.Places.{Place, IsOver, value_over, weighted_summand_from, weighted_summand_at}
-use Rattle.gkr_layers.specs.Forms.{Form, said_left, said_right, last_polynomial, place_between}
+use Rattle.proof_wire.specs.declared.form.ProofForm.{ProofForm}
+use Rattle.gkr_layers.specs.Forms.{said_left, said_right, last_polynomial, place_between}
 use Rattle.gkr_layers.proofs.PlaceSums.{place_sum, value-round_polynomial}
 use Rattle.gkr_layers.proofs.Forms.{place_over, value-last, true_left, true_right}
 
@@ -36,7 +37,7 @@ module _ {A : Type 0} (o : Ops A) (l : Laws A o) (same : (x y : A) → (x ≡ y)
   moved : {q q' r r' : List A} {v v' : A} → q ≡ q' → r ≡ r' → v ≡ v' → IsExceptionalFor o q r v → IsExceptionalFor o q' r' v'
   moved a b c h = coe 0 1 (i. IsExceptionalFor o (a i) (b i) (c i)) h
 
-module _ {A : Type 0} (o : Ops A) (l : Laws A o) (same : (x y : A) → (x ≡ y) ⊎ (x ≡ y → ⊥)) (form : Form) where
+module _ {A : Type 0} (o : Ops A) (l : Laws A o) (same : (x y : A) → (x ≡ y) ⊎ (x ≡ y → ⊥)) (form : ProofForm) where
   -- a false claim on a layer leads to a false claim below, or a challenge is exceptional
   sound_layer : (n : ℕ) (gates : List CircuitGate) (t : List A) (j : ℕ) (place : Place A) → IsOver j place → length gates ≡ 2 ^ j → All (parts.IsOver (2 ^ n)) gates →
       (qs : List (List A)) (rs : List A) (claim last : A) (q : List A) (e : A) → length qs ≡ n + n → length (take n rs) ≡ length (drop n rs) →

@@ -9,7 +9,9 @@ use Rattle.gkr_layers.specs.Layers.{GateLayer, values_over, message_count, next_
 use Rattle.transcript_fs.specs.Source.{Source, draws, state_after}
 use Rattle.gkr_layers.specs.Places.{Place}
 use Rattle.gkr_layers.specs.Sumcheck.{round_polynomial}
-use Rattle.gkr_layers.specs.Forms.{Form, last_polynomial, last_degree, place_between}
+use Rattle.proof_wire.specs.declared.form.ProofForm.{ProofForm}
+use Rattle.proof_wire.specs.Forms.{last_degree}
+use Rattle.gkr_layers.specs.Forms.{last_polynomial, place_between}
 use Rattle.gkr_layers.specs.Honest.{IsHonestLayer, AreHonest}
 
 draws-take : (source : Source) (s : List ℕ) (n : ℕ) (qs : List (List K)) → take n (draws source s qs) ≡ draws source s (take n qs)
@@ -22,7 +24,7 @@ draws-drop source s zero qs = refl
 draws-drop source s (suc n) [] = refl
 draws-drop source s (suc n) (q ∷ qs) = draws-drop source (source.after (source.absorb s q)) n qs
 
-module _ (form : Form) where
+module _ (form : ProofForm) where
   module _ (k : ℕ) (gates : List CircuitGate) (values : List K) (place : Place K) (source : Source) (s : List ℕ) (qs qs' : List (List K)) (u : k + k + 1 ≤ length qs) (v : k + k + 1 ≤ length qs')
       (h : IsHonestLayer form k gates values place qs (draws source s qs)) (h' : IsHonestLayer form k gates values place qs' (draws source s qs')) where
     same_drawn : (n : ℕ) → take n qs ≡ take n qs' → take n (draws source s qs) ≡ take n (draws source s qs')

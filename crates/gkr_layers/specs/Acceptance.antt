@@ -7,15 +7,15 @@ use Rattle.transcript_fs.specs.Source.{Source, coordinates, state_after_coordina
 use Rattle.gkr_layers.specs.declared.verdict.Verdict.{Verdict}
 use Rattle.gkr_layers.specs.Places.{Place, value_over}
 use Rattle.gkr_layers.specs.Places.Place.{At}
-use Rattle.gkr_layers.specs.Forms.{Form}
-use Rattle.gkr_layers.specs.Forms.Form.{Line}
+use Rattle.proof_wire.specs.declared.form.ProofForm.{ProofForm}
+use Rattle.proof_wire.specs.declared.form.ProofForm.TheVariants.{Line}
 use Rattle.gkr_layers.specs.Layers.{GateLayer, layers_of, values_over, LayersHold, message_count}
 use Rattle.gkr_layers.specs.Equations.{equations, first_failure, Answered, answer}
 
 -- that the layers, of which the first has 2 ^ k positions, over this table of the input layer give the claimed table, as messages of
 -- this form are to show
 pub record CircuitClaim : Type 0 where
-  pub form : Form
+  pub form : ProofForm
   pub k : ℕ
   pub layers : List GateLayer
   pub input_table : List K
@@ -26,7 +26,7 @@ abbrev pub input_table : Parts → List F → List K
 input_table p inputs = map embed_k (padded_values p.input_width (map (leaf_value inputs) p.leaves))
 
 -- That a circuit on these inputs has these outputs. The claimed output layer is 0, the outputs and zeros.
-abbrev pub claim_in : Form → Parts → List F → List F → CircuitClaim
+abbrev pub claim_in : ProofForm → Parts → List F → List F → CircuitClaim
 claim_in form p inputs outputs = record {
   form = form;
   k = exponent_at p 0;

@@ -3,7 +3,8 @@ use Rattle.std.specs.Prelude.{ℕ, suc, ◌+◌, List, [], ◌∷◌, ◌++◌, 
 use Rattle.field_ext.specs.Field.{K, k_ops, zero_k, one_k, same_k}
 use Rattle.field_ext.specs.Polynomial.{value_at}
 use Rattle.gkr_layers.specs.Places.{Place, value_over, weighted_summand_from}
-use Rattle.gkr_layers.specs.Forms.{Form, said_left, said_right}
+use Rattle.proof_wire.specs.declared.form.ProofForm.{ProofForm}
+use Rattle.gkr_layers.specs.Forms.{said_left, said_right}
 use Rattle.gkr_layers.specs.Layers.{GateLayer, next_place}
 use Rattle.transcript_fs.specs.Source.{Source, state_after}
 use Rattle.gkr_layers.specs.declared.verdict.Verdict.{Verdict}
@@ -44,7 +45,7 @@ sum_equations layer round claim (q ∷ qs) (r ∷ rs) =
 
 -- The equations of all layers, the first of which has this number. Each layer takes 2 k messages of rounds and a last one, and a
 -- challenge after each.
-abbrev pub equations : Form → ℕ → List GateLayer → List K → Place K → K → List (List K) → List K
+abbrev pub equations : ProofForm → ℕ → List GateLayer → List K → Place K → K → List (List K) → List K
     → List Equation
 equations form number [] input place claim qs rs =
     input_equation claim (value_over k_ops input place) ∷ []

@@ -3,7 +3,7 @@ use Rattle.std.specs.Prelude.{ℕ, ◌-◌, List, [], ◌∷◌}
 use Rattle.field_ext.specs.Field.{K, of, prime}
 use Rattle.circuit_core.specs.declared.gate.Kind.TheVariants.{Add, Mul}
 use Rattle.circuit_core.specs.declared.gate.CircuitGate.{CircuitGate}
-use Rattle.gkr_layers.specs.Forms.Form.{Line, Pair}
+use Rattle.proof_wire.specs.declared.form.ProofForm.TheVariants.{Line, Pair}
 use Rattle.gkr_layers.specs.Layers.{GateLayer}
 use Rattle.gkr_layers.specs.Acceptance.{CircuitClaim}
 

@@ -8,7 +8,8 @@ use Rattle.circuit_core.specs.Parts.{Parts}
 use Rattle.circuit_core.specs.Sound.{exponent_at}
 use Rattle.wiring_poly.specs.Wiring.{values_above}
 use Rattle.gkr_layers.specs.Places.{Place, value_over, weighted_summand_from}
-use Rattle.gkr_layers.specs.Forms.{Form, said_left, said_right, last_polynomial, place_between}
+use Rattle.proof_wire.specs.declared.form.ProofForm.{ProofForm}
+use Rattle.gkr_layers.specs.Forms.{said_left, said_right, last_polynomial, place_between}
 use Rattle.gkr_layers.specs.Sumcheck.{round_polynomial, IsExceptionalFor, RoundsHold}
 
 -- the gates of a layer, over 2 ^ k positions of the layer below
@@ -40,7 +41,7 @@ module _ {A : Type 0} (o : Ops A) where
   values_over [] input = input
   values_over (layer ∷ layers) input = values_above o layer.gates (values_over layers input)
 
-module _ {A : Type 0} (o : Ops A) (form : Form) where
+module _ {A : Type 0} (o : Ops A) (form : ProofForm) where
   -- where the next claim stands, for the layer's challenges
   abbrev pub next_place : ℕ → List A → Place A
   next_place k rs = place_between o form (take k (take (k + k) rs)) (drop k (take (k + k) rs))

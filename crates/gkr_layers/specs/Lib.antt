@@ -1,4 +1,5 @@
 pub mod Places
+pub mod Standing
 pub mod Forms
 pub mod Sumcheck
 pub mod Layers

@@ -4,7 +4,8 @@ use Rattle.std.specs.List.{range_with_len}
 use Rattle.field_ext.specs.Field.{F, K, k_ops, zero_k}
 use Rattle.field_ext.specs.Polynomial.{HasAtMost}
 use Rattle.circuit_core.specs.Parts.{Parts, layer_values}
-use Rattle.gkr_layers.specs.Forms.{Form, last_degree}
+use Rattle.proof_wire.specs.declared.form.ProofForm.{ProofForm}
+use Rattle.proof_wire.specs.Forms.{last_degree}
 use Rattle.gkr_layers.specs.Sumcheck.{difference, IsExceptionalFold}
 use Rattle.gkr_layers.specs.Layers.{GateLayer, IsExceptional, message_count}
 use Rattle.gkr_layers.specs.Acceptance.{CircuitClaim, true_table, challenge_count, output_place}
@@ -21,17 +22,17 @@ IsExceptionalChallenge stated qs rs n v =
 
 -- how many exceptional challenges there are at most: one for a coordinate of the output point, two for a round, and for a layer's last
 -- message its degree
-abbrev pub layer_bounds : Form → List GateLayer → List ℕ
+abbrev pub layer_bounds : ProofForm → List GateLayer → List ℕ
 layer_bounds form [] = []
 layer_bounds form (layer ∷ layers) =
     replicate (layer.k + layer.k) 2 ++ last_degree form layer.k ∷ layer_bounds form layers
 
 -- the bounds of all challenges in order, where the output layer has 2 ^ k positions
-abbrev pub bounds_of : Form → ℕ → List GateLayer → List ℕ
+abbrev pub bounds_of : ProofForm → ℕ → List GateLayer → List ℕ
 bounds_of form k layers = replicate k 1 ++ layer_bounds form layers
 
 -- their sum over all challenges
-abbrev pub sum_of_bounds : Form → ℕ → List GateLayer → ℕ
+abbrev pub sum_of_bounds : ProofForm → ℕ → List GateLayer → ℕ
 sum_of_bounds form k layers =
     sum (map (slice_index (bounds_of form k layers)) (range_with_len 0 (k + message_count layers)))
 
@@ -42,7 +43,7 @@ abbrev pub bound : CircuitClaim → ℕ → ℕ
 bound stated n = slice_index (bounds stated) n
 
 -- each message has at most as many coefficients as its place allows, where it is there
-abbrev pub HaveDegrees : Form → List GateLayer → List (List K) → Type 0
+abbrev pub HaveDegrees : ProofForm → List GateLayer → List (List K) → Type 0
 HaveDegrees form [] qs = Unit {0}
 HaveDegrees form (layer ∷ layers) qs =
     let k = layer.k in

@@ -5,7 +5,7 @@ ghost use Rattle.circuit_core.specs.Parts.{height};
 ghost use Rattle.circuit_core.specs.Sound.{exponent_at};
 ghost use Rattle.gkr_layers.specs.Layers.{layers_of, challenges_of, total_exponent};
 ghost use Rattle.gkr_layers.specs.Soundness.{sum_of_bounds};
-ghost use Rattle.gkr_layers.specs.Forms.Form.{Line};
+ghost use Rattle.proof_wire.specs.declared.form.ProofForm.TheVariants.{Line, Pair};
 
 use circuit_core::Circuit;
 
@@ -25,6 +25,15 @@ pub fn bound_sum(circuit: &Circuit) -> usize
         (layers_of circuit.now.parts) }
 {
     circuit.coordinates(0) + 5 * width_below(circuit)
+}
+
+/// The same by pairs: 1 for each coordinate of the output point, and for each layer below 2 for each of its rounds and 1 for
+/// its pair.
+pub fn bound_sum_pair(circuit: &Circuit) -> usize
+    ensures { result ≡ sum_of_bounds Pair (exponent_at circuit.now.parts 0)
+        (layers_of circuit.now.parts) }
+{
+    circuit.coordinates(0) + 4 * width_below(circuit) + circuit.height()
 }
 
 /// The coordinates of the layers below the outputs, together.

@@ -14,13 +14,15 @@ ghost use Rattle.proof_wire.specs.declared.messages.Messages.{Messages};
 ghost use Rattle.proof_wire.specs.Lists.{all_messages, HaveShape};
 ghost use Rattle.gkr_layers.specs.declared.verdict.Verdict.TheVariants.{Accepted};
 ghost use Rattle.gkr_layers.specs.Places.{Place, IsOver, value_over, weighted_summand_at};
-ghost use Rattle.gkr_layers.specs.Forms.{Form, last_polynomial, last_degree};
-ghost use Rattle.gkr_layers.specs.Forms.Form.{Line, Pair};
+ghost use Rattle.proof_wire.specs.declared.form.ProofForm.{ProofForm};
+ghost use Rattle.proof_wire.specs.Forms.{last_degree};
+ghost use Rattle.gkr_layers.specs.Forms.{last_polynomial};
+ghost use Rattle.proof_wire.specs.declared.form.ProofForm.TheVariants.{Line, Pair};
 ghost use Rattle.gkr_layers.specs.Sumcheck.{round_polynomial};
 ghost use Rattle.gkr_layers.specs.Layers.{GateLayer, LayersHold, IsExceptional, FitTogether, message_count, total_exponent, values_over, layers_below};
-ghost use Rattle.gkr_layers.specs.Acceptance.{CircuitClaim, Accepts, challenge_count, claim_in, claim_of, verdict_of, answer_from, input_table};
+ghost use Rattle.gkr_layers.specs.Acceptance.{CircuitClaim, Accepts, challenge_count, claim_in, verdict_of, answer_from, input_table};
 ghost use Rattle.gkr_layers.specs.Soundness.{IsExceptionalChallenge, HaveDegrees, IsFalse, LetsPass, bound, bounds, sum_of_bounds};
-ghost use Rattle.gkr_layers.specs.Honest.{AreHonest, AreHonestMessages, IsHonestProof};
+ghost use Rattle.gkr_layers.specs.Honest.{AreHonest, AreHonestMessages};
 
 /// The values that a circuit's layers have over F_p are those that the layers have as elements of K.
 pub fn one_value()
@@ -44,7 +46,7 @@ pub fn degrees()
     ensures rounds { (k : ℕ) (gates : List CircuitGate) (values : List K) (place : Place K)
         (bound : List K) (n : ℕ)
         → length (round_polynomial k_ops k gates values place bound n) ≤ 3 }
-    ensures last { (form : Form) (values b c : List K) (k : ℕ) → length b ≤ k
+    ensures last { (form : ProofForm) (values b c : List K) (k : ℕ) → length b ≤ k
         → length (last_polynomial k_ops form values b c) ≤ last_degree form k + 1 }
 {}
 
@@ -88,7 +90,7 @@ pub fn bounds_add()
 
 /// A false claim on the first layer that passes every equation shows an exceptional challenge.
 pub fn sound_layers()
-    ensures { (form : Form) (j : ℕ) (layers : List GateLayer) (input : List K) (place : Place K)
+    ensures { (form : ProofForm) (j : ℕ) (layers : List GateLayer) (input : List K) (place : Place K)
         (claim : K) (qs : List (List K)) (rs : List K) → IsOver j place → FitTogether j layers →
         length qs ≡ message_count layers → length rs ≡ message_count layers →
         LayersHold k_ops form layers input place claim qs rs
@@ -100,49 +102,49 @@ pub fn sound_layers()
 /// Where outputs that the circuit doesn't have are accepted, some challenge is exceptional after the messages and challenges
 /// before it, and few are: for every list of as many challenges as a check draws, as those are that a source gives.
 pub fn sound()
-    ensures forms { (form : Form) (circuit : SoundCircuit) (inputs outputs : List F)
+    ensures forms { (form : ProofForm) (circuit : SoundCircuit) (inputs outputs : List F)
         (qs : List (List K)) (rs : List K) → length outputs ≡ circuit.parts.outputs →
         let stated = claim_in form circuit.parts inputs outputs in
         HaveDegrees form stated.layers qs →
         length qs ≡ message_count stated.layers → length rs ≡ challenge_count stated
         → verdict_of stated qs rs ≡ Accepted → IsFalse circuit.parts inputs outputs
         → (n : ℕ) × LetsPass stated qs rs n }
-    ensures lists { (circuit : SoundCircuit) (inputs outputs : List F) (messages : Messages)
-        (rs : List K) → length outputs ≡ circuit.parts.outputs
-        → HaveShape (drop 1 (exponents circuit.parts)) messages.layers →
-        let stated = claim_of circuit.parts inputs outputs in
+    ensures lists { (form : ProofForm) (circuit : SoundCircuit) (inputs outputs : List F)
+        (messages : Messages) (rs : List K) → length outputs ≡ circuit.parts.outputs
+        → HaveShape form (drop 1 (exponents circuit.parts)) messages.layers →
+        let stated = claim_in form circuit.parts inputs outputs in
         let qs = all_messages messages.layers in
         length rs ≡ challenge_count stated → verdict_of stated qs rs ≡ Accepted
         → IsFalse circuit.parts inputs outputs → (n : ℕ) × LetsPass stated qs rs n }
-    ensures draws { (circuit : SoundCircuit) (inputs outputs : List F) (messages : Messages)
-        (source : Source) (state : List ℕ)
-        → HaveShape (drop 1 (exponents circuit.parts)) messages.layers →
-        let stated = claim_of circuit.parts inputs outputs in
+    ensures draws { (form : ProofForm) (circuit : SoundCircuit) (inputs outputs : List F)
+        (messages : Messages) (source : Source) (state : List ℕ)
+        → HaveShape form (drop 1 (exponents circuit.parts)) messages.layers →
+        let stated = claim_in form circuit.parts inputs outputs in
         length (all_draws source state stated.k (all_messages messages.layers)) ≡ challenge_count
         stated }
 {}
 
 /// Honest messages are accepted, where the claimed outputs are those that the circuit has on these inputs.
 pub fn honest_is_accepted()
-    ensures forms { (form : Form) (c : SoundCircuit) (inputs outputs : List F) (source : Source)
+    ensures forms { (form : ProofForm) (c : SoundCircuit) (inputs outputs : List F) (source : Source)
         (s : List ℕ) (qs : List (List K)) → length outputs ≡ c.parts.outputs →
         outputs ≡ take (length outputs) (drop 1 (layer_values c.parts inputs 0))
         → let stated = claim_in form c.parts inputs outputs in
         length qs ≡ message_count stated.layers →
         AreHonestMessages form c.parts inputs source s qs
         → verdict_of stated qs (all_draws source s stated.k qs) ≡ Accepted }
-    ensures proofs { (c : SoundCircuit) (inputs outputs : List F) (source : Source) (s : List ℕ)
-        (messages : Messages) → length outputs ≡ c.parts.outputs →
+    ensures proofs { (form : ProofForm) (c : SoundCircuit) (inputs outputs : List F)
+        (source : Source) (s : List ℕ) (messages : Messages) → length outputs ≡ c.parts.outputs →
         outputs ≡ take (length outputs) (drop 1 (layer_values c.parts inputs 0))
-        → HaveShape (drop 1 (exponents c.parts)) messages.layers →
-        let stated = claim_of c.parts inputs outputs in let qs = all_messages messages.layers in
-        IsHonestProof c.parts inputs source s qs
+        → HaveShape form (drop 1 (exponents c.parts)) messages.layers →
+        let stated = claim_in form c.parts inputs outputs in
+        let qs = all_messages messages.layers in AreHonestMessages form c.parts inputs source s qs
         → verdict_of stated qs (all_draws source s stated.k qs) ≡ Accepted }
 {}
 
 /// For a source of challenges there is one list of honest messages.
 pub fn honest_is_unique()
-    ensures { (form : Form) (layers : List GateLayer) (input : List K) (place : Place K)
+    ensures { (form : ProofForm) (layers : List GateLayer) (input : List K) (place : Place K)
         (source : Source) (s : List ℕ) (qs others : List (List K)) →
         length qs ≡ message_count layers → length others ≡ message_count layers →
         AreHonest form layers input place qs (draws source s qs)

@@ -15,7 +15,9 @@
 mod counts;
 pub mod examples;
 pub mod laws;
+mod standing;
 mod verdict;
 
-pub use counts::{bound_sum, challenge_count, width_below};
+pub use counts::{bound_sum, bound_sum_pair, challenge_count, width_below};
+pub use standing::Standing;
 pub use verdict::Verdict;

@@ -1,83 +1,84 @@
 // The messages of one layer.
 
-ghost use Rattle.std.specs.Prelude.{◌≡◌, ◌+◌, IfOk, IsTrue};
+ghost use Rattle.std.specs.Prelude.{◌≡◌, ◌≤◌, ◌+◌, IfOk, IsTrue, length};
 ghost use Rattle.field_ext.specs.Field.{K, k_ops};
 ghost use Rattle.round_tables.specs.Phase.{IsLayer};
 ghost use Rattle.transcript_fs.specs.Source.{draws, state_after};
 ghost use Rattle.proof_wire.specs.Lists.{messages_of, HasShape};
 ghost use Rattle.gkr_layers.specs.Honest.{IsHonestLayer};
 ghost use Rattle.gkr_layers.specs.Layers.{next_place};
-ghost use Rattle.gkr_layers.specs.Places.Place.{At};
-ghost use Rattle.gkr_layers.specs.Forms.Form.{Line};
+ghost use Rattle.gkr_layers.specs.Standing.{place_of};
+ghost use Rattle.gkr_prove.specs.Kept.{kept_place};
 ghost use Rattle.phase_run.specs.Work.{IsWorkerCount};
 
+use crate::kept::KeptPlace;
+use crate::last::last_message;
 use crate::rounds::{ProvedRounds, prove_rounds};
 use circuit_core::CircuitGate;
-use field_ext::Ext;
+use gkr_layers::Standing;
 use io_edge::Gate;
-use line_reduce::{line_poly, point_at};
 use mle_table::Table;
-use proof_wire::{LayerMessages, Listed};
+use proof_wire::{LayerMessages, Listed, ProofForm};
 use round_tables::{GateTables, Room};
 use std::alloc::{AllocError, Global};
 use std::marker::Sync;
 use std::thread::Threads;
 use transcript_fs::Challenges;
 
-/// A layer's messages, the point of the claim that they lead to, and the room that it used.
+/// A layer's messages, the place of the claim that they lead to, and the room that it used.
 #[derive(Drop)]
 pub(crate) struct ProvedLayer {
     pub(crate) messages: LayerMessages,
-    pub(crate) point: Vec<Ext>,
+    pub(crate) place: KeptPlace,
     pub(crate) room: Room,
 }
 
-/// Proves a layer of gates over the values of the layer below, at the point of the claim on it.
+/// Proves a layer of at most 65,536 gates over the values of the layer below, where the claim on it stands.
 pub(crate) fn prove_layer<R: Threads + Sync, C: Challenges, G: Gate>(
     rt: &R,
     alloc: Global,
+    form: ProofForm,
     room: Room,
     gates: &[CircuitGate],
     values: &Table,
-    point: &[Ext],
+    place: &Standing<'_>,
     challenges: &mut C,
     workers: u32,
     gate: &G,
 ) -> Result<ProvedLayer, AllocError>
     requires workers { IsWorkerCount workers }
-    requires layer { IsLayer K values.now.k gates.now values.now.items (At point.now) }
+    requires layer { IsLayer K values.now.k gates.now values.now.items (place_of place.now) }
+    requires few { length gates.now ≤ 65536 }
     requires has { IsTrue (C.source.has (C.state challenges.old) (values.now.k + values.now.k + 1)) }
     ensures honest { IfOk result (λ proved. let qs = messages_of proved.messages in
-        IsHonestLayer Line values.now.k gates.now values.now.items (At point.now) qs
+        IsHonestLayer form values.now.k gates.now values.now.items (place_of place.now) qs
         (draws C.source (C.state challenges.old) qs)) }
-    ensures shape { IfOk result (λ proved. HasShape values.now.k proved.messages) }
-    ensures point { IfOk result
-        (λ proved. At proved.point.items ≡ next_place k_ops Line values.now.k
+    ensures shape { IfOk result (λ proved. HasShape form values.now.k proved.messages) }
+    ensures place { IfOk result
+        (λ proved. kept_place proved.place ≡ next_place k_ops form values.now.k
         (draws C.source (C.state challenges.old) (messages_of proved.messages))) }
     ensures state { IfOk result
         (λ proved. C.state challenges.new ≡ state_after C.source (C.state challenges.old)
         (messages_of proved.messages)) }
 {
     let k = values.k() as usize;
-    let tables = GateTables::start_in(room, gates, values, point)?;
+    let tables = GateTables::start_at(room, gates, values, place)?;
     let ProvedRounds {
         messages,
         drawn,
         room,
     } = prove_rounds(rt, alloc, tables, challenges, workers, gate)?;
     let (left, right) = drawn.as_slice().split_at(k);
-    let polynomial = line_poly(alloc, values, left, right)?;
-    let line = Vec::from_slice(alloc, polynomial.coefficients())?;
-    challenges.absorb(&line);
+    let last = last_message(alloc, form, values, left, right)?;
+    challenges.absorb(&last);
     let challenge = challenges.challenge();
-    let mut next = vec![in alloc; Ext::zero(); k]?;
-    point_at(left, right, challenge, &mut next);
+    let next = KeptPlace::between(alloc, form, left, right, challenge)?;
     Ok(ProvedLayer {
         messages: LayerMessages {
             rounds: Listed::of(messages),
-            line: Listed::of(line),
+            last: Listed::of(last),
         },
-        point: next,
+        place: next,
         room,
     })
 }

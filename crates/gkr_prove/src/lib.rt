@@ -2,8 +2,9 @@
 //!
 //! [`prove`] gives the honest messages of all layers, the output layer first: the true polynomial of each round of
 //! sumcheck, and of the line between the two operands' points, at the challenges that the source gives behind the
-//! messages before. They are the only honest messages, and the verifier accepts them. Source: Thaler, "Proofs, Arguments,
-//! and Zero-Knowledge", 4.6.
+//! messages before. They are the only honest messages, and the verifier accepts them. [`prove_pair`] is the same body for
+//! proofs that end each layer with the values at both points in place of the line. Source: Thaler, "Proofs, Arguments,
+//! and Zero-Knowledge", 4.6; for pairs Xie and others, "Libra" (2019).
 //!
 //! ```text
 //! let values = layer_values(&rt, alloc, &circuit, &inputs)?;
@@ -11,9 +12,11 @@
 //! ```
 #![tactic(auto)]
 
+mod kept;
+mod last;
 mod layer;
 mod layers;
 mod prover;
 mod rounds;
 
-pub use prover::prove;
+pub use prover::{prove, prove_as, prove_pair};

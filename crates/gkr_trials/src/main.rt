@@ -5,7 +5,7 @@
 //!
 //! - `eval` and `prove` refuse the same cases in the same words, and give the same outputs;
 //! - what `prove` wrote is the case with outputs and a proof, it is read and written again as it is, two workers write the
-//!   same, and `verify` accepts it;
+//!   same, and `verify` accepts it, also where it is a proof by pairs;
 //! - with one byte changed it is refused, or rejected, or its outputs are still the program's meaning on its inputs.
 //!
 //! Each number at which something doesn't hold is told. The last line counts how the cases went.

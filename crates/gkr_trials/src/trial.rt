@@ -120,11 +120,23 @@ fn proved_wrong<R: Threads + Sync>(
     if by_two.written.as_slice() != proved.written.as_slice() {
         return Ok(Some("two workers write another proof"));
     }
-    let verdict = run(rt, alloc, &["verify"], &proved.written)?;
-    if verdict.status != Status::Done || verdict.written.as_slice() != b"accepted\n".as_slice() {
+    if !is_accepted(rt, alloc, &proved.written)? {
         return Ok(Some("what was proved isn't accepted"));
     }
+    let by_pairs = run(rt, alloc, &["prove", "--proof", "pair"], case)?;
+    if !goes_on(&by_pairs.written, case, &evaluated.written) {
+        return Ok(Some("by pairs prove wrote another case or other outputs"));
+    }
+    if !is_accepted(rt, alloc, &by_pairs.written)? {
+        return Ok(Some("what was proved by pairs isn't accepted"));
+    }
     Ok(None)
+}
+
+// Whether `verify` accepts a text.
+fn is_accepted<R: Threads + Sync>(rt: &R, alloc: Global, text: &[u8]) -> Result<bool, AllocError> {
+    let verdict = run(rt, alloc, &["verify"], text)?;
+    Ok(verdict.status == Status::Done && verdict.written.as_slice() == b"accepted\n".as_slice())
 }
 
 /// Makes a case from a number, and puts it through the commands.

@@ -11,9 +11,10 @@ use Rattle.gkr_verify.proofs.Choices.{first_holds, first_fails}
 use Rattle.transcript_fs.proofs.Draws.{draws-append, length-draws}
 use Rattle.gkr_layers.proofs.Lists.{front-take, next-read, rest-drop}
 use Rattle.gkr_layers.specs.Places.{Place, weighted_summand_from}
-use Rattle.gkr_layers.specs.Forms.{Form, said_left, said_right, place_between}
+use Rattle.proof_wire.specs.declared.form.ProofForm.{ProofForm}
+use Rattle.gkr_layers.specs.Forms.{said_left, said_right, place_between}
 
-module _ (form : Form) (source : Source) (s : List ℕ) (number k : ℕ) (gates : List CircuitGate) (below : List GateLayer) (input : List K) (place : Place K) (claim : K) (rounds : List (List K)) (last : List K) (qs : List (List K)) (size : length rounds ≡ k + k) where
+module _ (form : ProofForm) (source : Source) (s : List ℕ) (number k : ℕ) (gates : List CircuitGate) (below : List GateLayer) (input : List K) (place : Place K) (claim : K) (rounds : List (List K)) (last : List K) (qs : List (List K)) (size : length rounds ≡ k + k) where
   abbrev layer_bound : List K
   layer_bound = draws source s rounds
 

@@ -1,68 +1,76 @@
 // One layer.
 
-ghost use Rattle.std.specs.Prelude.{◌≡◌, ◌<◌, ◌+◌, suc, List, ◌∷◌, ◌++◌, length, IsTrue, IfOk, IfErr};
-ghost use Rattle.field_ext.specs.Field.{K};
+ghost use Rattle.std.specs.Prelude.{◌≡◌, ◌<◌, ◌+◌, suc, List, ◌∷◌, ◌++◌, length, take, drop, IsTrue, IfOk, IfErr};
+ghost use Rattle.field_ext.specs.Field.{K, k_ops};
 ghost use Rattle.circuit_core.specs.Parts.{height};
 ghost use Rattle.circuit_core.specs.Sound.{exponent_at};
 ghost use Rattle.gkr_layers.specs.Layers.{GateLayer, layer_at};
 ghost use Rattle.transcript_fs.specs.Source.{draws, state_after};
 ghost use Rattle.gkr_layers.specs.Equations.{equations, answer};
 ghost use Rattle.proof_wire.specs.Lists.{messages_of, HasShape};
-ghost use Rattle.gkr_layers.specs.Places.Place.{At};
-ghost use Rattle.gkr_layers.specs.Forms.Form.{Line};
+ghost use Rattle.gkr_layers.specs.Places.{IsOver};
+ghost use Rattle.gkr_layers.specs.Forms.{place_between};
+ghost use Rattle.gkr_layers.specs.Standing.{place_of};
 ghost use Rattle.run_wiring.specs.CircuitRuns.{IsWiringOf};
 
 use crate::end::end_value;
 use crate::rounds::check_rounds;
 use circuit_core::Circuit;
 use field_ext::Ext;
-use gkr_layers::Verdict;
-use line_reduce::point_at;
+use gkr_layers::{Standing, Verdict};
 use poly_roots::value_at;
-use proof_wire::LayerMessages;
+use proof_wire::{LayerMessages, ProofForm};
 use run_wiring::LayerWiring;
 use transcript_fs::Challenges;
 
-/// Checks the messages of a layer against the claim at `point`. Where its equations hold, it gives the claim on the
-/// layer below, at the point that it leaves in `next`.
+/// The claim on the layer below, and the challenge that says where it stands.
+#[derive(Clone, Copy)]
+pub(crate) struct NextClaim {
+    pub(crate) value: Ext,
+    pub(crate) challenge: Ext,
+}
+
+/// Checks the messages of a layer against the claim. Where its equations hold, it gives the claim on the layer below,
+/// which stands between the points of the two operands, whose coordinates it leaves in `drawn`.
 pub(crate) fn check_layer<C: Challenges>(
+    form: ProofForm,
     circuit: &Circuit,
     layer: usize,
     wiring: &LayerWiring,
     messages: &LayerMessages,
     claim: Ext,
-    point: &[Ext],
+    place: &Standing<'_>,
     drawn: &mut [Ext],
-    next: &mut [Ext],
     challenges: &mut C,
-) -> Result<Ext, Verdict>
+) -> Result<NextClaim, Verdict>
     requires layer { layer < height circuit.now.parts }
     requires wiring { IsWiringOf circuit.now.parts layer wiring.now }
-    requires position { length point.now ≡ exponent_at circuit.now.parts layer }
-    requires shape { HasShape (exponent_at circuit.now.parts (layer + 1)) messages.now }
+    requires place { IsOver (exponent_at circuit.now.parts layer) (place_of place.now) }
+    requires shape { HasShape form (exponent_at circuit.now.parts (layer + 1)) messages.now }
     requires drawn { length drawn.old ≡ exponent_at circuit.now.parts (layer + 1) + exponent_at
         circuit.now.parts (layer + 1) }
-    requires next { length next.old ≡ exponent_at circuit.now.parts (layer + 1) }
     requires has { IsTrue (C.source.has (C.state challenges.old)
         (exponent_at circuit.now.parts (layer + 1) + exponent_at circuit.now.parts (layer + 1) + 1)) }
     ensures holds { IfOk result
-        (λ value. (below : List GateLayer) (input : List K) (qs : List (List K)) →
+        (λ next. (below : List GateLayer) (input : List K) (qs : List (List K)) →
         answer C.source (C.state challenges.old)
-        (equations Line layer (layer_at circuit.now.parts layer ∷ below) input (At point.now)
-        claim (messages_of messages.now ++ qs)
+        (equations form layer (layer_at circuit.now.parts layer ∷ below) input
+        (place_of place.now) claim (messages_of messages.now ++ qs)
         (draws C.source (C.state challenges.old) (messages_of messages.now ++ qs)))
         (messages_of messages.now ++ qs)
         ≡ answer C.source (C.state challenges.new)
-        (equations Line (suc layer) below input (At next.new) value qs
-        (draws C.source (C.state challenges.new) qs)) qs) }
+        (equations form (suc layer) below input
+        (place_between k_ops form (take (exponent_at circuit.now.parts (layer + 1)) drawn.new)
+        (drop (exponent_at circuit.now.parts (layer + 1)) drawn.new) next.challenge) next.value
+        qs (draws C.source (C.state challenges.new) qs)) qs) }
     ensures state { IfOk result
-        (λ value. C.state challenges.new ≡ state_after C.source (C.state challenges.old)
+        (λ next. C.state challenges.new ≡ state_after C.source (C.state challenges.old)
         (messages_of messages.now)) }
     ensures fails { IfErr result
         (λ verdict. (below : List GateLayer) (input : List K) (qs : List (List K)) →
         answer C.source (C.state challenges.old)
-        (equations Line layer (layer_at circuit.now.parts layer ∷ below) input (At point.now)
-        claim (messages_of messages.now ++ qs)
+        (equations form layer (layer_at circuit.now.parts layer ∷ below) input
+        (place_of place.now) claim (messages_of messages.now ++ qs)
         (draws C.source (C.state challenges.old) (messages_of messages.now ++ qs)))
         (messages_of messages.now ++ qs)
         ≡ record { verdict = verdict; state = C.state challenges.new }) }
@@ -78,16 +86,10 @@ pub(crate) fn check_layer<C: Challenges>(
             });
         }
     };
-    let (left, right) = drawn.split_at(next.len());
-    let want = end_value(
-        circuit,
-        layer,
-        wiring,
-        point,
-        left,
-        right,
-        messages.line.as_slice(),
-    );
+    let k = circuit.coordinates(layer + 1);
+    let (left, right) = drawn.split_at(k);
+    let last = messages.last.as_slice();
+    let want = end_value(form, circuit, layer, wiring, place, left, right, last);
     if !claim.equals(want) {
         return Err(Verdict::End {
             layer,
@@ -95,8 +97,10 @@ pub(crate) fn check_layer<C: Challenges>(
             want,
         });
     }
-    challenges.absorb(messages.line.as_slice());
+    challenges.absorb(last);
     let challenge = challenges.challenge();
-    point_at(left, right, challenge, next);
-    Ok(value_at(messages.line.as_slice(), challenge))
+    Ok(NextClaim {
+        value: value_at(last, challenge),
+        challenge,
+    })
 }

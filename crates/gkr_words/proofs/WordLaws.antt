@@ -16,9 +16,10 @@ use Rattle.clap.specs.Simple.{App, Shape, built, entered, label_of, names_of, ro
 use Rattle.clap.specs.Walk.{Held, Names, Row, Rule, Text, Waiting, Walk, after_flag, after_step, answers_to, bundle_met, bundle_step, finished, idle, long_or_other, nothing_held, option, plain, plain_word, positional, rows_after, settled, short_or_plain, subcommand_met, subcommand_or_other, trailing, walk, walk_from, walked, word_met}
 use Rattle.clap.specs.Words.{fault_of, subcommand_of}
 use Rattle.clap.proofs.OnLiterals.{clap_on_literals}
-use Rattle.gkr_words.specs.declared.words.Command.TheVariants.{OfCase, Demo, Serve}
+use Rattle.proof_wire.specs.declared.form.ProofForm.TheVariants.{Line, Pair}
+use Rattle.gkr_words.specs.declared.words.Command.TheVariants.{OfCase, Demo, Serve, ServeHistory}
 use Rattle.gkr_words.specs.declared.words.CaseCommand.TheVariants.{Eval, Circuit, Prove, Verify}
-use Rattle.gkr_words.specs.Commands.{command_line, command_of, command_of_rows, command_unless, demo_of, if_worker_count, number_of, workers_of}
+use Rattle.gkr_words.specs.Commands.{command_line, command_of, command_of_rows, command_unless, demo_of, if_worker_count, number_of, prove_of, workers_of}
 use Rattle.gkr_words.proofs.Numbers.{number_taken}
 use Rattle.gkr_words.proofs.WordsRead.{command_taken}
 
@@ -120,6 +121,10 @@ pub serve_words : (program : Text) → command_of (program ∷ codes "serve" ∷
 unfolding clap_on_literals
 serve_words program = by_leaf (codes "serve") (leaf (codes "serve")) serve_is program [] refl
 
+pub serve_history_words : (program : Text) → command_of (program ∷ codes "serve" ∷ codes "--history" ∷ []) ≡ Some (ServeHistory 1 1 1)
+unfolding clap_on_literals
+serve_history_words program = by_leaf (codes "serve") (leaf (codes "serve")) serve_is program (codes "--history" ∷ []) refl
+
 pub eval_words : (program : Text) → command_of (program ∷ codes "eval" ∷ []) ≡ Some (OfCase Eval)
 unfolding clap_on_literals
 eval_words program = by_leaf (codes "eval") (leaf (codes "eval")) eval_is program [] refl
@@ -132,7 +137,7 @@ pub verify_words : (program : Text) → command_of (program ∷ codes "verify" �
 unfolding clap_on_literals
 verify_words program = by_leaf (codes "verify") (leaf (codes "verify")) verify_is program [] refl
 
-pub prove_words : (program : Text) → command_of (program ∷ codes "prove" ∷ []) ≡ Some (OfCase (Prove 1))
+pub prove_words : (program : Text) → command_of (program ∷ codes "prove" ∷ []) ≡ Some (OfCase (Prove 1 Line))
 unfolding clap_on_literals
 prove_words program = by_leaf (codes "prove") (leaf (codes "prove")) prove_is program [] refl
 
@@ -212,9 +217,40 @@ prove_end v is =
       finishes = refl;
     }
 
-pub prove_with : (program v : Text) → IsPlainWord v → command_of (program ∷ codes "prove" ∷ codes "--workers" ∷ v ∷ []) ≡ option_map OfCase (option_map Prove (workers_of (Some v)))
+pub prove_with : (program v : Text) → IsPlainWord v → command_of (program ∷ codes "prove" ∷ codes "--workers" ∷ v ∷ []) ≡ option_map OfCase (prove_of (workers_of (Some v)) (Some Line))
 unfolding clap_on_literals
 prove_with program v is = by_end (codes "prove") (leaf (codes "prove")) prove_is program (codes "--workers" ∷ v ∷ []) (at (has_workers nothing_held v) idle 1) (prove_end v is)
+
+-- behind the form that `--proof` names
+pub prove_pair : (program : Text) → command_of (program ∷ codes "prove" ∷ codes "--proof" ∷ codes "pair" ∷ []) ≡ Some (OfCase (Prove 1 Pair))
+unfolding clap_on_literals
+prove_pair program = by_leaf (codes "prove") (leaf (codes "prove")) prove_is program (codes "--proof" ∷ codes "pair" ∷ []) refl
+
+pub prove_line : (program : Text) → command_of (program ∷ codes "prove" ∷ codes "--proof" ∷ codes "1" ∷ []) ≡ Some (OfCase (Prove 1 Line))
+unfolding clap_on_literals
+prove_line program = by_leaf (codes "prove") (leaf (codes "prove")) prove_is program (codes "--proof" ∷ codes "1" ∷ []) refl
+
+pub other_form : (program : Text) → command_of (program ∷ codes "prove" ∷ codes "--proof" ∷ codes "lines" ∷ []) ≡ None
+unfolding clap_on_literals
+other_form program = by_leaf (codes "prove") (leaf (codes "prove")) prove_is program (codes "--proof" ∷ codes "lines" ∷ []) refl
+
+abbrev after_pair : Held
+after_pair = settled (leaf (codes "prove")).rules (record { rows = []; pending = Some (codes "proof", codes "pair" ∷ []); skip = 0 })
+
+pair_end : (v : Text) → IsPlainWord v → EndsAt (leaf (codes "prove")) (codes "--proof" ∷ codes "pair" ∷ codes "--workers" ∷ v ∷ []) (at (has_workers after_pair v) idle 1)
+unfolding clap_on_literals
+pair_end v is =
+    let s = leaf (codes "prove") in
+    record {
+      ends = plain_walked s.rules (waits_for_workers after_pair) (option (codes "workers")) 1 v is;
+      passes = ap (λ kinds. or_else kinds []) (plain_turn s (waits_for_workers after_pair) (option (codes "workers")) 1 v is);
+      finishes = refl;
+    }
+
+pub pair_with : (program v : Text) → IsPlainWord v → command_of (program ∷ codes "prove" ∷ codes "--proof" ∷ codes "pair" ∷ codes "--workers" ∷ v ∷ []) ≡ option_map OfCase (prove_of (workers_of (Some v)) (Some Pair))
+unfolding clap_on_literals
+pair_with program v is =
+    by_end (codes "prove") (leaf (codes "prove")) prove_is program (codes "--proof" ∷ codes "pair" ∷ codes "--workers" ∷ v ∷ []) (at (has_workers after_pair v) idle 1) (pair_end v is)
 
 demo_end : (n : Text) → IsPlainWord n → EndsAt (leaf (codes "demo")) (n ∷ []) (at (has_number n) idle 2)
 unfolding clap_on_literals
@@ -284,9 +320,14 @@ workers_taken n least most =
     ap (option_and_then if_worker_count) (number_taken (decimal n) n (omega arith) refl)
     ∙ ap (λ b. if b then Some n else None) (and_from _ _ (le-leb 1 n least) (le-leb n 64 most))
 
-pub prove_by : (program : Text) (workers : ℕ) → 1 ≤ workers → workers ≤ 64 → command_of (program ∷ codes "prove" ∷ codes "--workers" ∷ decimal workers ∷ []) ≡ Some (OfCase (Prove workers))
+pub prove_by : (program : Text) (workers : ℕ) → 1 ≤ workers → workers ≤ 64 → command_of (program ∷ codes "prove" ∷ codes "--workers" ∷ decimal workers ∷ []) ≡ Some (OfCase (Prove workers Line))
 prove_by program workers least most =
-    prove_with program (decimal workers) (decimal_plain workers (omega arith)) ∙ ap (λ w. option_map OfCase (option_map Prove w)) (workers_taken workers least most)
+    prove_with program (decimal workers) (decimal_plain workers (omega arith)) ∙ ap (λ w. option_map OfCase (prove_of w (Some Line))) (workers_taken workers least most)
+
+pub pair_by : (program : Text) (workers : ℕ) → 1 ≤ workers → workers ≤ 64
+    → command_of (program ∷ codes "prove" ∷ codes "--proof" ∷ codes "pair" ∷ codes "--workers" ∷ decimal workers ∷ []) ≡ Some (OfCase (Prove workers Pair))
+pair_by program workers least most =
+    pair_with program (decimal workers) (decimal_plain workers (omega arith)) ∙ ap (λ w. option_map OfCase (prove_of w (Some Pair))) (workers_taken workers least most)
 
 pub demo_of_number : (program : Text) (number : ℕ) → number < 2 ^ 32 → command_of (program ∷ codes "demo" ∷ decimal number ∷ []) ≡ Some (Demo number 1)
 demo_of_number program number fits =

@@ -4,6 +4,7 @@ ghost use Rattle.std.specs.Prelude.{◌≡◌, ◌≢◌, ◌<◌, ◌≤◌, �
 ghost use Rattle.gkr_words.specs.Commands.{command_of, number_of};
 
 use crate::words::{CaseCommand, Command};
+use proof_wire::ProofForm;
 
 /// The number of a word is the one below 2^32 whose decimal it is.
 pub fn number_by_decimal()
@@ -11,19 +12,23 @@ pub fn number_by_decimal()
         → (number_of word ≡ Some n) ↔ ((n < 2 ^ 32) × (word ≡ decimal n)) }
 {}
 
-/// A subcommand's name by itself names that command; `prove` then means one worker, and `serve` one
-/// of each.
+/// A subcommand's name by itself names that command; `prove` then means one worker and a proof by
+/// lines, and `serve` one of each. `serve --history` tells the history too.
 pub fn words_alone()
     ensures eval { (program : List ℕ)
         → command_of (program ∷ codes "eval" ∷ []) ≡ Some (Command.OfCase CaseCommand.Eval) }
     ensures circuit { (program : List ℕ)
         → command_of (program ∷ codes "circuit" ∷ []) ≡ Some (Command.OfCase CaseCommand.Circuit) }
     ensures prove { (program : List ℕ)
-        → command_of (program ∷ codes "prove" ∷ []) ≡ Some (Command.OfCase (CaseCommand.Prove 1)) }
+        → command_of (program ∷ codes "prove" ∷ [])
+        ≡ Some (Command.OfCase (CaseCommand.Prove 1 ProofForm.Line)) }
     ensures verify { (program : List ℕ)
         → command_of (program ∷ codes "verify" ∷ []) ≡ Some (Command.OfCase CaseCommand.Verify) }
     ensures serve { (program : List ℕ)
         → command_of (program ∷ codes "serve" ∷ []) ≡ Some (Command.Serve 1 1 1) }
+    ensures history { (program : List ℕ)
+        → command_of (program ∷ codes "serve" ∷ codes "--history" ∷ [])
+        ≡ Some (Command.ServeHistory 1 1 1) }
 {}
 
 /// `prove --workers W` and `demo N --workers W` name these commands for each W from 1 to 64 and
@@ -31,13 +36,29 @@ pub fn words_alone()
 pub fn words_with_numbers()
     ensures prove { (program : List ℕ) (workers : ℕ) → 1 ≤ workers → workers ≤ 64
         → command_of (program ∷ codes "prove" ∷ codes "--workers" ∷ decimal workers ∷ [])
-        ≡ Some (Command.OfCase (CaseCommand.Prove workers)) }
+        ≡ Some (Command.OfCase (CaseCommand.Prove workers ProofForm.Line)) }
     ensures demo { (program : List ℕ) (number : ℕ) → number < 2 ^ 32
         → command_of (program ∷ codes "demo" ∷ decimal number ∷ []) ≡ Some (Command.Demo number 1) }
     ensures demo_by { (program : List ℕ) (number workers : ℕ) → number < 2 ^ 32 → 1 ≤ workers
         → workers ≤ 64
         → command_of (program ∷ codes "demo" ∷ decimal number ∷ codes "--workers" ∷ decimal workers
         ∷ []) ≡ Some (Command.Demo number workers) }
+{}
+
+/// `prove --proof pair` asks for a proof by pairs and `prove --proof 1` for one by lines, by one worker or by as
+/// many as `--workers` says behind it.
+pub fn words_with_forms()
+    ensures pair { (program : List ℕ)
+        → command_of (program ∷ codes "prove" ∷ codes "--proof" ∷ codes "pair" ∷ [])
+        ≡ Some (Command.OfCase (CaseCommand.Prove 1 ProofForm.Pair)) }
+    ensures line { (program : List ℕ)
+        → command_of (program ∷ codes "prove" ∷ codes "--proof" ∷ codes "1" ∷ [])
+        ≡ Some (Command.OfCase (CaseCommand.Prove 1 ProofForm.Line)) }
+    ensures other { (program : List ℕ)
+        → command_of (program ∷ codes "prove" ∷ codes "--proof" ∷ codes "lines" ∷ []) ≡ None }
+    ensures pair_by { (program : List ℕ) (workers : ℕ) → 1 ≤ workers → workers ≤ 64
+        → command_of (program ∷ codes "prove" ∷ codes "--proof" ∷ codes "pair" ∷ codes "--workers"
+        ∷ decimal workers ∷ []) ≡ Some (Command.OfCase (CaseCommand.Prove workers ProofForm.Pair)) }
 {}
 
 /// Words name a command only where the first behind the program's own name is a subcommand's.

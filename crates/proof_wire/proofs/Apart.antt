@@ -10,7 +10,10 @@ use Rattle.field_ext.proofs.ElementBytes.{bytes_apart}
 use Rattle.proof_wire.specs.declared.messages.Round.{Round}
 use Rattle.proof_wire.specs.declared.messages.LayerMessages.{LayerMessages}
 use Rattle.proof_wire.specs.declared.messages.Messages.{Messages}
-use Rattle.proof_wire.specs.Spelling.{coefficients_of, layer_coefficients, all_coefficients, magic, spelling}
+use Rattle.proof_wire.specs.declared.form.ProofForm.{ProofForm}
+use Rattle.proof_wire.specs.Forms.{form_of, magic}
+use Rattle.proof_wire.specs.declared.form.ProofForm.TheVariants.{Line, Pair}
+use Rattle.proof_wire.specs.Spelling.{coefficients_of, layer_coefficients, all_coefficients, spelling}
 use Rattle.proof_wire.specs.Lists.{HasShape, HaveShape}
 use Rattle.proof_wire.proofs.Lengths.{rounds_length, layer_count}
 
@@ -55,31 +58,37 @@ rounds_apart = pieces_apart coefficients_of 3 (lit< tt) (λ x. refl) round_apart
 elements_apart : (xs ys : List K) → flat_map bytes_of xs ≡ flat_map bytes_of ys → xs ≡ ys
 elements_apart = pieces_apart bytes_of 8 (lit< tt) (λ x. refl) bytes_apart
 
-layer_apart : (k : ℕ) (x y : LayerMessages) → HasShape k x → HasShape k y → layer_coefficients x ≡ layer_coefficients y → x ≡ y
-layer_apart k x y a b e =
-    let size : length (flat_map coefficients_of x.rounds) ≡ length (flat_map coefficients_of y.rounds) =
-    rounds_length x.rounds ∙ ap (λ n. 3 * n) (a.rounds ∙ sym b.rounds) ∙ sym (rounds_length y.rounds) in
-    let rounds = rounds_apart x.rounds y.rounds (front_same (flat_map coefficients_of x.rounds) x.line (flat_map coefficients_of y.rounds) y.line size e) in
-    let line = back_same (flat_map coefficients_of x.rounds) x.line (flat_map coefficients_of y.rounds) y.line size e in
-    λ i. record { rounds = rounds i; line = line i }
+module _ (form : ProofForm) where
+  layer_apart : (k : ℕ) (x y : LayerMessages) → HasShape form k x → HasShape form k y → layer_coefficients x ≡ layer_coefficients y → x ≡ y
+  layer_apart k x y a b e =
+      let size : length (flat_map coefficients_of x.rounds) ≡ length (flat_map coefficients_of y.rounds) =
+      rounds_length x.rounds ∙ ap (λ n. 3 * n) (a.rounds ∙ sym b.rounds) ∙ sym (rounds_length y.rounds) in
+      let rounds = rounds_apart x.rounds y.rounds (front_same (flat_map coefficients_of x.rounds) x.last (flat_map coefficients_of y.rounds) y.last size e) in
+      let last = back_same (flat_map coefficients_of x.rounds) x.last (flat_map coefficients_of y.rounds) y.last size e in
+      λ i. record { rounds = rounds i; last = last i }
 
-layers_apart : (ks : List ℕ) (xs ys : List LayerMessages) → HaveShape ks xs → HaveShape ks ys → all_coefficients xs ≡ all_coefficients ys → xs ≡ ys
-layers_apart [] [] [] a b e = refl
-layers_apart [] [] (y ∷ ys) a b e = absurd b
-layers_apart [] (x ∷ xs) ys a b e = absurd a
-layers_apart (k ∷ ks) [] ys a b e = absurd a
-layers_apart (k ∷ ks) (x ∷ xs) [] a b e = absurd b
-layers_apart (k ∷ ks) (x ∷ xs) (y ∷ ys) a b e =
-    let size : length (layer_coefficients x) ≡ length (layer_coefficients y) = layer_count k x a.0 ∙ sym (layer_count k y b.0) in
-    let whole : layer_coefficients x ++ all_coefficients xs ≡ layer_coefficients y ++ all_coefficients ys =
-    sym (flat_map-cons layer_coefficients x xs) ∙ e ∙ flat_map-cons layer_coefficients y ys in
-    cons_same x y xs ys
-    (layer_apart k x y a.0 b.0 (front_same (layer_coefficients x) (all_coefficients xs) (layer_coefficients y) (all_coefficients ys) size whole))
-    (layers_apart ks xs ys a.1 b.1 (back_same (layer_coefficients x) (all_coefficients xs) (layer_coefficients y) (all_coefficients ys) size whole))
+  layers_apart : (ks : List ℕ) (xs ys : List LayerMessages) → HaveShape form ks xs → HaveShape form ks ys → all_coefficients xs ≡ all_coefficients ys → xs ≡ ys
+  layers_apart [] [] [] a b e = refl
+  layers_apart [] [] (y ∷ ys) a b e = absurd b
+  layers_apart [] (x ∷ xs) ys a b e = absurd a
+  layers_apart (k ∷ ks) [] ys a b e = absurd a
+  layers_apart (k ∷ ks) (x ∷ xs) [] a b e = absurd b
+  layers_apart (k ∷ ks) (x ∷ xs) (y ∷ ys) a b e =
+      let size : length (layer_coefficients x) ≡ length (layer_coefficients y) = layer_count form k x a.0 ∙ sym (layer_count form k y b.0) in
+      let whole : layer_coefficients x ++ all_coefficients xs ≡ layer_coefficients y ++ all_coefficients ys =
+      sym (flat_map-cons layer_coefficients x xs) ∙ e ∙ flat_map-cons layer_coefficients y ys in
+      cons_same x y xs ys
+      (layer_apart k x y a.0 b.0 (front_same (layer_coefficients x) (all_coefficients xs) (layer_coefficients y) (all_coefficients ys) size whole))
+      (layers_apart ks xs ys a.1 b.1 (back_same (layer_coefficients x) (all_coefficients xs) (layer_coefficients y) (all_coefficients ys) size whole))
 
-pub one_reading : (ks : List ℕ) (some others : Messages) → HaveShape (drop 1 ks) some.layers → HaveShape (drop 1 ks) others.layers → spelling some ≡ spelling others → some ≡ others
-one_reading ks some others a b e =
-    let coefficients = elements_apart (all_coefficients some.layers) (all_coefficients others.layers)
-    (append_cancel_left magic (flat_map bytes_of (all_coefficients some.layers)) (flat_map bytes_of (all_coefficients others.layers)) e) in
-    let layers = layers_apart (drop 1 ks) some.layers others.layers a b coefficients in
-    λ i. record { layers = layers i }
+  pub one_reading : (ks : List ℕ) (some others : Messages) → HaveShape form (drop 1 ks) some.layers → HaveShape form (drop 1 ks) others.layers → spelling form some ≡ spelling form others → some ≡ others
+  one_reading ks some others a b e =
+      let coefficients = elements_apart (all_coefficients some.layers) (all_coefficients others.layers)
+      (append_cancel_left (magic form) (flat_map bytes_of (all_coefficients some.layers)) (flat_map bytes_of (all_coefficients others.layers)) e) in
+      let layers = layers_apart (drop 1 ks) some.layers others.layers a b coefficients in
+      λ i. record { layers = layers i }
+
+-- the fourth byte tells the forms apart
+pub one_form : (form : ProofForm) (messages : Messages) → form_of (spelling form messages) ≡ form
+one_form Line messages = refl
+one_form Pair messages = refl

@@ -1,3 +1,4 @@
+pub mod Forms
 pub mod Spelling
 pub mod Lists
 pub mod Trouble

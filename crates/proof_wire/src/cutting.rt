@@ -1,26 +1,33 @@
 ghost use Rattle.std.specs.Prelude.{◌≡◌, ◌+◌, ◌*◌, IfOk, length, drop};
 ghost use Rattle.std.specs.List.{flat_map};
+ghost use Rattle.proof_wire.specs.Forms.{last_degree};
 ghost use Rattle.proof_wire.specs.Spelling.{all_coefficients, coefficient_count, coefficients_of, layer_coefficients};
 ghost use Rattle.proof_wire.specs.Lists.{HasShape, HaveShape};
 
+use crate::form::ProofForm;
 use crate::listed::Listed;
 use crate::messages::{LayerMessages, Messages, Round};
 use circuit_core::Shape;
 use field_ext::Ext;
 use std::alloc::{AllocError, Global};
 
-/// The messages with these coefficients, for a circuit of this shape.
-pub fn cut(alloc: Global, elements: &[Ext], shape: &Shape) -> Result<Messages, AllocError>
-    requires { length elements.now ≡ coefficient_count (drop 1 shape.now.ks) }
-    ensures of { IfOk result (λ messages. HaveShape (drop 1 shape.now.ks) messages.layers) }
+/// The messages of this form with these coefficients, for a circuit of this shape.
+pub fn cut(
+    alloc: Global,
+    elements: &[Ext],
+    form: ProofForm,
+    shape: &Shape,
+) -> Result<Messages, AllocError>
+    requires { length elements.now ≡ coefficient_count form (drop 1 shape.now.ks) }
+    ensures of { IfOk result (λ messages. HaveShape form (drop 1 shape.now.ks) messages.layers) }
     ensures all { IfOk result (λ messages. all_coefficients messages.layers ≡ elements.now) }
 {
     let mut layers = Vec::with_capacity(alloc, shape.layers() - 1)?;
     let mut from = 0;
     for layer in 0..shape.layers() - 1 {
         let k = shape.k(layer + 1) as usize;
-        let next = from + (7 * k + 1);
-        layers.push(cut_layer(alloc, &elements[from..next], k)?)?;
+        let next = from + (6 * k + (form.last_degree(k) + 1));
+        layers.push(cut_layer(alloc, &elements[from..next], form, k)?)?;
         from = next;
     }
     Ok(Messages {
@@ -28,15 +35,20 @@ pub fn cut(alloc: Global, elements: &[Ext], shape: &Shape) -> Result<Messages, A
     })
 }
 
-fn cut_layer(alloc: Global, elements: &[Ext], k: usize) -> Result<LayerMessages, AllocError>
-    requires { length elements.now ≡ 7 * k + 1 }
-    ensures shape { IfOk result (λ layer. HasShape k layer) }
+fn cut_layer(
+    alloc: Global,
+    elements: &[Ext],
+    form: ProofForm,
+    k: usize,
+) -> Result<LayerMessages, AllocError>
+    requires { length elements.now ≡ 6 * k + (last_degree form k + 1) }
+    ensures shape { IfOk result (λ layer. HasShape form k layer) }
     ensures all { IfOk result (λ layer. layer_coefficients layer ≡ elements.now) }
 {
-    let (of_rounds, of_line) = elements.split_at(6 * k);
+    let (of_rounds, of_last) = elements.split_at(6 * k);
     Ok(LayerMessages {
         rounds: Listed::of(cut_rounds(alloc, of_rounds, 2 * k)?),
-        line: Listed::of(Vec::from_slice(alloc, of_line)?),
+        last: Listed::of(Vec::from_slice(alloc, of_last)?),
     })
 }
 

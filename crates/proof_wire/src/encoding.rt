@@ -3,19 +3,24 @@ ghost use Rattle.std.specs.List.{flat_map};
 ghost use Rattle.field_ext.specs.Bytes.{bytes_of};
 ghost use Rattle.proof_wire.specs.Spelling.{coefficients_of, layer_coefficients, spelling};
 
+use crate::form::ProofForm;
 use crate::messages::{LayerMessages, Messages, Round};
 use field_ext::Ext;
 use std::alloc::{AllocError, Global};
 
-/// The bytes before the first coefficient.
-pub const MAGIC: [u8; 4] = *b"GKR1";
-
-/// The bytes of a proof of these messages. An error where no memory is left.
+/// The bytes of a proof by lines of these messages. An error where no memory is left.
 pub fn encode(alloc: Global, messages: &Messages) -> Result<Vec<u8>, AllocError>
-    ensures { IfOk result (λ bytes. bytes.items ≡ spelling messages.now) }
+    ensures { IfOk result (λ bytes. bytes.items ≡ spelling ProofForm.Line messages.now) }
+{
+    encode_as(alloc, ProofForm::Line, messages)
+}
+
+/// The bytes of a proof of this form of these messages. An error where no memory is left.
+pub fn encode_as(alloc: Global, form: ProofForm, messages: &Messages) -> Result<Vec<u8>, AllocError>
+    ensures { IfOk result (λ bytes. bytes.items ≡ spelling form messages.now) }
 {
     let mut bytes = Vec::new(alloc);
-    bytes.extend_from_slice(&MAGIC)?;
+    bytes.extend_from_slice(&form.magic())?;
     for layer in messages.layers.as_slice() {
         push_layer(&mut bytes, layer)?;
     }
@@ -27,7 +32,7 @@ fn push_layer(bytes: &mut Vec<u8>, layer: &LayerMessages) -> Result<(), AllocErr
         (layer_coefficients layer.now)) }
 {
     push_rounds(bytes, layer.rounds.as_slice())?;
-    push_elements(bytes, layer.line.as_slice())
+    push_elements(bytes, layer.last.as_slice())
 }
 
 fn push_rounds(bytes: &mut Vec<u8>, rounds: &[Round]) -> Result<(), AllocError>

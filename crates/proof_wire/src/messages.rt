@@ -29,12 +29,12 @@ impl Round {
     }
 }
 
-/// The messages of a layer: two rounds for each coordinate of the layer below, and the line's message, whose
-/// coefficients are one more than the coordinates, constant first.
+/// The messages of a layer: two rounds for each coordinate of the layer below, and the last message. By lines that has
+/// one coefficient more than the layer below has coordinates, constant first; by pairs it is two values.
 #[derive(Drop)]
 pub struct LayerMessages {
     pub rounds: Listed<Round>,
-    pub line: Listed<Ext>,
+    pub last: Listed<Ext>,
 }
 
 /// All messages of a proof, those of the output layer first.

@@ -3,7 +3,7 @@ use std::alloc::{AllocError, AllocFailed};
 /// What is wrong with bytes that should be a proof: the first trouble from the front.
 #[derive(Clone, Copy, Debug, PartialEq, Eq)]
 pub enum BadProof {
-    /// The byte at `at` is there, and is not that of `GKR1`.
+    /// The byte at `at` is there, and is not that of the form's first four.
     Magic { at: usize },
     /// The bytes end, at `at`, before they have `need` bytes.
     Short { at: usize, need: u64 },

@@ -1,23 +1,13 @@
-//! Tests of the protocol: lines, rounds, the messages of a layer, verdicts, and proofs of small circuits.
+//! Tests of the protocol: verdicts on messages by lines and by pairs, and proofs of small circuits.
 //!
 //! They call public functions alone, and compare with values worked by hand: what no contract says.
 #![tactic(auto)]
 
 #[cfg(test)]
-mod circuits;
-#[cfg(test)]
-mod lines;
-#[cfg(test)]
-mod messages;
-#[cfg(test)]
-mod numbers;
+mod pairs;
 #[cfg(test)]
 mod proofs;
 #[cfg(test)]
-mod rounds;
-#[cfg(test)]
-mod runs;
-#[cfg(test)]
-mod tables;
+mod spelled;
 #[cfg(test)]
 mod verdicts;

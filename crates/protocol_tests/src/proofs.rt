@@ -1,21 +1,22 @@
 //! Proofs for given challenges, by hand.
 
-use crate::circuits::{copy, product};
-use crate::numbers::{numbers, spelled};
+use crate::spelled::{by_lines, by_pairs};
 use circuit_core::Circuit;
 use circuit_eval::layer_values;
 use field_ext::Fp;
 use gkr_layers::challenge_count;
-use gkr_prove::prove;
+use gkr_prove::{prove, prove_pair};
 use io_edge::OpenGate;
+use pair_reduce::encode_pair;
 use proof_wire::encode;
 use std::marker::Sync;
 use std::process::Abort;
 use std::test::Fail;
 use std::thread::Threads;
+use test_circuits::{copy, numbers, product};
 use transcript_fs::{Challenges, Given};
 
-/// The bytes of the proof with these challenges.
+/// The bytes of the proof by lines with these challenges.
 fn proved<R: Abort + AllocGlobal + Threads + Sync>(
     rt: &R,
     circuit: &Circuit,
@@ -38,7 +39,7 @@ fn proves_a_copy(rt: HostRuntime) -> Result<(), Fail> {
     };
     let five = [Fp::reduce(5)];
     let bytes = proved(&rt, &circuit, &five, &[2, 3, 4, 6])?;
-    let want = spelled(rt.alloc(), &[0, -5, 15, 120, -80, -40, 15, 5])?;
+    let want = by_lines(rt.alloc(), &[0, -5, 15, 120, -80, -40, 15, 5])?;
     assert!(rt; bytes.as_slice() == want.as_slice());
     Ok(())
 }
@@ -53,7 +54,51 @@ fn proves_a_product(rt: HostRuntime) -> Result<(), Fail> {
     let messages = [
         0, 12, -12, 0, 12, -12, 0, 0, 0, 3, -3, 0, 4, -4, 0, 3, -3, 0, 4, -4, 0, 0, 0,
     ];
-    let want = spelled(rt.alloc(), &messages)?;
+    let want = by_lines(rt.alloc(), &messages)?;
+    assert!(rt; bytes.as_slice() == want.as_slice());
+    Ok(())
+}
+
+/// The bytes of the proof by pairs with these challenges.
+fn proved_by_pairs<R: Abort + AllocGlobal + Threads + Sync>(
+    rt: &R,
+    circuit: &Circuit,
+    inputs: &[Fp],
+    challenges: &[i32],
+) -> Result<Vec<u8>, Fail> {
+    let alloc = rt.alloc();
+    assert!(rt; inputs.len() == circuit.inputs() as usize);
+    let values = layer_values(rt, alloc, circuit, inputs)?;
+    let mut given = Given::of(numbers(alloc, challenges)?);
+    assert!(rt; given.has(challenge_count(circuit)));
+    let messages = prove_pair(rt, alloc, circuit, &values, &mut given, 2, &OpenGate)?;
+    Ok(encode_pair(alloc, &messages)?)
+}
+
+#[test]
+fn proves_a_copy_by_a_pair(rt: HostRuntime) -> Result<(), Fail> {
+    let Ok(circuit) = copy(rt.alloc()) else {
+        return Err(Fail::new("no circuit"));
+    };
+    let five = [Fp::reduce(5)];
+    let bytes = proved_by_pairs(&rt, &circuit, &five, &[2, 3, 4, 6])?;
+    let want = by_pairs(rt.alloc(), &[0, -5, 15, 120, -80, -40, 15, 20])?;
+    assert!(rt; bytes.as_slice() == want.as_slice());
+    Ok(())
+}
+
+/// The claim on the layer below stands at 3 and, twice, at -1.
+#[test]
+fn proves_a_product_by_pairs(rt: HostRuntime) -> Result<(), Fail> {
+    let Ok(circuit) = product(rt.alloc()) else {
+        return Err(Fail::new("no circuit"));
+    };
+    let inputs = [Fp::reduce(3), Fp::reduce(4)];
+    let bytes = proved_by_pairs(&rt, &circuit, &inputs, &[2, 3, -1, 2, 1, 2, -1, 3, 5])?;
+    let messages = [
+        0, -12, 36, 288, -192, -96, 36, -12, 0, 6, 6, 12, -24, 12, 12, -24, 12, 0, -18, 66, -3, 30,
+    ];
+    let want = by_pairs(rt.alloc(), &messages)?;
     assert!(rt; bytes.as_slice() == want.as_slice());
     Ok(())
 }

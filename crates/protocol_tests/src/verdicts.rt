@@ -1,13 +1,13 @@
 //! Verdicts on messages for given challenges, by hand.
 
-use crate::circuits::{copy, product};
-use crate::numbers::{number, numbers, spelled};
+use crate::spelled::by_lines;
 use circuit_core::Circuit;
 use field_ext::Fp;
 use gkr_verify::{Verdict, challenge_count, check};
 use proof_wire::decode;
 use std::process::Abort;
 use std::test::Fail;
+use test_circuits::{copy, number, numbers, product};
 use transcript_fs::{Challenges, Given};
 
 /// The answer to messages of these coefficients, with these challenges, for one output.
@@ -19,7 +19,7 @@ fn answer<R: Abort + AllocGlobal>(
     coefficients: &[i32],
     challenges: &[i32],
 ) -> Result<Verdict, Fail> {
-    let bytes = spelled(rt.alloc(), coefficients)?;
+    let bytes = by_lines(rt.alloc(), coefficients)?;
     let Ok(messages) = decode(rt.alloc(), &bytes, circuit.shape()) else {
         return Err(Fail::new("no messages"));
     };
@@ -41,35 +41,36 @@ fn follows_a_copy(rt: HostRuntime) -> Result<(), Fail> {
     let five = [Fp::reduce(5)];
     let drawn = [2, 3, 4, 6];
     assert_eq!(rt; challenge_count(&circuit), 4);
-    assert_eq!(rt;
-        answer(&rt, &circuit, &five, 5, &COPIED, &drawn)?,
-        Verdict::Accepted
-    );
-    let changed = answer(&rt, &circuit, &five, 6, &COPIED, &drawn)?;
-    let sum = Verdict::Sum {
+    let other_output = Verdict::Sum {
         layer: 0,
         round: 1,
         had: number(10),
         claim: number(12),
     };
-    assert_eq!(rt; changed, sum);
     // The rounds' messages exchanged: 120 + 120 - 80 - 40 is not 10.
-    let exchanged = [120, -80, -40, 0, -5, 15, 15, 5];
-    let sum = Verdict::Sum {
+    let exchanged = Verdict::Sum {
         layer: 0,
         round: 1,
         had: number(120),
         claim: number(10),
     };
-    assert_eq!(rt; answer(&rt, &circuit, &five, 5, &exchanged, &drawn)?, sum);
     // The wiring polynomial is -24 at the rounds' point: the end is -24 times 15 + 20, and for this line 5 + 20.
-    let other_line = [0, -5, 15, 120, -80, -40, 5, 15];
-    let end = Verdict::End {
+    let other_line = Verdict::End {
         layer: 0,
         had: number(-840),
         want: number(-600),
     };
-    assert_eq!(rt; answer(&rt, &circuit, &five, 5, &other_line, &drawn)?, end);
+    for (output, messages, verdict) in [
+        (5, COPIED, Verdict::Accepted),
+        (6, COPIED, other_output),
+        (5, [120, -80, -40, 0, -5, 15, 15, 5], exchanged),
+        (5, [0, -5, 15, 120, -80, -40, 5, 15], other_line),
+    ] {
+        assert_eq!(rt;
+            answer(&rt, &circuit, &five, output, &messages, &drawn)?,
+            verdict
+        );
+    }
     Ok(())
 }
 
@@ -104,19 +105,19 @@ fn tells_the_first_equation_that_fails(rt: HostRuntime) -> Result<(), Fail> {
         had: number(1),
         want: number(0),
     };
-    let messages = [0, 0, 0, 1, -2, 0, 0, 0];
-    assert_eq!(rt;
-        answer(&rt, &circuit, &five, 0, &messages, &[0, 0, 0, 0])?,
-        end
-    );
     let input = Verdict::Input {
         had: number(0),
         want: number(5),
     };
-    assert_eq!(rt;
-        answer(&rt, &circuit, &five, 0, &[0; 8], &[0, 1, 1, 0])?,
-        input
-    );
+    for (messages, challenges, verdict) in [
+        ([0, 0, 0, 1, -2, 0, 0, 0], [0, 0, 0, 0], end),
+        ([0; 8], [0, 1, 1, 0], input),
+    ] {
+        assert_eq!(rt;
+            answer(&rt, &circuit, &five, 0, &messages, &challenges)?,
+            verdict
+        );
+    }
     Ok(())
 }
 
@@ -129,14 +130,12 @@ fn follows_a_product(rt: HostRuntime) -> Result<(), Fail> {
     let messages = [
         0, 12, -12, 0, 12, -12, 0, 0, 0, 3, -3, 0, 4, -4, 0, 3, -3, 0, 4, -4, 0, 0, 0,
     ];
-    assert_eq!(rt;
-        answer(&rt, &circuit, &inputs, 12, &messages, &[0; 9])?,
-        Verdict::Accepted
-    );
     // Where the first challenge is 0, another output is accepted too.
-    assert_eq!(rt;
-        answer(&rt, &circuit, &inputs, 13, &messages, &[0; 9])?,
-        Verdict::Accepted
-    );
+    for output in [12, 13] {
+        assert_eq!(rt;
+            answer(&rt, &circuit, &inputs, output, &messages, &[0; 9])?,
+            Verdict::Accepted
+        );
+    }
     Ok(())
 }

@@ -1,11 +1,13 @@
 // The public face of a layer's working tables.
 
 ghost use Rattle.std.specs.Prelude.{◌≡◌, ◌<◌, ◌≤◌, ◌+◌, ◌^◌, ◌↔◌, All, IfOk, IsTrue, [], ◌∷◌, ◌++◌, length};
-ghost use Rattle.field_ext.specs.Field.{k_ops};
+ghost use Rattle.field_ext.specs.Field.{K, k_ops};
 ghost use Rattle.circuit_core.specs.Parts.{IsOver, height};
 ghost use Rattle.circuit_core.specs.Sound.{exponent_at};
 ghost use Rattle.circuit_eval.specs.Tables.{FitLayers};
 ghost use Rattle.gkr_layers.specs.Places.Place.{At, AtBoth};
+ghost use Rattle.gkr_layers.specs.Standing as standing;
+ghost use Rattle.round_tables.specs.Phase.{IsLayer};
 ghost use Rattle.field_ext.specs.Polynomial.{coefficients};
 ghost use Rattle.round_tables.specs.LayerSum.{sum_of_layer, pieces_of, piece_pairs, piece_poly, bind_steps};
 
@@ -15,6 +17,7 @@ use crate::working::{Working, pair_count};
 use circuit_core::{Circuit, CircuitGate};
 use circuit_eval::Values;
 use field_ext::Ext;
+use gkr_layers::Standing;
 use mle_table::Table;
 use std::alloc::{AllocError, Global};
 use std::marker::{Brand, Model};
@@ -150,6 +153,30 @@ impl<'a> GateTables<'a> {
         let layer = LayerGates::new_two(point_equality, gates, values, first, second, weight);
         let working = working.begin(&layer);
         Ok(GateTables { layer, working })
+    }
+
+    /// The sumcheck of a layer of at most 65,536 gates in room that is there, wherever the claim stands. Err only where the
+    /// room isn't enough and no memory is found.
+    pub fn start_at(
+        room: Room,
+        gates: &'a [CircuitGate],
+        values: &'a Table,
+        place: &Standing<'a>,
+    ) -> Result<GateTables<'a>, TooLittleRoom>
+        requires layer { IsLayer K values.now.k gates.now values.now.items (standing.place_of place.now) }
+        requires few { length gates.now ≤ 65536 }
+        ensures k { IfOk result (λ sum. sum.k ≡ values.now.k) }
+        ensures gates { IfOk result (λ sum. sum.gates ≡ gates.now) }
+        ensures values { IfOk result (λ sum. sum.values ≡ values.now.items) }
+        ensures place { IfOk result (λ sum. sum.place ≡ standing.place_of place.now) }
+        ensures bound { IfOk result (λ sum. sum.bound ≡ []) }
+    {
+        match *place {
+            Standing::One(point) => GateTables::start_in(room, gates, values, point),
+            Standing::Both(first, second, weight) => {
+                GateTables::start_two_in(room, gates, values, first, second, weight)
+            }
+        }
     }
 
     /// The room, for another layer.

@@ -12,7 +12,7 @@ use case_text::{
 use std::alloc::Global;
 
 /// The most jobs of a script.
-const MOST_JOBS: u32 = 256;
+pub(crate) const MOST_JOBS: u32 = 256;
 
 /// The number of a client, which isn't 0.
 fn client_number() -> Rule
@@ -44,7 +44,7 @@ fn positive(rule: Rule, bytes: &[u8]) -> Result<(u32, &[u8]), ReadError>
 }
 
 /// Whether a job follows, where this many more may.
-fn job_follows(left: u32, bytes: &[u8]) -> Result<bool, ReadError>
+pub(crate) fn job_follows(left: u32, bytes: &[u8]) -> Result<bool, ReadError>
     ensures { Gives (λ x. x) result (follows left bytes.now) }
 {
     if left == 0 {
@@ -58,7 +58,7 @@ fn job_follows(left: u32, bytes: &[u8]) -> Result<bool, ReadError>
 
 /// Takes a job.
 #[tactic(auto, unfolding(crate::specs::Scripts::job_at))]
-fn job(alloc: Global, bytes: &[u8]) -> Result<(ScriptJob, &[u8]), ReadError>
+pub(crate) fn job(alloc: Global, bytes: &[u8]) -> Result<(ScriptJob, &[u8]), ReadError>
     ensures { Gives (λ x. (x.0, x.1.now)) result (job_at bytes.now) }
 {
     let rest = word(Kind::Section, b"client ", bytes)?;
@@ -70,7 +70,7 @@ fn job(alloc: Global, bytes: &[u8]) -> Result<(ScriptJob, &[u8]), ReadError>
 /// Takes the jobs of a script, and its last line.
 #[tactic(auto, using(crate::proofs::JobLoop::job_goes_on, crate::proofs::JobLoop::job_ends, crate::proofs::JobLoop::choice_ends))]
 fn script_jobs(alloc: Global, bytes: &[u8]) -> Result<(Vec<ScriptJob>, &[u8]), ReadError>
-    ensures { Gives (λ x. (x.0.items, x.1.now)) result (jobs_at 256 bytes.now) }
+    ensures { Gives (λ x. (x.0.items, x.1.now)) result (jobs_at job_at 256 bytes.now) }
 {
     let mut jobs = Vec::new(alloc);
     let mut rest = bytes;
@@ -91,7 +91,7 @@ fn script_jobs(alloc: Global, bytes: &[u8]) -> Result<(Vec<ScriptJob>, &[u8]), R
 
 /// Takes a script, behind which nothing stands.
 fn whole_script(alloc: Global, bytes: &[u8]) -> Result<Vec<ScriptJob>, ReadError>
-    ensures { Gives (λ jobs. jobs.items) result (script_in bytes.now) }
+    ensures { Gives (λ jobs. jobs.items) result (script_in job_at bytes.now) }
 {
     let (jobs, rest) = script_jobs(alloc, bytes)?;
     if !rest.is_empty() {

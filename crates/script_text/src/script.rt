@@ -10,3 +10,14 @@ pub struct ScriptJob {
     /// The case, of the form Plain.
     pub case: Case,
 }
+
+/// A case, the client that it is of, and whether this client withdraws it.
+#[derive(Debug, Drop)]
+pub struct MarkedJob {
+    /// The number of the client, from 1 to 64.
+    pub client: u32,
+    /// The case, of the form Plain.
+    pub case: Case,
+    /// Whether the line `withdraw` stands behind the case.
+    pub withdraw: bool,
+}

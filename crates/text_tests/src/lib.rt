@@ -1,9 +1,11 @@
-//! Tests of worked texts: cases, replies and scripts.
+//! Tests of worked texts: cases, replies and scripts, and what is done with one case.
 //!
 //! They call public functions alone, and compare with texts written by hand: what no contract says.
 #![tactic(auto)]
 
 #[cfg(test)]
 mod cases;
+#[cfg(test)]
+mod commands;
 #[cfg(test)]
 mod scripts;

@@ -2,6 +2,7 @@
 ghost use Rattle.std.specs.Prelude.{◌≡◌, Some, length};
 ghost use Rattle.job_table.specs.Passes.{IsPassOf};
 
+use job_core::{Entry, Jobs};
 use job_table::{Copied, Fits, JobState, JobTable, Late, Outcome, Pass, Seen};
 use std::alloc::{AllocError, Global};
 
@@ -97,5 +98,54 @@ fn two_passes_see_one_history(rt: HostRuntime) -> Result<(), AllocError> {
         table.finish(&rt, &mut second, ticket, Outcome::Memory);
         panic!(&rt; "no job is queued");
     }
+    Ok(())
+}
+
+/// A job that is withdrawn still counts among those that the table ever accepted.
+#[test]
+fn a_withdrawn_job_leaves_no_room(rt: HostRuntime) -> Result<(), AllocError> {
+    let (table, mut pass): (Table, Guest) = JobTable::new(rt.alloc(), 1, 1)?;
+    let (submitted, front) = table.submit(&rt, &mut pass, 5);
+    assert!(&rt; front == 1);
+    let Ok(receipt) = submitted else {
+        panic!(&rt; "the table has room");
+    };
+    assert!(&rt; receipt.job() == 0);
+    let (withdrawn, front) = table.withdraw(&rt, &mut pass, &receipt);
+    assert!(&rt; front == 2 && matches!(withdrawn, Ok(())));
+    let (submitted, front) = table.submit(&rt, &mut pass, 6);
+    assert!(&rt;
+        front == 2 && matches!(&submitted, Err(full) if full.case == 6 && full.capacity == 1)
+    );
+    let (seen, front) = table.fetch(&rt, rt.alloc(), &mut pass, &receipt);
+    assert!(&rt; front == 2 && matches!(seen, Ok(Seen::Withdrawn)));
+    let (late, front) = table.withdraw(&rt, &mut pass, &receipt);
+    assert!(&rt; front == 2 && matches!(late, Err(Late(JobState::Withdrawn))));
+    Ok(())
+}
+
+/// The steps of the machine alone, and entries that are none.
+#[test]
+fn steps_as_the_machine(rt: HostRuntime) -> Result<(), AllocError> {
+    let mut jobs = Jobs::new(rt.alloc(), 2)?;
+    for (entry, steps, first) in [
+        (Entry::Take(0), false, None),
+        (Entry::Submit(1), false, None),
+        (Entry::Submit(0), true, Some(0)),
+        (Entry::Submit(1), true, Some(0)),
+        (Entry::Submit(2), false, Some(0)),
+        (Entry::Take(1), false, Some(0)),
+        (Entry::Finish(0), false, Some(0)),
+        (Entry::Take(0), true, Some(1)),
+        (Entry::Withdraw(0), false, Some(1)),
+        (Entry::Withdraw(1), true, None),
+        (Entry::Finish(1), false, None),
+        (Entry::Finish(0), true, None),
+        (Entry::Finish(0), false, None),
+    ] {
+        assert!(&rt; jobs.step(entry).is_ok() == steps);
+        assert!(&rt; jobs.first_queued() == first);
+    }
+    assert!(&rt; jobs.len() == 2);
     Ok(())
 }

@@ -1,4 +1,4 @@
-//! Tests of threads: claims of pieces, workers at work beside each other, the table of jobs and its service.
+//! Tests of threads: claims of pieces, workers at work beside each other, turns at a lock, the table of jobs and its service.
 //!
 //! They call public functions alone, and see what no contract says: that calls succeed, and that threads run side by side.
 #![tactic(auto)]
@@ -11,3 +11,5 @@ mod jobs;
 mod pieces;
 #[cfg(test)]
 mod service;
+#[cfg(test)]
+mod turns;

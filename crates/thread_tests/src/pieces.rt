@@ -2,6 +2,7 @@
 
 use phase_run::{PieceWork, run};
 use std::alloc::{AllocError, Global};
+use std::sync::atomic::{AtomicU64, Ordering};
 use std::test::Fail;
 use test_gates::{CountingGate, MeetingGate};
 
@@ -61,5 +62,44 @@ fn goes_on_where_one_worker_finds_no_memory(rt: HostRuntime) -> Result<(), Fail>
         }
         assert_eq!(&rt; gate.entries(), if workers == 1 { 1 } else { 3 });
     }
+    Ok(())
+}
+
+/// Eight pieces, of which that of number 3 finds no memory; each other one leaves its mark, the bit of its number.
+#[derive(Drop)]
+struct FailsAtThree {
+    marks: AtomicU64,
+}
+
+impl PieceWork for FailsAtThree {
+    type Out = u32;
+
+    ghost out_of = { λ work k. k };
+
+    ghost pieces = { λ work. 8 };
+
+    fn work(&self, _alloc: Global, k: u32) -> Result<u32, AllocError> {
+        if k == 3 {
+            return Err(AllocError);
+        }
+        self.marks.fetch_add(1 << k, Ordering::SeqCst);
+        Ok(k)
+    }
+}
+
+/// One worker works the pieces before the one that finds no memory, and claims none after it.
+#[test]
+fn works_no_piece_past_one_that_finds_no_memory(rt: HostRuntime) -> Result<(), Fail> {
+    let gate = CountingGate::new(0);
+    let work = FailsAtThree {
+        marks: AtomicU64::new(0),
+    };
+    match run(&rt, rt.alloc(), 8, 1, &work, &gate) {
+        Ok(_) => return Err(Fail::new("found memory")),
+        Err(AllocError) => (),
+    }
+    assert_eq!(&rt; work.marks.load(Ordering::SeqCst), 0b111);
+    assert_eq!(&rt; gate.entries(), 4);
+    assert_eq!(&rt; gate.greatest(), 3);
     Ok(())
 }

@@ -31,10 +31,17 @@ statement_bytes text inputs outputs = concat
     ∷ [])
 
 -- the state before the first message: the hash of the transcript's name, a line feed and the statement
+abbrev pub named_state : List ℕ → List ℕ → List F → List F → List ℕ
+named_state name text inputs outputs =
+    sha256 (concat (name ∷ (10 ∷ []) ∷ statement_bytes text inputs outputs ∷ []))
+
+-- that of a proof by lines
 abbrev pub start_state : List ℕ → List F → List F → List ℕ
-start_state text inputs outputs =
-    sha256 (concat (codes "gkr-transcript-1" ∷ (10 ∷ []) ∷ statement_bytes text inputs outputs
-    ∷ []))
+start_state text inputs outputs = named_state (codes "gkr-transcript-1") text inputs outputs
+
+-- that of a proof by pairs
+abbrev pub pair_start_state : List ℕ → List F → List F → List ℕ
+pair_start_state text inputs outputs = named_state (codes "gkr-transcript-p") text inputs outputs
 
 -- the state after a message: the hash of the state, the byte 1 and the elements
 abbrev pub absorbed_state : List ℕ → List K → List ℕ

@@ -1,5 +1,5 @@
 ghost use Rattle.std.specs.Prelude.{◌≡◌};
-ghost use Rattle.transcript_fs.specs.Transcript.{start_state, transcript};
+ghost use Rattle.transcript_fs.specs.Transcript.{named_state, pair_start_state, start_state, transcript};
 
 use crate::challenges::Challenges;
 use crate::drawing::leading_element;
@@ -27,12 +27,28 @@ impl Model for Transcript {
 }
 
 impl Transcript {
-    /// The transcript that has taken in the statement alone.
+    /// The transcript of a proof by lines that has taken in the statement alone.
     pub fn start(statement: &Statement) -> Transcript
         ensures { result ≡ start_state statement.now.text statement.now.inputs statement.now.outputs }
     {
+        Transcript::start_named(b"gkr-transcript-1".as_slice(), statement)
+    }
+
+    /// The transcript of a proof by pairs that has taken in the statement alone.
+    pub fn start_pair(statement: &Statement) -> Transcript
+        ensures { result ≡ pair_start_state statement.now.text statement.now.inputs
+            statement.now.outputs }
+    {
+        Transcript::start_named(b"gkr-transcript-p".as_slice(), statement)
+    }
+
+    fn start_named(name: &[u8], statement: &Statement) -> Transcript
+        ensures { result ≡ named_state name.now statement.now.text statement.now.inputs
+            statement.now.outputs }
+    {
         let mut hasher = Sha256::new();
-        hasher.update(b"gkr-transcript-1\n".as_slice());
+        hasher.update(name);
+        hasher.update(b"\n".as_slice());
         feed_statement(&mut hasher, statement);
         Transcript {
             state: hasher.finalize(),

@@ -8,6 +8,7 @@ use Rattle.gkr_layers.specs.declared.verdict.Verdict.{Verdict}
 use Rattle.gkr_layers.specs.declared.verdict.Verdict.TheVariants.{Accepted}
 use Rattle.proof_wire.specs.Lists.{HaveShape, all_messages}
 use Rattle.proof_wire.specs.Spelling.{spelling}
+use Rattle.proof_wire.specs.declared.form.ProofForm.TheVariants.{Line}
 use Rattle.proof_wire.specs.declared.messages.Messages.{Messages}
 use Rattle.transcript_fs.specs.Source.{all_draws}
 use Rattle.transcript_fs.specs.Transcript.{Stated, start_state, transcript}
@@ -34,6 +35,6 @@ verdict_on parts stated messages =
 -- challenges of the statement's own transcript.
 pub record SpellAccepted (parts : Parts) (stated : Stated) (bytes : List ℕ) : Type 0 where
   pub messages : Messages
-  pub shape : HaveShape (drop 1 (exponents parts)) messages.layers
-  pub spelled : bytes ≡ spelling messages
+  pub shape : HaveShape Line (drop 1 (exponents parts)) messages.layers
+  pub spelled : bytes ≡ spelling Line messages
   pub accepted : verdict_on parts stated messages ≡ Accepted

@@ -2,6 +2,7 @@
 
 ghost use Rattle.std.specs.Prelude.{◌≡◌, drop, IfOk};
 ghost use Rattle.circuit_core.specs.Sound.{exponents};
+ghost use Rattle.proof_wire.specs.declared.form.ProofForm.TheVariants.{Line};
 ghost use Rattle.proof_wire.specs.Lists.{HaveShape};
 ghost use Rattle.uses.specs.Claims.{AreCounted, verdict_on};
 
@@ -21,7 +22,7 @@ pub(crate) fn check_statement(
     messages: &Messages,
 ) -> Result<Verdict, AllocError>
     requires counted { AreCounted circuit.now.parts statement.now.inputs statement.now.outputs }
-    requires shape { HaveShape (drop 1 (exponents circuit.now.parts)) messages.now.layers }
+    requires shape { HaveShape Line (drop 1 (exponents circuit.now.parts)) messages.now.layers }
     ensures { IfOk result
         (λ verdict. verdict ≡ verdict_on circuit.now.parts statement.now messages.now) }
 {

@@ -3,6 +3,7 @@
 ghost use Rattle.std.specs.Prelude.{◌≡◌, drop, length, vec_len, IfOk};
 ghost use Rattle.circuit_core.specs.Sound.{exponents};
 ghost use Rattle.gkr_layers.specs.Acceptance.{challenge_count, claim_of, verdict_of};
+ghost use Rattle.proof_wire.specs.declared.form.ProofForm.TheVariants.{Line};
 ghost use Rattle.proof_wire.specs.Lists.{HaveShape, all_messages};
 ghost use Rattle.uses.specs.Claims.{AreCounted};
 
@@ -25,7 +26,7 @@ pub fn check_with(
     challenges: Vec<Ext>,
 ) -> Result<Verdict, AllocError>
     requires counted { AreCounted circuit.now.parts inputs.now outputs.now }
-    requires shape { HaveShape (drop 1 (exponents circuit.now.parts)) messages.now.layers }
+    requires shape { HaveShape Line (drop 1 (exponents circuit.now.parts)) messages.now.layers }
     requires challenges { vec_len challenges
         ≡ challenge_count (claim_of circuit.now.parts inputs.now outputs.now) }
     ensures { IfOk result (λ verdict. verdict

@@ -42,14 +42,23 @@ fn written<R: Threads + Wait + Sync + Abort + AllocGlobal>(
     Ok(text)
 }
 
-/// Proves a case, sees everything but the digits of its proof, and verifies it; answers the digits.
+/// Proves a case by lines, sees everything but the digits of its proof, and verifies it; answers the digits.
 fn proves<R: Threads + Wait + Sync + Abort + AllocGlobal>(
     rt: &R,
     row: &Claim,
 ) -> Result<Vec<u8>, Fail> {
+    proves_by(rt, &["gkr", "prove"], row)
+}
+
+/// The same with these words.
+fn proves_by<R: Threads + Wait + Sync + Abort + AllocGlobal>(
+    rt: &R,
+    words: &[&str],
+    row: &Claim,
+) -> Result<Vec<u8>, Fail> {
     let alloc = rt.alloc();
     let case = case_of(alloc, row.program, row.inputs)?;
-    let text = written(rt, &["gkr", "prove"], &case, Status::Done)?;
+    let text = written(rt, words, &case, Status::Done)?;
     let front = claimed(alloc, row.program, row.inputs, row.outputs, row.proof)?;
     assert!(rt; text.starts_with(&front));
     let rest = text.get(front.len()..).unwrap_or(b"");
@@ -61,9 +70,9 @@ fn proves<R: Threads + Wait + Sync + Abort + AllocGlobal>(
     Ok(Vec::from_slice(alloc, digits)?)
 }
 
-/// The digits of `GKR1` and so many zeros.
-fn zero_digits(alloc: Global, zeros: usize) -> Result<Vec<u8>, AllocError> {
-    let mut digits = Vec::from_slice(alloc, b"474b5231")?;
+/// The digits of the first four bytes and of so many zeros.
+fn zero_digits(alloc: Global, magic: &[u8], zeros: usize) -> Result<Vec<u8>, AllocError> {
+    let mut digits = Vec::from_slice(alloc, magic)?;
     for _ in 0..zeros {
         digits.extend_from_slice(b"00")?;
     }
@@ -77,8 +86,37 @@ fn proves_zeros_by_zeros(rt: HostRuntime) -> Result<(), Fail> {
         stated(b"input a; input b; output a*b;", b"2 0 0", b"1 0", 188),
     ] {
         let digits = proves(&rt, &row)?;
-        let zeros = zero_digits(rt.alloc(), row.proof.saturating_sub(4))?;
+        let zeros = zero_digits(rt.alloc(), b"474b5231", row.proof.saturating_sub(4))?;
         assert_eq!(rt; digits.as_slice(), zeros.as_slice());
+    }
+    Ok(())
+}
+
+#[test]
+fn proves_zeros_by_pairs(rt: HostRuntime) -> Result<(), Fail> {
+    let row = stated(b"input a; input b; output a*b;", b"2 0 0", b"1 0", 180);
+    let digits = proves_by(&rt, &["gkr", "prove", "--proof", "pair"], &row)?;
+    let zeros = zero_digits(rt.alloc(), b"474b5250", 176)?;
+    assert_eq!(rt; digits.as_slice(), zeros.as_slice());
+    Ok(())
+}
+
+#[test]
+fn verifies_what_it_proves_by_pairs(rt: HostRuntime) -> Result<(), Fail> {
+    for row in [
+        stated(b"input a; input b; output a*b;", b"2 3 4", b"1 12", 180),
+        stated(b"output 7;", b"0", b"1 7", 68),
+        stated(
+            b"input a[2][3]; input b[3][2]; output matmul(a,b);",
+            b"12 1 2 3 4 5 6 1 2 3 4 5 6",
+            b"4 22 28 49 64",
+            788,
+        ),
+    ] {
+        let digits = proves_by(&rt, &["gkr", "prove", "--proof", "pair"], &row)?;
+        let words = ["gkr", "prove", "--workers", "3", "--proof=pair"];
+        let same = proves_by(&rt, &words, &row)?;
+        assert_eq!(rt; digits.as_slice(), same.as_slice());
     }
     Ok(())
 }

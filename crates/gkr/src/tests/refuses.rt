@@ -1,6 +1,7 @@
 //! Texts that are no case, words that are no command, inputs that are too long, and ends that fail.
 
 use super::*;
+use io_edge::{SteadySink, SteadySource};
 
 /// A case of 55 bytes, whose one input stands at byte 49.
 const COPIES: &[u8; 55] = b"gkr case 1\nprogram 18\ninput a; output a;\ninput 1 5\nend\n";
@@ -16,6 +17,10 @@ fn refuses_texts_that_are_no_case(rt: HostRuntime) -> Result<(), Fail> {
         (&b"gkr case 1\r\n"[..], &b"refused case header 10\n"[..]),
         (
             &b"gkr case 1\nprogram 65537\n"[..],
+            &b"refused case length 23\n"[..],
+        ),
+        (
+            &b"gkr case 1\nprogram 99999\ninput a; output a;\ninput 1 5\nend\n"[..],
             &b"refused case length 23\n"[..],
         ),
         (
@@ -73,6 +78,78 @@ fn refuses_texts_that_are_no_case(rt: HostRuntime) -> Result<(), Fail> {
     Ok(())
 }
 
+/// Runs the program over ends that never fail; the sink has a buffer of so many bytes.
+fn sees_steadily<R: Threads + Wait + Sync + Abort + AllocGlobal>(
+    rt: &R,
+    words: &[&str],
+    input: &[u8],
+    room: usize,
+    status: Status,
+    reply: &[u8],
+) -> Result<(), Fail> {
+    let alloc = rt.alloc();
+    let owned = owned_words(alloc, words)?;
+    let mut source = SteadySource::new(alloc, input, 16)?;
+    let mut sink = SteadySink::new(alloc, room)?;
+    let found = gkr_run(rt, alloc, &owned, &mut source, &mut sink, &OpenGate);
+    assert_eq!(rt; found, status);
+    assert_eq!(rt; sink.tells(), reply.len() <= room);
+    if sink.tells() {
+        assert_eq!(rt; sink.bytes(), reply);
+    }
+    Ok(())
+}
+
+/// A full sink of this kind goes on taking bytes, of which nothing is known then; so no run over it ends as one that fails.
+#[test]
+fn answers_over_steady_ends(rt: HostRuntime) -> Result<(), Fail> {
+    let rest = b"gkr case 1\nprogram 18\ninput a; output a;\ninput 1 5\nend\n!";
+    for (words, input, status, reply) in [
+        (
+            &["gkr"][..],
+            &COPIES[..],
+            Status::Usage,
+            &b"refused usage\n"[..],
+        ),
+        (
+            &["gkr", "prove", "--workers", "0"],
+            &COPIES[..],
+            Status::Usage,
+            b"refused usage\n",
+        ),
+        (
+            &["gkr", "eval"],
+            &rest[..],
+            Status::BadCase,
+            b"refused case rest 55\n",
+        ),
+        (
+            &["gkr", "eval"],
+            &COPIES[..54],
+            Status::BadCase,
+            b"refused case end 54\n",
+        ),
+        (
+            &["gkr", "eval"],
+            b"",
+            Status::BadCase,
+            b"refused case end 0\n",
+        ),
+        (&["gkr", "eval"], &COPIES[..], Status::Done, b"output 1 5\n"),
+        (
+            &["gkr", "serve"],
+            b"done\n",
+            Status::Done,
+            b"jobs 0 proved 0 refused 0\n",
+        ),
+    ] {
+        for room in [64, 5] {
+            sees_steadily(&rt, words, input, room, status, reply)?;
+        }
+    }
+    Ok(())
+}
+
 /// Words that are no command, and words that are one in another form than the usual.
 #[test]
 fn reads_the_words(rt: HostRuntime) -> Result<(), Fail> {
@@ -115,6 +192,12 @@ fn reads_the_words(rt: HostRuntime) -> Result<(), Fail> {
         &["gkr", "prove", "--workers", "2", "--workers", "2"],
         &["gkr", "prove", "--worker", "2"],
         &["gkr", "prove", "-w", "2"],
+        &["gkr", "prove", "--proof"],
+        &["gkr", "prove", "--proof", "2"],
+        &["gkr", "prove", "--proof", "Pair"],
+        &["gkr", "prove", "--proof", "pair", "--proof", "pair"],
+        &["gkr", "verify", "--proof", "pair"],
+        &["gkr", "demo", "0", "--proof", "pair"],
         &["gkr", "demo"],
         &["gkr", "demo", "--"],
         &["gkr", "demo", "--workers", "2"],

@@ -145,6 +145,47 @@ fn refuses_bytes_that_are_no_proof(rt: HostRuntime) -> Result<(), Fail> {
     Ok(())
 }
 
+/// The fourth byte tells the form that bytes are read in, and fewer bytes are read by lines.
+#[test]
+fn tells_the_form_by_the_fourth_byte(rt: HostRuntime) -> Result<(), Fail> {
+    let alloc = rt.alloc();
+    let product = Claim {
+        program: b"input a; input b; output a*b;",
+        inputs: b"2 0 0",
+        outputs: b"1 0",
+        proof: b"",
+    };
+    let right = with_zeros(alloc, b"GKRP", 176)?;
+    let by_lines = with_zeros(alloc, b"GKR1", 176)?;
+    let short = with_zeros(alloc, b"GKRP", 175)?;
+    let long = with_zeros(alloc, b"GKRP", 184)?;
+    let out_of_range = with_zeros(alloc, b"GKRP\xff\xff\xff\x7f", 172)?;
+    let foreign = with_zeros(alloc, b"GKQP", 176)?;
+    let small = with_zeros(alloc, b"GKRp", 176)?;
+    let bad = Status::BadProof;
+    for (proof, status, reply) in [
+        (right.as_slice(), Status::Done, &b"accepted\n"[..]),
+        (
+            by_lines.as_slice(),
+            bad,
+            &b"refused proof short 180 188\n"[..],
+        ),
+        (short.as_slice(), bad, &b"refused proof short 179 180\n"[..]),
+        (long.as_slice(), bad, &b"refused proof long 8\n"[..]),
+        (
+            out_of_range.as_slice(),
+            bad,
+            &b"refused proof range 4\n"[..],
+        ),
+        (foreign.as_slice(), bad, &b"refused proof magic 2\n"[..]),
+        (small.as_slice(), bad, &b"refused proof magic 3\n"[..]),
+        (&b"GKR"[..], bad, &b"refused proof short 3 188\n"[..]),
+    ] {
+        verifies(&rt, Claim { proof, ..product }, status, reply)?;
+    }
+    Ok(())
+}
+
 /// The first challenge of the transcript of `input a; output a;` on 0 with the output 1, by SHA-256 alone.
 fn first_challenge() -> (u64, u64) {
     let mut hasher = Sha256::new();
@@ -186,4 +227,45 @@ fn rejects_false_claims(rt: HostRuntime) -> Result<(), Fail> {
         ..five
     };
     verifies(&rt, zero, Status::Rejected, reply.as_bytes())
+}
+
+/// A case with outputs and these digits of a proof of 68 bytes, for the copy of 0.
+fn copy_of_zero(alloc: Global, digits: &[u8]) -> Result<Vec<u8>, AllocError> {
+    let mut text = claimed(alloc, b"input a; output a;", b"1 0", b"1 0", 68)?;
+    text.extend_from_slice(digits)?;
+    text.extend_from_slice(b"\nend\n")?;
+    Ok(text)
+}
+
+/// The digits begin at byte 71, after the line `proof 68`.
+#[test]
+fn reads_digits_in_either_case(rt: HostRuntime) -> Result<(), Fail> {
+    let alloc = rt.alloc();
+    for (front, status, reply) in [
+        (b"474b5231", Status::Done, &b"accepted\n"[..]),
+        (b"474B5231", Status::Done, b"accepted\n"),
+        (b"474b523g", Status::BadCase, b"refused case hex 78\n"),
+        (b"474b523 ", Status::BadCase, b"refused case hex 78\n"),
+    ] {
+        let mut digits = Vec::from_slice(alloc, front)?;
+        for _ in 0..64u32 {
+            digits.extend_from_slice(b"00")?;
+        }
+        let text = copy_of_zero(alloc, &digits)?;
+        sees(&rt, &["gkr", "verify"], &Ends::steady(&text), status, reply)?;
+        digits.push(b'0')?;
+        let longer = copy_of_zero(alloc, &digits)?;
+        let (status, reply) = match status {
+            Status::Done => (Status::BadCase, &b"refused case hex 207\n"[..]),
+            other => (other, reply),
+        };
+        sees(
+            &rt,
+            &["gkr", "verify"],
+            &Ends::steady(&longer),
+            status,
+            reply,
+        )?;
+    }
+    Ok(())
 }

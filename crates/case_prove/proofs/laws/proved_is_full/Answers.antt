@@ -6,6 +6,6 @@ use Rattle.case_prove.proofs.ProvedText.{spells}
 use Rattle.case_prove.proofs.laws.proved_is_full.Goals as goal
 
 pub returns : goal.returns
-returns c case proved fit is =
+returns c form case proved fit is =
     subst (λ (p : Content). Spells Full (lower_case_text p) p) (sym is.proved_is)
-    (spells case.program case.inputs is.outputs is.messages (subst Fits is.proved_is (c.proved_fits.ensures case proved fit is)))
+    (spells form case.program case.inputs is.outputs is.messages (subst Fits is.proved_is (c.proved_fits.ensures form case proved fit is)))

@@ -1,7 +1,6 @@
 use Rattle.case_prove.proofs.ProvedCases.{one_proved}
 use Rattle.gkr_layers.specs.Places.Place.{At}
-use Rattle.gkr_layers.specs.Forms.Form.{Line}
 use Rattle.case_prove.proofs.laws.proved_is_one.Goals as goal
 
 pub returns : goal.returns
-returns c = one_proved c.one_tree.ensures c.one_circuit.ensures (λ layers input z. c.honest_is_unique.ensures Line layers input (At z))
+returns c = λ form. one_proved form c.one_tree.ensures c.one_circuit.ensures (λ layers input z. c.honest_is_unique.ensures form layers input (At z))

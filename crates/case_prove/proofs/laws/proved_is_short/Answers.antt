@@ -9,10 +9,10 @@ use Rattle.case_prove.proofs.ProvedText.{short}
 use Rattle.case_prove.proofs.laws.proved_is_short.Goals as goal
 
 pub returns : goal.returns
-returns c case proved fit is =
+returns c form case proved fit is =
     let there = meaning_there c.one_tree.ensures c.circuit_computes.ensures.inputs c.circuit_computes.ensures.computes case is.parts is.compiled is.outputs is.evaluated in
     let circuit = sound case.program is.parts is.compiled in
-    let size : length (spelling is.messages) ≡ length_of (exponents is.parts) = c.one_length.ensures (exponents is.parts) is.messages is.of_shape in
+    let size : length (spelling form is.messages) ≡ length_of form (exponents is.parts) = c.one_length.ensures form (exponents is.parts) is.messages is.of_shape in
     let few : length is.outputs ≤ 65535 = omega (arith, there.as_many, few_outputs circuit) in
-    let small : length (spelling is.messages) ≤ 231428 = omega (arith, size, short_proof circuit) in
-    subst (λ (p : Content). length (lower_case_text p) < 4194304) (sym is.proved_is) (short case.program case.inputs is.outputs (spelling is.messages) fit.program fit.inputs few small)
+    let small : length (spelling form is.messages) ≤ 231428 = omega (arith, size, short_proof form circuit) in
+    subst (λ (p : Content). length (lower_case_text p) < 4194304) (sym is.proved_is) (short case.program case.inputs is.outputs (spelling form is.messages) fit.program fit.inputs few small)

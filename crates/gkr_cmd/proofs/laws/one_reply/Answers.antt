@@ -15,6 +15,6 @@ returns c =
       eval = one_eval (record { tree = c.one_tree.ensures; refusal = c.one_refusal.ensures; either = c.accepted_or_refused.ensures });
       circuit = one_circuit circuits;
       prove = one_prove circuits proofs;
-      verify = one_verify circuits (record { reading = c.one_reading.ensures; trouble = c.one_trouble.ensures; none = c.no_trouble.ensures });
+      verify = one_verify circuits (record { form = c.one_form.ensures; reading = c.one_reading.ensures; trouble = c.one_trouble.ensures; none = c.no_trouble.ensures });
       demo = one_demo circuits proofs;
     })

@@ -6,6 +6,6 @@ use Rattle.gkr_cmd.proofs.OneReply.{done}
 use Rattle.gkr_cmd.proofs.laws.provable_is_done.Goals as goal
 
 pub returns : goal.returns
-returns c =
-    done Plain IsProveAnswer HasCircuit
-    (prove_done (record { circuit = c.one_circuit.ensures; refusal = c.one_circuit_refusal.ensures; either = c.compiled_or_refused.ensures }))
+returns c = λ form.
+    done Plain (IsProveAnswer form) HasCircuit
+    (prove_done (record { circuit = c.one_circuit.ensures; refusal = c.one_circuit_refusal.ensures; either = c.compiled_or_refused.ensures }) form)

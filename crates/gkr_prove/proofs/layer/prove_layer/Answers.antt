@@ -5,7 +5,9 @@ use Rattle.field_ext.specs.Field.{K, k_ops}
 use Rattle.field_ext.specs.Polynomial.{coefficients}
 use Rattle.wiring_poly.proofs.Identity.{take-front}
 use Rattle.gkr_layers.proofs.Coefficients.{length-coefficients}
-use Rattle.gkr_layers.specs.Sumcheck.{line_polynomial, point_between}
+use Rattle.gkr_layers.specs.Forms.{last_polynomial, place_between}
+use Rattle.gkr_layers.specs.Standing.{place_of}
+use Rattle.proof_wire.specs.Forms.{last_degree}
 use Rattle.round_tables.specs.LayerSum.{LayerSum}
 use Rattle.transcript_fs.specs.Source.{Source, draws, state_after}
 use Rattle.proof_wire.specs.Spelling.{coefficients_of}
@@ -13,10 +15,8 @@ use Rattle.proof_wire.specs.Lists.{round_messages}
 use Rattle.transcript_fs.proofs.Draws.{has_behind, has_front}
 use Rattle.gkr_layers.specs.Honest.{AreHonestRounds, IsHonestLayer}
 use Rattle.gkr_layers.specs.Layers.{next_place}
-use Rattle.gkr_layers.specs.Forms.Form.{Line}
-use Rattle.gkr_prove.proofs.HonestSteps.{honest_layer, layer_point, state-more}
+use Rattle.gkr_prove.proofs.HonestSteps.{honest_layer, layer_place, state-more}
 use Rattle.gkr_prove.proofs.layer.prove_layer.Goals as goal
-use Rattle.gkr_layers.specs.Places.Place.{At}
 
 pub prove_rounds-requires-clause-has : goal.prove_rounds-requires-clause-has
 prove_rounds-requires-clause-has g c κs within =
@@ -52,57 +52,52 @@ returns-clause-honest g c =
     let drawn = c.in_ok-messages.field-0.drawn in
     let qs : List (List K) = round_messages c.in_ok-messages.field-0.messages.items in
     let rs : List K = c.in_ok-messages.field-0.drawn.items in
-    let sum : LayerSum = record { k = c.args.values.now.k; gates = c.args.gates.now; values = c.args.values.now.items; place = At c.args.point.now; bound = [] } in
+    let sum : LayerSum = record { k = c.args.values.now.k; gates = c.args.gates.now; values = c.args.values.now.items; place = place_of c.args.place.now; bound = [] } in
     let is : c.in_ok-tables.tables ≡ sum = λ i. record { k = started.k i; gates = started.gates i; values = started.values i; place = started.place i; bound = started.bound i } in
-    let honest : AreHonestRounds c.args.values.now.k c.args.gates.now c.args.values.now.items (At c.args.point.now) (c.args.values.now.k + c.args.values.now.k) qs rs =
+    let honest : AreHonestRounds c.args.values.now.k c.args.gates.now c.args.values.now.items (place_of c.args.place.now) (c.args.values.now.k + c.args.values.now.k) qs rs =
     subst (λ (t : LayerSum). AreHonestRounds t.k t.gates t.values t.place (t.k + t.k) qs rs) is rounds.honest in
-    coe 0 1 (j. IsHonestLayer Line k c.args.gates.now c.args.values.now.items (At c.args.point.now) (round_messages (sym c.of.ensures j) ++ sym c.of-2.ensures j ∷ []) (draws source s (round_messages (sym c.of.ensures j) ++ sym c.of-2.ensures j ∷ []))) (
-    honest_layer k c.args.gates.now c.args.values.now.items (At c.args.point.now) source s qs rs c.in_ok-line.line.items
+    coe 0 1 (j. IsHonestLayer c.args.form k c.args.gates.now c.args.values.now.items (place_of c.args.place.now) (round_messages (sym c.of.ensures j) ++ sym c.of-2.ensures j ∷ []) (draws source s (round_messages (sym c.of.ensures j) ++ sym c.of-2.ensures j ∷ []))) (
+    honest_layer c.args.form k c.args.gates.now c.args.values.now.items (place_of c.args.place.now) source s qs rs c.in_ok-last.last.items
     (length-map messages.items coefficients_of ∙ sym messages.ok.0 ∙ rounds.count ∙ (λ i. started.k i + started.k i))
     (sym drawn.ok.0 ∙ rounds.challenges ∙ (λ i. started.k i + started.k i))
     rounds.drawn honest
-    (c.in_ok-line.ensures.items ∙ c.coefficients.ensures ∙ c.in_ok-polynomial.ensures
-    ∙ (λ i. coefficients k_ops (k + 1) (line_polynomial k_ops c.args.values.now.items (c.split_at.ensures.front i) (c.split_at.ensures.back i)))
-    ∙ (λ i. coefficients k_ops (k + 1) (line_polynomial k_ops c.args.values.now.items (take (c.k-k.ensures i) (c.as_slice.ensures.value i)) (drop (c.k-k.ensures i) (c.as_slice.ensures.value i))))))
+    (c.in_ok-last.ensures
+    ∙ (λ i. coefficients k_ops (last_degree c.args.form k + 1) (last_polynomial k_ops c.args.form c.args.values.now.items (c.split_at.ensures.front i) (c.split_at.ensures.back i)))
+    ∙ (λ i. coefficients k_ops (last_degree c.args.form k + 1) (last_polynomial k_ops c.args.form c.args.values.now.items (take (c.k-k.ensures i) (c.as_slice.ensures.value i)) (drop (c.k-k.ensures i) (c.as_slice.ensures.value i))))))
 
 pub returns-clause-shape : goal.returns-clause-shape
 returns-clause-shape g c =
     let k = c.args.values.now.k in
-    let line = c.in_ok-line.ensures.items ∙ c.coefficients.ensures ∙ c.in_ok-polynomial.ensures in
     record {
       rounds = ap length c.of.ensures ∙ sym c.in_ok-messages.field-0.messages.ok.0 ∙ c.in_ok-messages.ensures.count ∙ (λ i. c.in_ok-tables.ensures.k i + c.in_ok-tables.ensures.k i);
-      line = ap length (c.of-2.ensures ∙ line) ∙ length-coefficients k_ops (k + 1) _;
+      last = ap length (c.of-2.ensures ∙ c.in_ok-last.ensures) ∙ length-coefficients k_ops (last_degree c.args.form k + 1) _;
     }
 
-pub returns-clause-point : goal.returns-clause-point
-returns-clause-point g c =
+pub returns-clause-place : goal.returns-clause-place
+returns-clause-place g c =
     let k = c.args.values.now.k in
     let source : Source = g.C.Challenges.source in
     let s = g.C.Challenges.state c.args.challenges.now in
     let drawn = c.in_ok-messages.field-0.drawn in
     let qs : List (List K) = round_messages c.in_ok-messages.field-0.messages.items in
     let rs : List K = c.in_ok-messages.field-0.drawn.items in
-    let line : List K = c.in_ok-line.line.items in
+    let end : List K = c.in_ok-last.last.items in
     let rounds = c.in_ok-messages.ensures in
     let started = c.in_ok-tables.ensures in
-    let new = c.point_at.new.point in
-    let size : length c.point_at.new.point ≡ c.in_ok-next.next.len = c.point_at.auto.point ∙ c.deref_mut.ensures.len in
-    let last : c.challenge-challenge.result ≡ source.draw (source.absorb (state_after source s qs) line) =
+    let challenge : c.challenge-challenge.result ≡ source.draw (source.absorb (state_after source s qs) end) =
     c.challenge-challenge.ensures.value ∙ ap source.draw (c.absorb.ensures ∙ (λ i. source.absorb (rounds.state i) (c.deref.ensures.value i))) in
-    ap At (ap (λ n. take n (c.point_at.new.point ++ drop (length c.point_at.new.point) c.in_ok-next.next.items)) (sym size)
-    ∙ take-front new (drop (length new) c.in_ok-next.next.items)
-    ∙ c.point_at.ensures
-    ∙ (λ i. point_between k_ops (c.split_at.ensures.front i) (c.split_at.ensures.back i) (last i))
-    ∙ (λ i. point_between k_ops (take (c.k-k.ensures i) (c.as_slice.ensures.value i)) (drop (c.k-k.ensures i) (c.as_slice.ensures.value i)) (source.draw (source.absorb (state_after source s qs) line))))
-    ∙ layer_point k c.args.gates.now c.args.values.now.items (At c.args.point.now) source s qs rs line (sym drawn.ok.0 ∙ rounds.challenges ∙ (λ i. started.k i + started.k i)) rounds.drawn
-    ∙ (λ j. next_place k_ops Line k (draws source s (round_messages (sym c.of.ensures j) ++ sym c.of-2.ensures j ∷ [])))
+    c.in_ok-next.ensures
+    ∙ (λ i. place_between k_ops c.args.form (c.split_at.ensures.front i) (c.split_at.ensures.back i) (challenge i))
+    ∙ (λ i. place_between k_ops c.args.form (take (c.k-k.ensures i) (c.as_slice.ensures.value i)) (drop (c.k-k.ensures i) (c.as_slice.ensures.value i)) (source.draw (source.absorb (state_after source s qs) end)))
+    ∙ layer_place c.args.form k c.args.gates.now c.args.values.now.items (place_of c.args.place.now) source s qs rs end (sym drawn.ok.0 ∙ rounds.challenges ∙ (λ i. started.k i + started.k i)) rounds.drawn
+    ∙ (λ j. next_place k_ops c.args.form k (draws source s (round_messages (sym c.of.ensures j) ++ sym c.of-2.ensures j ∷ [])))
 
 pub returns-clause-state : goal.returns-clause-state
 returns-clause-state g c =
     let source : Source = g.C.Challenges.source in
     let s = g.C.Challenges.state c.args.challenges.now in
     let qs : List (List K) = round_messages c.in_ok-messages.field-0.messages.items in
-    let line : List K = c.in_ok-line.line.items in
+    let end : List K = c.in_ok-last.last.items in
     c.challenge-challenge.ensures.state ∙ ap source.after (c.absorb.ensures ∙ (λ i. source.absorb (c.in_ok-messages.ensures.state i) (c.deref.ensures.value i)))
-    ∙ sym (state-more source s qs line)
+    ∙ sym (state-more source s qs end)
     ∙ (λ j. state_after source s (round_messages (sym c.of.ensures j) ++ sym c.of-2.ensures j ∷ []))

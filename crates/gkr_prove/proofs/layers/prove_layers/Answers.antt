@@ -13,11 +13,12 @@ use Rattle.gkr_layers.proofs.Circuits.{below_more, below_none}
 use Rattle.gkr_layers.proofs.Shapes.{length-messages, has_layer, has_below}
 use Rattle.gkr_layers.specs.Honest.{AreHonest, IsHonestLayer}
 use Rattle.gkr_layers.specs.Acceptance.{input_table}
-use Rattle.gkr_prove.proofs.LayerSteps.{messages-more, table_values, layers_more, length-next}
-use Rattle.gkr_prove.proofs.TableShapes.{table_exponent, is_layer, shape_more}
+use Rattle.gkr_prove.proofs.LayerSteps.{messages-more, table_values, layers_more, over-next}
+use Rattle.gkr_prove.proofs.TableShapes.{table_exponent, is_layer, few_gates, shape_more}
 use Rattle.gkr_prove.proofs.layers.prove_layers.Goals as goal
-use Rattle.gkr_layers.specs.Places.Place.{At}
-use Rattle.gkr_layers.specs.Forms.Form.{Line}
+use Rattle.gkr_layers.specs.Places.{Place, IsOver}
+use Rattle.gkr_layers.specs.Standing.{place_of}
+use Rattle.gkr_prove.specs.Kept.{kept_place}
 
 -- challenges for the layers from one on
 has_here : (p : Parts) (source : Source) (s : List ℕ) (i : ℕ) → i < height p → IsTrue (source.has s (message_count (layers_below p i))) → IsTrue (source.has s (message_count (layer_at p i ∷ layers_below p (i + 1))))
@@ -29,7 +30,11 @@ prove_layer-requires-clause-layer g c κs within =
     let i = c.loop-layer.layer in
     let u : c.loop-layer.layer < height c.args.circuit.now.parts = omega (arith, c.loop-layer-test.true, c.height-layer-end.ensures) in
     let e = table_exponent circuit c.requires.values.0 c.args.values.now (i + 1) c.table.result.now c.requires.values.1 (omega arith) c.table.ensures in
-    is_layer circuit i c.table.result.now c.gates.result.now c.deref.result.now u e c.gates.ensures.value (ap length c.deref.ensures.value ∙ c.loop-layer.invariant.position)
+    is_layer circuit i c.table.result.now c.gates.result.now (place_of c.standing.result) u e c.gates.ensures.value (subst (IsOver (exponent_at c.args.circuit.now.parts c.loop-layer.layer)) (sym c.standing.ensures) c.loop-layer.invariant.position)
+
+pub prove_layer-requires-clause-few : goal.prove_layer-requires-clause-few
+prove_layer-requires-clause-few g c κs within =
+    few_gates c.args.circuit.now c.loop-layer.layer c.gates.result.now (omega (arith, c.loop-layer-test.true, c.height-layer-end.ensures)) c.gates.ensures.value
 
 pub prove_layer-requires-clause-has : goal.prove_layer-requires-clause-has
 prove_layer-requires-clause-has g c κs within =
@@ -62,26 +67,26 @@ loop-layer-preserved g c =
     let v : c.loop-layer.layer + 1 ≤ height c.args.circuit.now.parts = omega arith in
     let e : table.k ≡ k = table_exponent circuit c.requires.values.0 c.args.values.now (i + 1) table c.requires.values.1 v c.table.ensures in
     let noted : c.push.new.self.items ≡ ms ++ m ∷ [] = c.in_ok-push.ensures.items in
-    let shape : HasShape k m = subst (λ (n : ℕ). HasShape n m) e proved.shape in
-    let next : At c.in_ok-proved.proved.point.items ≡ next_place k_ops Line k d =
-    proved.point ∙ (λ j. next_place k_ops Line (e j) (draws source (before.state j) M)) in
-    let count : length d ≡ k + k + 1 = length-draws source (state_after source s (all_messages ms)) M ∙ length-messages k m shape in
-    let honest : IsHonestLayer Line k (get_or p.layers i []) table.items (At c.loop-layer.point.items) M d =
-    coe 0 1 (j. IsHonestLayer Line (e j) (c.gates.ensures.value j) table.items (At (c.deref.ensures.value j)) M (draws source (before.state j) M)) proved.honest in
+    let shape : HasShape c.args.form k m = subst (λ (n : ℕ). HasShape c.args.form n m) e proved.shape in
+    let next : kept_place c.in_ok-proved.proved.place ≡ next_place k_ops c.args.form k d =
+    proved.place ∙ (λ j. next_place k_ops c.args.form (e j) (draws source (before.state j) M)) in
+    let count : length d ≡ k + k + 1 = length-draws source (state_after source s (all_messages ms)) M ∙ length-messages c.args.form k m shape in
+    let honest : IsHonestLayer c.args.form k (get_or p.layers i []) table.items (kept_place c.loop-layer.place) M d =
+    coe 0 1 (j. IsHonestLayer c.args.form (e j) (c.gates.ensures.value j) table.items (c.standing.ensures j) M (draws source (before.state j) M)) proved.honest in
     let joined : all_messages c.push.new.self.items ≡ all_messages ms ++ M = (λ j. all_messages (noted j)) ∙ messages-more ms m in
-    let first : List K = c.args.point.items in
-    let point : List K = c.in_ok-proved.proved.point.items in
+    let first : Place K = kept_place c.args.place in
+    let after : Place K = kept_place c.in_ok-proved.proved.place in
     record {
-      position = length-next k d point count next;
+      position = over-next c.args.form k d after count next;
       has = subst (λ (t : List ℕ). IsTrue (source.has t (message_count (layers_below p (i + 1))))) (sym proved.state)
-          (has_below source now (layer_at p i) (layers_below p (i + 1)) (has_here p source now i u before.has) m shape);
+          (has_below source now (layer_at p i) (layers_below p (i + 1)) (has_here p source now i u before.has) c.args.form m shape);
       state = proved.state ∙ (λ j. state_after source (before.state j) M) ∙ sym (state-append source s (all_messages ms) M) ∙ (λ j. state_after source s (sym joined j));
       shape = λ rest h.
-          subst (λ (xs : List LayerMessages). HaveShape (lower_exponents (layers_of p)) xs) (sym (append_assoc ms (m ∷ []) rest) ∙ ap (λ (xs : List LayerMessages). xs ++ rest) (sym noted))
-          (before.shape (m ∷ rest) (shape_more p i m rest u shape h));
+          subst (λ (xs : List LayerMessages). HaveShape c.args.form (lower_exponents (layers_of p)) xs) (sym (append_assoc ms (m ∷ []) rest) ∙ ap (λ (xs : List LayerMessages). xs ++ rest) (sym noted))
+          (before.shape (m ∷ rest) (shape_more c.args.form p i m rest u shape h));
       whole = λ inputs tables qs rs rest.
-          coe 0 1 (j. AreHonest Line (layers_of p) (input_table p inputs) (At first) (all_messages (sym noted j) ++ qs) (draws source s (all_messages (sym noted j)) ++ rs))
-          (layers_more p inputs source s i ms m table.items (At first) (At c.loop-layer.point.items) (At point) u shape (table_values p inputs c.args.values.now (i + 1) table.items tables v c.table.ensures) next honest
+          coe 0 1 (j. AreHonest c.args.form (layers_of p) (input_table p inputs) first (all_messages (sym noted j) ++ qs) (draws source s (all_messages (sym noted j)) ++ rs))
+          (layers_more c.args.form p inputs source s i ms m table.items first (kept_place c.loop-layer.place) after u shape (table_values p inputs c.args.values.now (i + 1) table.items tables v c.table.ensures) next honest
           (before.whole inputs tables) qs rs rest);
     }
 
@@ -92,9 +97,9 @@ returns-clause-honest g c inputs tables =
     let p : Parts = c.args.circuit.now.parts in
     let ms : List LayerMessages = c.loop-layer.messages.items in
     let u : height c.args.circuit.now.parts ≤ c.loop-layer.layer = omega (arith, c.loop-layer-test.false, c.height-layer-end.ensures) in
-    let nothing : AreHonest Line (layers_below p c.loop-layer.layer) (input_table p inputs) (At c.loop-layer.point.items) [] [] =
-    subst (λ (layers : List GateLayer). AreHonest Line layers (input_table p inputs) (At c.loop-layer.point.items) [] []) (sym (below_none p c.loop-layer.layer u)) tt in
-    coe 0 1 (j. AreHonest Line (layers_of p) (input_table p inputs) (At c.args.point.items) (append-nil (all_messages ms) j) (append-nil (draws source s (all_messages ms)) j))
+    let nothing : AreHonest c.args.form (layers_below p c.loop-layer.layer) (input_table p inputs) (kept_place c.loop-layer.place) [] [] =
+    subst (λ (layers : List GateLayer). AreHonest c.args.form layers (input_table p inputs) (kept_place c.loop-layer.place) [] []) (sym (below_none p c.loop-layer.layer u)) tt in
+    coe 0 1 (j. AreHonest c.args.form (layers_of p) (input_table p inputs) (kept_place c.args.place) (append-nil (all_messages ms) j) (append-nil (draws source s (all_messages ms)) j))
     (c.loop-layer.invariant.whole inputs tables [] [] nothing)
 
 pub returns-clause-shape : goal.returns-clause-shape
@@ -102,5 +107,5 @@ returns-clause-shape g c =
     let p : Parts = c.args.circuit.now.parts in
     let ms : List LayerMessages = c.loop-layer.messages.items in
     let u : height c.args.circuit.now.parts ≤ c.loop-layer.layer = omega (arith, c.loop-layer-test.false, c.height-layer-end.ensures) in
-    let nothing : HaveShape (lower_exponents (layers_below p c.loop-layer.layer)) [] = subst (λ (layers : List GateLayer). HaveShape (lower_exponents layers) []) (sym (below_none p c.loop-layer.layer u)) tt in
-    subst (λ (xs : List LayerMessages). HaveShape (lower_exponents (layers_of p)) xs) (append-nil ms) (c.loop-layer.invariant.shape [] nothing)
+    let nothing : HaveShape c.args.form (lower_exponents (layers_below p c.loop-layer.layer)) [] = subst (λ (layers : List GateLayer). HaveShape c.args.form (lower_exponents layers) []) (sym (below_none p c.loop-layer.layer u)) tt in
+    subst (λ (xs : List LayerMessages). HaveShape c.args.form (lower_exponents (layers_of p)) xs) (append-nil ms) (c.loop-layer.invariant.shape [] nothing)

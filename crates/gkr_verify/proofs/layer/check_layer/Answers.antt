@@ -1,11 +1,13 @@
 use Rattle.std.proofs.Common.{◌≡◌, ℕ, ◌+◌, [], ◌∷◌, ◌++◌, List, length, get_or, take, drop, IsTrue, arith, ◌∙◌, ap, sym, subst}
 use Rattle.std.proofs.lemmas.List.{length-map}
-use Rattle.field_ext.specs.Field.{K, k_ops, zero_k, one_k}
+use Rattle.field_ext.specs.Field.{K, k_ops}
 use Rattle.field_ext.specs.Polynomial.{value_at}
 use Rattle.circuit_core.specs.declared.gate.CircuitGate.{CircuitGate}
 use Rattle.circuit_core.specs.Sound.{exponent_at}
-use Rattle.wiring_poly.specs.Wiring.{summand_from}
-use Rattle.gkr_layers.specs.Sumcheck.{point_between}
+use Rattle.gkr_layers.specs.Places.{Place, weighted_summand_from}
+use Rattle.gkr_layers.specs.Forms.{said_left, said_right, place_between}
+use Rattle.gkr_layers.specs.Standing.{place_of}
+use Rattle.gkr_layers.proofs.Forms.{two_at_least}
 use Rattle.circuit_core.proofs.Sizes.{size_of}
 use Rattle.transcript_fs.specs.Source.{Source, draws, state_after}
 use Rattle.proof_wire.specs.Spelling.{coefficients_of}
@@ -16,14 +18,19 @@ use Rattle.gkr_verify.proofs.LayerSteps.{round_fails, end_fails, end_holds}
 use Rattle.transcript_fs.proofs.Draws.{state-append, has_behind}
 use Rattle.gkr_verify.proofs.layer.check_layer.Goals as goal
 use Rattle.gkr_layers.specs.declared.verdict.Verdict.TheVariants.{End}
-use Rattle.gkr_layers.specs.Places.Place.{At}
-use Rattle.gkr_layers.specs.Forms.Form.{Line}
 
 pub check_rounds-requires-clause-few : goal.check_rounds-requires-clause-few
 check_rounds-requires-clause-few g c =
     let most = (size_of c.args.circuit.now (c.args.layer + 1) (omega (arith, c.requires.layer))).2 in
     let count = ap length c.as_slice.ensures ∙ c.requires.shape.rounds in
     omega (arith, most, count)
+
+pub end_value-want-requires-clause-last : goal.end_value-want-requires-clause-last
+end_value-want-requires-clause-last g c =
+    let least = (size_of c.args.circuit.now (c.args.layer + 1) (omega (arith, c.requires.layer))).1 in
+    let many = two_at_least c.args.form (exponent_at c.args.circuit.now.parts (c.args.layer + 1)) least in
+    let count = ap length c.as_slice-last.ensures ∙ c.requires.shape.last in
+    omega (arith, many, count)
 
 pub returns-in-Err-clause-fails : goal.returns-in-Err-clause-fails
 returns-in-Err-clause-fails g c below input qs =
@@ -35,7 +42,7 @@ returns-in-Err-clause-fails g c below input qs =
     let rounds : List (List K) = round_messages m.rounds in
     let size = length-map m.rounds coefficients_of ∙ c.requires.shape.rounds in
     let same = ap round_messages c.as_slice.ensures in
-    round_fails Line source s c.args.layer k gates below input (At c.args.point.now) c.args.claim rounds m.line qs size
+    round_fails c.args.form source s c.args.layer k gates below input (place_of c.args.place.now) c.args.claim rounds m.last qs size
     (record { verdict = sum_failure c.args.layer c.in-Err.fault; state = g.C.Challenges.state c.check_rounds.new.challenges })
     (λ rest more. coe 0 1 (j. answer source s (sum_equations c.args.layer 1 c.args.claim (same j) (draws source s (same j)) ++ rest) (same j ++ more) ≡ record { verdict = sum_failure c.args.layer c.in-Err.fault; state = g.C.Challenges.state c.check_rounds.new.challenges }) (c.in-Err.ensures.fails c.args.layer rest more))
 
@@ -48,16 +55,17 @@ returns-then-not-equals-clause-fails g c below input qs =
     let gates : List CircuitGate = get_or c.args.circuit.now.parts.layers c.args.layer [] in
     let rounds : List (List K) = round_messages m.rounds in
     let size = length-map m.rounds coefficients_of ∙ c.requires.shape.rounds in
+    let place : Place K = place_of c.args.place.now in
     let same = ap round_messages c.as_slice.ensures in
-    end_fails Line source s c.args.layer k gates below input (At c.args.point.now) c.args.claim rounds m.line qs size
+    end_fails c.args.form source s c.args.layer k gates below input (place_of c.args.place.now) c.args.claim rounds m.last qs size
     (λ rest more. coe 0 1 (j. answer source s (sum_equations c.args.layer 1 c.args.claim (same j) (draws source s (same j)) ++ rest) (same j ++ more) ≡ answer source (state_after source s (same j)) rest more) (c.in-Ok.ensures.holds c.args.layer rest more))
     c.in-Ok.claim c.end_value-want.result
     (c.in-Ok.ensures.claim ∙ (λ j. claim_after c.args.claim (same j) (draws source s (same j))))
     (c.end_value-want.ensures
-    ∙ (λ i. summand_from k_ops gates c.args.point.now (c.split_at.ensures.front i) (c.split_at.ensures.back i) (value_at k_ops (c.as_slice-2.ensures i) zero_k) (value_at k_ops (c.as_slice-2.ensures i) one_k))
-    ∙ (λ i. summand_from k_ops gates c.args.point.now (take (c.requires.next i) c.check_rounds.new.drawn) (drop (c.requires.next i) c.check_rounds.new.drawn) (value_at k_ops m.line zero_k) (value_at k_ops m.line one_k))
-    ∙ (λ i. summand_from k_ops gates c.args.point.now (take k (c.in-Ok.ensures.drawn i)) (drop k (c.in-Ok.ensures.drawn i)) (value_at k_ops m.line zero_k) (value_at k_ops m.line one_k))
-    ∙ (λ i. summand_from k_ops gates c.args.point.now (take k (draws source s (same i))) (drop k (draws source s (same i))) (value_at k_ops m.line zero_k) (value_at k_ops m.line one_k)))
+    ∙ (λ i. weighted_summand_from k_ops gates place (c.split_at.ensures.front i) (c.split_at.ensures.back i) (said_left k_ops c.args.form (c.as_slice-last.ensures i)) (said_right k_ops c.args.form (c.as_slice-last.ensures i)))
+    ∙ (λ i. weighted_summand_from k_ops gates place (take (c.coordinates-k.ensures.value i) c.check_rounds.new.drawn) (drop (c.coordinates-k.ensures.value i) c.check_rounds.new.drawn) (said_left k_ops c.args.form m.last) (said_right k_ops c.args.form m.last))
+    ∙ (λ i. weighted_summand_from k_ops gates place (take k (c.in-Ok.ensures.drawn i)) (drop k (c.in-Ok.ensures.drawn i)) (said_left k_ops c.args.form m.last) (said_right k_ops c.args.form m.last))
+    ∙ (λ i. weighted_summand_from k_ops gates place (take k (draws source s (same i))) (drop k (draws source s (same i))) (said_left k_ops c.args.form m.last) (said_right k_ops c.args.form m.last)))
     (sym c.equals.ensures.computed ∙ c.if-not-equals.true)
     ∙ (λ i. record { verdict = End c.args.layer c.in-Ok.claim c.end_value-want.result; state = sym (c.in-Ok.ensures.state ∙ (λ j. state_after source s (same j))) i })
 
@@ -75,7 +83,7 @@ challenge-challenge-requires g c =
     let left : IsTrue (source.has (state_after source s rounds) 1) = has_behind source s rounds 1 (subst (λ n. IsTrue (source.has s n)) count c.requires.has) in
     let there : IsTrue (source.has (g.C.Challenges.state c.check_rounds.new.challenges) 1) =
     subst (λ t. IsTrue (source.has t 1)) (sym (c.in-Ok.ensures.state ∙ (λ j. state_after source s (same j)))) left in
-    subst (λ t. IsTrue (source.has t 1)) (sym c.absorb.ensures) (source.has_absorbed (g.C.Challenges.state c.check_rounds.new.challenges) c.as_slice-3.result.now 1 there)
+    subst (λ t. IsTrue (source.has t 1)) (sym c.absorb.ensures) (source.has_absorbed (g.C.Challenges.state c.check_rounds.new.challenges) c.as_slice-last.result.now 1 there)
 
 pub returns-clause-holds : goal.returns-clause-holds
 returns-clause-holds g c below input qs =
@@ -86,27 +94,25 @@ returns-clause-holds g c below input qs =
     let gates : List CircuitGate = get_or c.args.circuit.now.parts.layers c.args.layer [] in
     let rounds : List (List K) = round_messages m.rounds in
     let size = length-map m.rounds coefficients_of ∙ c.requires.shape.rounds in
+    let place : Place K = place_of c.args.place.now in
     let same = ap round_messages c.as_slice.ensures in
-    let state : g.C.Challenges.state c.absorb.new.self ≡ source.absorb (state_after source s rounds) m.line =
-    c.absorb.ensures ∙ (λ j. source.absorb ((c.in-Ok.ensures.state ∙ (λ j. state_after source s (same j))) j) (c.as_slice-3.ensures j)) in
-    end_holds Line source s c.args.layer k gates below input (At c.args.point.now) c.args.claim rounds m.line qs size
+    let state : g.C.Challenges.state c.absorb.new.self ≡ source.absorb (state_after source s rounds) m.last =
+    c.absorb.ensures ∙ (λ j. source.absorb ((c.in-Ok.ensures.state ∙ (λ j. state_after source s (same j))) j) (c.as_slice-last.ensures j)) in
+    end_holds c.args.form source s c.args.layer k gates below input (place_of c.args.place.now) c.args.claim rounds m.last qs size
     (λ rest more. coe 0 1 (j. answer source s (sum_equations c.args.layer 1 c.args.claim (same j) (draws source s (same j)) ++ rest) (same j ++ more) ≡ answer source (state_after source s (same j)) rest more) (c.in-Ok.ensures.holds c.args.layer rest more))
     c.in-Ok.claim c.end_value-want.result
     (c.in-Ok.ensures.claim ∙ (λ j. claim_after c.args.claim (same j) (draws source s (same j))))
     (c.end_value-want.ensures
-    ∙ (λ i. summand_from k_ops gates c.args.point.now (c.split_at.ensures.front i) (c.split_at.ensures.back i) (value_at k_ops (c.as_slice-2.ensures i) zero_k) (value_at k_ops (c.as_slice-2.ensures i) one_k))
-    ∙ (λ i. summand_from k_ops gates c.args.point.now (take (c.requires.next i) c.check_rounds.new.drawn) (drop (c.requires.next i) c.check_rounds.new.drawn) (value_at k_ops m.line zero_k) (value_at k_ops m.line one_k))
-    ∙ (λ i. summand_from k_ops gates c.args.point.now (take k (c.in-Ok.ensures.drawn i)) (drop k (c.in-Ok.ensures.drawn i)) (value_at k_ops m.line zero_k) (value_at k_ops m.line one_k))
-    ∙ (λ i. summand_from k_ops gates c.args.point.now (take k (draws source s (same i))) (drop k (draws source s (same i))) (value_at k_ops m.line zero_k) (value_at k_ops m.line one_k)))
+    ∙ (λ i. weighted_summand_from k_ops gates place (c.split_at.ensures.front i) (c.split_at.ensures.back i) (said_left k_ops c.args.form (c.as_slice-last.ensures i)) (said_right k_ops c.args.form (c.as_slice-last.ensures i)))
+    ∙ (λ i. weighted_summand_from k_ops gates place (take (c.coordinates-k.ensures.value i) c.check_rounds.new.drawn) (drop (c.coordinates-k.ensures.value i) c.check_rounds.new.drawn) (said_left k_ops c.args.form m.last) (said_right k_ops c.args.form m.last))
+    ∙ (λ i. weighted_summand_from k_ops gates place (take k (c.in-Ok.ensures.drawn i)) (drop k (c.in-Ok.ensures.drawn i)) (said_left k_ops c.args.form m.last) (said_right k_ops c.args.form m.last))
+    ∙ (λ i. weighted_summand_from k_ops gates place (take k (draws source s (same i))) (drop k (draws source s (same i))) (said_left k_ops c.args.form m.last) (said_right k_ops c.args.form m.last)))
     (sym c.equals.ensures.computed ∙ c.if-not-equals.false)
-    (At c.point_at.new.point) c.value_at.result (g.C.Challenges.state c.challenge-challenge.new.self) c.challenge-challenge.result
+    (place_between k_ops c.args.form (take k c.check_rounds.new.drawn) (drop k c.check_rounds.new.drawn) c.challenge-challenge.result) c.value_at.result (g.C.Challenges.state c.challenge-challenge.new.self) c.challenge-challenge.result
     (c.challenge-challenge.ensures.value ∙ ap source.draw state)
-    (ap At (c.point_at.ensures
-    ∙ (λ i. point_between k_ops (c.split_at.ensures.front i) (c.split_at.ensures.back i) c.challenge-challenge.result)
-    ∙ (λ i. point_between k_ops (take (c.requires.next i) c.check_rounds.new.drawn) (drop (c.requires.next i) c.check_rounds.new.drawn) c.challenge-challenge.result)
-    ∙ (λ i. point_between k_ops (take k (c.in-Ok.ensures.drawn i)) (drop k (c.in-Ok.ensures.drawn i)) c.challenge-challenge.result)
-    ∙ (λ i. point_between k_ops (take k (draws source s (same i))) (drop k (draws source s (same i))) c.challenge-challenge.result)))
-    (c.value_at.ensures ∙ (λ i. value_at k_ops (c.as_slice-4.ensures i) c.challenge-challenge.result))
+    ((λ i. place_between k_ops c.args.form (take k (c.in-Ok.ensures.drawn i)) (drop k (c.in-Ok.ensures.drawn i)) c.challenge-challenge.result)
+    ∙ (λ i. place_between k_ops c.args.form (take k (draws source s (same i))) (drop k (draws source s (same i))) c.challenge-challenge.result))
+    (c.value_at.ensures ∙ (λ i. value_at k_ops (c.as_slice-last.ensures i) c.challenge-challenge.result))
     (c.challenge-challenge.ensures.state ∙ ap source.after state)
 
 pub returns-clause-state : goal.returns-clause-state
@@ -120,5 +126,5 @@ returns-clause-state g c =
     let size = length-map m.rounds coefficients_of ∙ c.requires.shape.rounds in
     let same = ap round_messages c.as_slice.ensures in
     c.challenge-challenge.ensures.state
-    ∙ ap source.after (c.absorb.ensures ∙ (λ j. source.absorb ((c.in-Ok.ensures.state ∙ (λ j. state_after source s (same j))) j) (c.as_slice-3.ensures j)))
-    ∙ sym (state-append source s rounds (m.line ∷ []))
+    ∙ ap source.after (c.absorb.ensures ∙ (λ j. source.absorb ((c.in-Ok.ensures.state ∙ (λ j. state_after source s (same j))) j) (c.as_slice-last.ensures j)))
+    ∙ sym (state-append source s rounds (m.last ∷ []))

@@ -13,5 +13,5 @@ returns c =
     let entered = entered_is (out-ArgMatches c.args.matches.now).subcommand c.in_ok-name.name.now (rows_of found) c.in_ok-name.ensures.name c.in_ok-name.ensures.rows in
     c.command_named.ensures
     ∙ (same_named c.in_ok-name.name.now (c.get_str.ensures ∙ first_value-rows found (codes "number")) (c.get_str-2.ensures ∙ first_value-rows found (codes "workers"))
-    (c.get_str-3.ensures ∙ first_value-rows found (codes "provers")) (c.get_str-4.ensures ∙ first_value-rows found (codes "clients"))
+    (c.get_str-3.ensures ∙ first_value-rows found (codes "provers")) (c.get_str-4.ensures ∙ first_value-rows found (codes "clients")) (c.get_str-5.ensures ∙ first_value-rows found (codes "proof")) (c.get_str-6.ensures ∙ first_value-rows found (codes "history"))
     ∙ sym (ap (option_and_then command_of_rows) entered))

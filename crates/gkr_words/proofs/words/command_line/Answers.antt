@@ -2,7 +2,7 @@ use Rattle.std.proofs.Common.{◌≡◌, ◌∙◌, ◌||◌, true, [], ◌∷�
 use Rattle.std.proofs.lemmas.Result.{IfOk-weaker}
 use Rattle.clap.specs.Simple.{App, Shape, app_of_fields, new_app, on_top, with_rule, with_subcommand}
 use Rattle.clap.specs.Words.{app_of}
-use Rattle.gkr_words.specs.Commands.{demo_number, subcommand, workers_option}
+use Rattle.gkr_words.specs.Commands.{demo_number, proof_option, subcommand, workers_option}
 use Rattle.gkr_words.proofs.words.command_line.Goals as goal
 
 -- a command line without subcommands
@@ -11,14 +11,18 @@ alone shape = record { top = shape; subs = [] }
 
 pub returns : goal.returns
 returns c =
-    let prove_is : app_of c.in_ok-prove.prove ≡ alone (subcommand (codes "prove") (workers_option ∷ [])) =
-    c.in_ok-prove.ensures.shape c.workers_option.ensures.local ∙ ap₂ with_rule c.new.ensures.app c.workers_option.ensures.rule in
+    let workers_is : app_of c.in_ok-arg.field-0 ≡ alone (subcommand (codes "prove") (workers_option ∷ [])) =
+    c.in_ok-arg.ensures.shape c.workers_option.ensures.local ∙ ap₂ with_rule c.new.ensures.app c.workers_option.ensures.rule in
+    let workers_local =
+    c.in_ok-arg.ensures.globals ∙ ap₂ (λ a b. a || b) c.new.ensures.local c.workers_option.ensures.local in
+    let prove_is : app_of c.in_ok-prove.prove ≡ alone (subcommand (codes "prove") (workers_option ∷ proof_option ∷ [])) =
+    c.in_ok-prove.ensures.shape c.proof_option.ensures.local ∙ ap₂ with_rule workers_is c.proof_option.ensures.rule in
     let prove_local =
-    c.in_ok-prove.ensures.globals ∙ ap₂ (λ a b. a || b) c.new.ensures.local c.workers_option.ensures.local in
-    let number_is : app_of c.in_ok-arg.field-0 ≡ alone (subcommand (codes "demo") (demo_number ∷ [])) =
-    c.in_ok-arg.ensures.shape c.demo_number.ensures.local ∙ ap₂ with_rule c.new-2.ensures.app c.demo_number.ensures.rule in
+    c.in_ok-prove.ensures.globals ∙ ap₂ (λ a b. a || b) workers_local c.proof_option.ensures.local in
+    let number_is : app_of c.in_ok-arg-2.field-0 ≡ alone (subcommand (codes "demo") (demo_number ∷ [])) =
+    c.in_ok-arg-2.ensures.shape c.demo_number.ensures.local ∙ ap₂ with_rule c.new-2.ensures.app c.demo_number.ensures.rule in
     let number_local =
-    c.in_ok-arg.ensures.globals ∙ ap₂ (λ a b. a || b) c.new-2.ensures.local c.demo_number.ensures.local in
+    c.in_ok-arg-2.ensures.globals ∙ ap₂ (λ a b. a || b) c.new-2.ensures.local c.demo_number.ensures.local in
     let demo_is : app_of c.in_ok-demo.demo ≡ alone (subcommand (codes "demo") (demo_number ∷ workers_option ∷ [])) =
     c.in_ok-demo.ensures.shape c.workers_option-2.ensures.local ∙ ap₂ with_rule number_is c.workers_option-2.ensures.rule in
     let demo_local =

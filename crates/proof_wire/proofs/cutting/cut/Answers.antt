@@ -5,7 +5,9 @@ use Rattle.proof_wire.proofs.Cuts.{next_count, next_within, next_shape, next_par
 use Rattle.proof_wire.proofs.cutting.cut.Goals as goal
 
 pub slice_bounds-cut_layer-end : goal.slice_bounds-cut_layer-end
-slice_bounds-cut_layer-end c = next_within c.args.shape.now.ks c.loop-layer.layer c.k-k.result c.loop-layer.from (length c.args.elements.now) (omega (arith, c.loop-layer-test.true)) c.k-k.ensures c.loop-layer.invariant.0 c.requires
+slice_bounds-cut_layer-end c =
+    let within = next_within c.args.form c.args.shape.now.ks c.loop-layer.layer c.k-k.result c.loop-layer.from (length c.args.elements.now) (omega (arith, c.loop-layer-test.true)) c.k-k.ensures c.loop-layer.invariant.0 c.requires in
+    omega (arith, within, c.last_degree.ensures.value)
 
 pub loop-layer-preserved : goal.loop-layer-preserved
 loop-layer-preserved c =
@@ -16,9 +18,9 @@ loop-layer-preserved c =
     let here = c.loop-layer.invariant in
     let h : j < length ks - 1 = omega (arith, c.loop-layer-test.true) in
     let grown = c.in_ok-push.ensures.items in
-    let cut_here : layer_coefficients c.in_ok-cut_layer.field-0 ≡ take (7 * k + 1) (drop from c.args.elements.now) =
+    let cut_here : layer_coefficients c.in_ok-cut_layer.field-0 ≡ take (6 * k + (c.last_degree.result + 1)) (drop from c.args.elements.now) =
     c.in_ok-cut_layer.ensures.all ∙ ap (λ n. take n (drop from c.args.elements.now)) (omega arith) in (
-      next_count ks j k from h c.k-k.ensures here.0,
-      ap all_coefficients grown ∙ next_part from (7 * k + 1) c.args.elements.now c.loop-layer.layers.items c.in_ok-cut_layer.field-0 cut_here here.1,
-      subst (HaveShape (take (j + 1) (drop 1 ks))) (sym grown) (next_shape ks j k c.loop-layer.layers.items c.in_ok-cut_layer.field-0 h c.k-k.ensures c.in_ok-cut_layer.ensures.shape here.2),
+      ap (λ n. from + (6 * k + (n + 1))) c.last_degree.ensures.value ∙ next_count c.args.form ks j k from h c.k-k.ensures here.0,
+      ap all_coefficients grown ∙ next_part from (6 * k + (c.last_degree.result + 1)) c.args.elements.now c.loop-layer.layers.items c.in_ok-cut_layer.field-0 cut_here here.1,
+      subst (HaveShape c.args.form (take (j + 1) (drop 1 ks))) (sym grown) (next_shape c.args.form ks j k c.loop-layer.layers.items c.in_ok-cut_layer.field-0 h c.k-k.ensures c.in_ok-cut_layer.ensures.shape here.2),
     )

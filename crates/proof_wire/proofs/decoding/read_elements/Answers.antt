@@ -11,5 +11,5 @@ loop-i-preserved c =
     let many = c.loop-i.invariant.0 in
     let grown = c.in_ok-push-in-Some.ensures.items in (
       ap length grown ∙ length-append read (element ∷ []) ∙ ap (λ n. n + 1) many,
-      subst (λ es. IsFront es bytes) (sym grown) (front_more read element bytes (subst (InRange bytes) (sym many) (c.in-Some.ensures.some.0 refl)) (c.in-Some.ensures.value ∙ ap (element_at bytes) (sym many)) c.loop-i.invariant.1),
+      subst (λ es. IsFront c.args.form es bytes) (sym grown) (front_more c.args.form read element bytes (subst (InRange bytes) (sym many) (c.in-Some.ensures.some.0 refl)) (c.in-Some.ensures.value ∙ ap (element_at bytes) (sym many)) c.loop-i.invariant.1),
     )

@@ -3,4 +3,4 @@ use Rattle.proof_wire.specs.Trouble.{IsFront}
 use Rattle.proof_wire.proofs.decoding.read_elements.Given as goal
 
 abbrev pub invariant-loop-i : goal.invariant-loop-i
-invariant-loop-i l = (length l.elements.items ≡ l.i) × IsFront l.elements.items l.bytes
+invariant-loop-i l = (length l.elements.items ≡ l.i) × IsFront l.fn.form l.elements.items l.bytes

@@ -1,9 +1,7 @@
-use Rattle.std.proofs.Common.{rules, ◌≡◌, ◌≤◌, ◌++◌, ◌∷◌, [], List, length, map, sym, ap, ◌∙◌, subst, arith, append_assoc, append-nil, length-append}
+use Rattle.std.proofs.Common.{◌≡◌, ◌++◌, List, map, sym, ap, ◌∙◌, subst, append-nil}
 use Rattle.std.specs.Vec.Iter.{into_iter_items}
-use Rattle.std.proofs.lemmas.List.{map-append}
 use Rattle.job_table.proofs.Kept.{nothing_left}
 use Rattle.job_table.specs.declared.event.Outcome.{Outcome}
-use Rattle.case_text.specs.Served.{Served}
 use Rattle.script_prove.specs.declared.prover.JobReply.{JobReply}
 use Rattle.script_prove.specs.Served.{answer_of}
 use Rattle.script_prove.proofs.script.served.Goals as goal

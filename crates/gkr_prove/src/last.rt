@@ -1,0 +1,42 @@
+// The last message of a layer.
+
+ghost use Rattle.std.specs.Prelude.{◌≡◌, ◌≤◌, ◌+◌, IfOk, length};
+ghost use Rattle.field_ext.specs.Field.{k_ops};
+ghost use Rattle.field_ext.specs.Polynomial.{coefficients};
+ghost use Rattle.gkr_layers.specs.Forms.{last_polynomial};
+ghost use Rattle.proof_wire.specs.Forms.{last_degree};
+
+use field_ext::Ext;
+use line_reduce::line_poly;
+use mle_table::Table;
+use pair_reduce::pair_at;
+use proof_wire::ProofForm;
+use std::alloc::{AllocError, Global};
+
+/// The true last message of a layer over the values of the layer below, for the points of the two operands: the polynomial
+/// of the line between them, or the pair of values there.
+pub(crate) fn last_message(
+    alloc: Global,
+    form: ProofForm,
+    values: &Table,
+    left: &[Ext],
+    right: &[Ext],
+) -> Result<Vec<Ext>, AllocError>
+    requires most { values.now.k ≤ 16 }
+    requires left { length left.now ≡ values.now.k }
+    requires right { length right.now ≡ values.now.k }
+    ensures { IfOk result (λ last. last.items ≡ coefficients k_ops
+        (last_degree form values.now.k + 1)
+        (last_polynomial k_ops form values.now.items left.now right.now)) }
+{
+    match form {
+        ProofForm::Line => {
+            let line = line_poly(alloc, values, left, right)?;
+            Vec::from_slice(alloc, line.coefficients())
+        }
+        ProofForm::Pair => {
+            let pair = pair_at(alloc, values, left, right)?;
+            Vec::from_slice(alloc, &pair)
+        }
+    }
+}

@@ -1,0 +1,123 @@
+// What the verifier computes where a claim stands.
+
+ghost use Rattle.std.specs.Prelude.{◌≡◌, ◌≤◌, ◌<◌, ◌+◌, ◌^◌, [], All, length, map, slice_index_or};
+ghost use Rattle.field_ext.specs.Field.{k_ops, embed_k};
+ghost use Rattle.circuit_core.specs.Parts.{height, leaf_value, padded_values};
+ghost use Rattle.circuit_core.specs.Faults.{IsLeafWithin};
+ghost use Rattle.circuit_core.specs.Sound.{exponent_at};
+ghost use Rattle.wiring_poly.specs.Wiring.{wiring_add, wiring_mul};
+ghost use Rattle.gkr_layers.specs.Places.{IsOver, weighted, value_over};
+ghost use Rattle.gkr_layers.specs.Forms.{place_between};
+ghost use Rattle.gkr_layers.specs.Sumcheck.{point_between};
+ghost use Rattle.gkr_layers.specs.Standing.{place_of};
+ghost use Rattle.run_wiring.specs.CircuitRuns.{IsWiringOf};
+
+use crate::extension::leaves_extension;
+use circuit_core::{Circuit, Leaf};
+use field_ext::{Ext, Fp};
+use gkr_layers::Standing;
+use line_reduce::point_at;
+use proof_wire::ProofForm;
+use run_wiring::LayerWiring;
+
+/// The values of the two wiring polynomials.
+#[derive(Clone, Copy)]
+pub(crate) struct Wiring {
+    pub(crate) add: Ext,
+    pub(crate) mul: Ext,
+}
+
+/// The wiring polynomials of a layer where its claim stands, and at `left` and `right`.
+pub(crate) fn wiring_there(
+    circuit: &Circuit,
+    layer: usize,
+    wiring: &LayerWiring,
+    place: &Standing<'_>,
+    left: &[Ext],
+    right: &[Ext],
+) -> Wiring
+    requires layer { layer < height circuit.now.parts }
+    requires wiring { IsWiringOf circuit.now.parts layer wiring.now }
+    requires place { IsOver (exponent_at circuit.now.parts layer) (place_of place.now) }
+    requires left { length left.now ≡ exponent_at circuit.now.parts (layer + 1) }
+    requires right { length right.now ≡ exponent_at circuit.now.parts (layer + 1) }
+    ensures add { result.add ≡ weighted k_ops (place_of place.now)
+        (λ z. wiring_add k_ops (slice_index_or circuit.now.parts.layers layer []) z left.now
+        right.now) }
+    ensures mul { result.mul ≡ weighted k_ops (place_of place.now)
+        (λ z. wiring_mul k_ops (slice_index_or circuit.now.parts.layers layer []) z left.now
+        right.now) }
+{
+    match place {
+        Standing::One(point) => {
+            let (add, mul) = wiring.at(circuit, layer, point, left, right);
+            Wiring { add, mul }
+        }
+        Standing::Both(first, second, weight) => {
+            let weight = *weight;
+            let (add, mul) = wiring.at(circuit, layer, first, left, right);
+            let (other_add, other_mul) = wiring.at(circuit, layer, second, left, right);
+            Wiring {
+                add: add + weight * other_add,
+                mul: mul + weight * other_mul,
+            }
+        }
+    }
+}
+
+/// The extension of 0, the leaves and zeros, `2^k` values in all, where the claim stands.
+pub(crate) fn leaves_there(leaves: &[Leaf], inputs: &[Fp], k: usize, place: &Standing<'_>) -> Ext
+    requires few { k ≤ 16 }
+    requires place { IsOver k (place_of place.now) }
+    requires fits { length leaves.now < 2 ^ k }
+    requires within { All (IsLeafWithin (length inputs.now)) leaves.now }
+    ensures { result ≡ value_over k_ops
+        (map embed_k (padded_values (2 ^ k) (map (leaf_value inputs.now) leaves.now)))
+        (place_of place.now) }
+{
+    match place {
+        Standing::One(point) => leaves_extension(leaves, inputs, point),
+        Standing::Both(first, second, weight) => {
+            let weight = *weight;
+            let value = leaves_extension(leaves, inputs, first);
+            let other = leaves_extension(leaves, inputs, second);
+            value + weight * other
+        }
+    }
+}
+
+/// Where the claim on the layer below stands, for the points of its operands and the challenge after the last message;
+/// `point` is the point of the line there.
+pub(crate) fn standing_below<'a>(
+    form: ProofForm,
+    left: &'a [Ext],
+    right: &'a [Ext],
+    challenge: Ext,
+    point: &'a [Ext],
+) -> Standing<'a>
+    requires { form ≡ ProofForm.Line → point.now ≡ point_between k_ops left.now right.now challenge }
+    ensures { place_of result ≡ place_between k_ops form left.now right.now challenge }
+{
+    match form {
+        ProofForm::Line => Standing::One(point),
+        ProofForm::Pair => Standing::Both(left, right, challenge),
+    }
+}
+
+/// Writes the point of the line there, which a pair has no need of.
+pub(crate) fn write_point(
+    form: ProofForm,
+    left: &[Ext],
+    right: &[Ext],
+    challenge: Ext,
+    point: &mut [Ext],
+)
+    requires end { length right.now ≡ length left.now }
+    requires room { length point.old ≡ length left.now }
+    ensures { form ≡ ProofForm.Line → point.new ≡ point_between k_ops left.now right.now challenge }
+{
+    match form {
+        ProofForm::Line => point_at(left, right, challenge, point),
+        ProofForm::Pair => {}
+    }
+}
