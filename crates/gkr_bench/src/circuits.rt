@@ -12,7 +12,7 @@ use std::thread::Threads;
 use std::time::Instant;
 
 /// The circuit of a program, where it has one and its text is one of at most 65,536 bytes.
-fn compiled(alloc: Global, text: &[u8]) -> Option<Circuit> {
+pub(crate) fn compiled(alloc: Global, text: &[u8]) -> Option<Circuit> {
     if text.len() > 65_536 {
         return None;
     }
@@ -85,7 +85,7 @@ fn filling(rt: &HostRuntime, circuit: &Circuit) -> io::Result<u64> {
 }
 
 /// How many gates a circuit has, padding included.
-fn gates(circuit: &Circuit) -> u64 {
+pub(crate) fn gates(circuit: &Circuit) -> u64 {
     let mut count = 0u64;
     for layer in 0..circuit.height() {
         count = count.saturating_add(circuit.width(layer) as u64);

@@ -8,9 +8,13 @@
 //! many rows of 1,000 elements. `gkr_bench carried LEVELS`: the same of 60,000 values carried over so many layers.
 //! `gkr_bench layer K`: all rounds of one layer of `2^K` random gates, its line, and the verifier's wiring polynomials,
 //! beside plain loops that prove as many rounds. `gkr_bench workers K`: all rounds of such a layer with one, two, three and
-//! four workers in turn. `gkr_bench turns N`: so many turns of the lock of the job table, where no other thread waits.
+//! four workers in turn. `gkr_bench checked LEVELS`: the verifier on the circuit of `carried`, with the wiring polynomials by
+//! runs of gates, what it would take by walks over the gates, and proofs by pairs. `gkr_bench random K`: the same on eight
+//! layers of `2^K` random gates. `gkr_bench runs 1 < CASE`: the runs of each layer of a case's circuit. `gkr_bench turns N`: so
+//! many turns of the lock of the job table, where no other thread waits.
 #![tactic(auto)]
 
+mod checking;
 mod circuits;
 mod measure;
 mod plain_layer;
@@ -23,7 +27,7 @@ mod workers;
 use std::{env, io};
 
 const USAGE: &str =
-    "gkr_bench matmul N | steps N | names KIB | copies N | copied N | transposes N | letters N | fold K | case KIB | proof N | wide ROWS | carried LEVELS | layer K | workers K | turns N";
+    "gkr_bench matmul N | steps N | names KIB | copies N | copied N | transposes N | letters N | fold K | case KIB | proof N | wide ROWS | carried LEVELS | layer K | workers K | checked LEVELS | random K | runs N | turns N";
 
 fn main(rt: HostRuntime) -> io::Result<()> {
     let alloc = rt.alloc();
@@ -56,6 +60,16 @@ fn main(rt: HostRuntime) -> io::Result<()> {
             }
             if kind.as_str() == "workers" {
                 return workers::layer(&rt, &rt, size);
+            }
+            if kind.as_str() == "checked" {
+                let text = programs::carried(alloc, size)?;
+                return checking::program(&rt, "checked", text.as_bytes());
+            }
+            if kind.as_str() == "random" {
+                return checking::random(&rt, size);
+            }
+            if kind.as_str() == "runs" {
+                return checking::runs(&rt);
             }
             if kind.as_str() == "turns" {
                 return turns::turns(&rt, &rt, size);

@@ -20,8 +20,8 @@ use wiring_poly::wiring_at;
 
 /// Numbers that follow no plain rule.
 #[derive(Drop)]
-struct Random {
-    seed: u64,
+pub(crate) struct Random {
+    pub(crate) seed: u64,
 }
 
 impl Random {
@@ -32,7 +32,7 @@ impl Random {
         self.seed
     }
 
-    fn element(&mut self) -> Ext {
+    pub(crate) fn element(&mut self) -> Ext {
         let re = Fp::reduce(self.next());
         Ext::of(re, Fp::reduce(self.next()))
     }
@@ -46,7 +46,7 @@ impl Random {
     }
 
     /// A gate over `2^k` positions.
-    fn gate(&mut self, k: u32) -> CircuitGate {
+    pub(crate) fn gate(&mut self, k: u32) -> CircuitGate {
         let kind = if self.next() % 2 == 1 {
             Kind::Mul
         } else {
