@@ -5,7 +5,7 @@ use Rattle.std.proofs.lemmas.List.{append-nil}
 use Rattle.std.proofs.lemmas.List.Concat.{flat_map-append}
 use Rattle.field_ext.specs.Field.{F, K}
 use Rattle.field_ext.specs.Bytes.{bytes_of}
-use Rattle.circuit_core.specs.Parts.{Parts, layer_values}
+use Rattle.circuit_core.specs.Parts.{Parts, layer_values, input_table}
 use Rattle.circuit_core.specs.Sound.{SoundCircuit, exponent_at, exponents}
 use Rattle.gkr_layers.specs.Layers.{GateLayer, layers_of, message_count}
 use Rattle.transcript_fs.specs.Source.{Source, coordinates, state_after_coordinates, draws, all_draws}
@@ -16,7 +16,7 @@ use Rattle.proof_wire.specs.declared.messages.Messages.{Messages}
 use Rattle.proof_wire.specs.Forms.{magic}
 use Rattle.proof_wire.specs.Spelling.{coefficients_of, layer_coefficients, all_coefficients, spelling}
 use Rattle.gkr_layers.specs.declared.verdict.Verdict.TheVariants.{Accepted}
-use Rattle.gkr_layers.specs.Acceptance.{claim_in, verdict_of, input_table}
+use Rattle.gkr_layers.specs.Acceptance.{claim_in, verdict_of}
 use Rattle.proof_wire.specs.Lists.{messages_of, all_messages, round_messages, HaveShape}
 use Rattle.gkr_layers.proofs.Shapes.{have_shape, length-all}
 use Rattle.gkr_layers.specs.Honest.{AreHonest, AreHonestMessages}

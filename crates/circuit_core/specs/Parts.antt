@@ -1,6 +1,6 @@
 -- A layered circuit, and the values of its layers
 use Rattle.std.specs.Prelude.{ℕ, ◌+◌, ◌-◌, ◌<◌, List, [], ◌∷◌, ◌++◌, length, map, drop, replicate, slice_index_or, nat_lt, if◌then◌else◌}
-use Rattle.field_ext.specs.Field.{F, of, add_f, mul_f}
+use Rattle.field_ext.specs.Field.{F, K, of, add_f, mul_f, embed_k}
 use Rattle.circuit_core.specs.declared.gate.Kind.{Kind}
 use Rattle.circuit_core.specs.declared.gate.Kind.TheVariants.{Add, Mul}
 use Rattle.circuit_core.specs.declared.gate.CircuitGate.{CircuitGate}
@@ -70,3 +70,7 @@ values_of (gates ∷ layers) input = map (gate_value (values_of layers input)) g
 abbrev pub layer_values : Parts → List F → ℕ → List F
 layer_values p inputs i =
     values_of (drop i p.layers) (padded_values p.input_width (map (leaf_value inputs) p.leaves))
+
+-- the table of the input layer over the larger field: 0, the leaves' values and zeros
+abbrev pub input_table : Parts → List F → List K
+input_table p inputs = map embed_k (padded_values p.input_width (map (leaf_value inputs) p.leaves))

@@ -1,7 +1,7 @@
 -- What is claimed of a circuit, and the verifier's answer
 use Rattle.std.specs.Prelude.{ℕ, ◌+◌, List, map, take, drop}
 use Rattle.field_ext.specs.Field.{F, K, k_ops, embed_k}
-use Rattle.circuit_core.specs.Parts.{Parts, width_of, leaf_value, padded_values}
+use Rattle.circuit_core.specs.Parts.{Parts, width_of, padded_values, input_table}
 use Rattle.circuit_core.specs.Sound.{exponent_at}
 use Rattle.transcript_fs.specs.Source.{Source, coordinates, state_after_coordinates, draws}
 use Rattle.gkr_layers.specs.declared.verdict.Verdict.{Verdict}
@@ -20,10 +20,6 @@ pub record CircuitClaim : Type 0 where
   pub layers : List GateLayer
   pub input_table : List K
   pub claimed_table : List K
-
--- the table of a circuit's input layer: 0, the leaves' values and zeros
-abbrev pub input_table : Parts → List F → List K
-input_table p inputs = map embed_k (padded_values p.input_width (map (leaf_value inputs) p.leaves))
 
 -- That a circuit on these inputs has these outputs. The claimed output layer is 0, the outputs and zeros.
 abbrev pub claim_in : ProofForm → Parts → List F → List F → CircuitClaim

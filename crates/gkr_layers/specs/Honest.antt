@@ -3,7 +3,7 @@ use Rattle.std.specs.Prelude.{◌≡◌, ℕ, ◌+◌, ◌-◌, ◌<◌, List, [
 use Rattle.field_ext.specs.Field.{F, K, k_ops}
 use Rattle.field_ext.specs.Polynomial.{coefficients}
 use Rattle.circuit_core.specs.declared.gate.CircuitGate.{CircuitGate}
-use Rattle.circuit_core.specs.Parts.{Parts}
+use Rattle.circuit_core.specs.Parts.{Parts, input_table}
 use Rattle.circuit_core.specs.Sound.{exponent_at}
 use Rattle.transcript_fs.specs.Source.{Source, coordinates, state_after_coordinates, draws}
 use Rattle.gkr_layers.specs.Places.{Place}
@@ -14,7 +14,6 @@ use Rattle.gkr_layers.specs.Forms.{last_polynomial}
 use Rattle.proof_wire.specs.declared.form.ProofForm.TheVariants.{Line}
 use Rattle.gkr_layers.specs.Sumcheck.{round_polynomial}
 use Rattle.gkr_layers.specs.Layers.{GateLayer, layers_of, values_over, next_place}
-use Rattle.gkr_layers.specs.Acceptance.{input_table}
 
 -- each of n rounds' messages is the true polynomial at the challenges before it
 abbrev pub AreHonestRounds : ℕ → List CircuitGate → List K → Place K → ℕ → List (List K) → List K

@@ -6,7 +6,7 @@ ghost use Rattle.field_ext.specs.Polynomial.{HasAtMost};
 ghost use Rattle.field_ext.specs.Sums.{sum_cube};
 ghost use Rattle.circuit_core.specs.declared.gate.CircuitGate.{CircuitGate};
 ghost use Rattle.circuit_core.specs.Parts as parts;
-ghost use Rattle.circuit_core.specs.Parts.{Parts, layer_values, height};
+ghost use Rattle.circuit_core.specs.Parts.{Parts, layer_values, height, input_table};
 ghost use Rattle.circuit_core.specs.Sound.{SoundCircuit, exponents};
 ghost use Rattle.wiring_poly.specs.Wiring.{values_above};
 ghost use Rattle.transcript_fs.specs.Source.{Source, draws, all_draws, state_after, state_after_coordinates};
@@ -20,7 +20,7 @@ ghost use Rattle.gkr_layers.specs.Forms.{last_polynomial};
 ghost use Rattle.proof_wire.specs.declared.form.ProofForm.TheVariants.{Line, Pair};
 ghost use Rattle.gkr_layers.specs.Sumcheck.{round_polynomial};
 ghost use Rattle.gkr_layers.specs.Layers.{GateLayer, LayersHold, IsExceptional, FitTogether, message_count, total_exponent, values_over, layers_below};
-ghost use Rattle.gkr_layers.specs.Acceptance.{CircuitClaim, Accepts, challenge_count, claim_in, verdict_of, answer_from, input_table};
+ghost use Rattle.gkr_layers.specs.Acceptance.{CircuitClaim, Accepts, challenge_count, claim_in, verdict_of, answer_from};
 ghost use Rattle.gkr_layers.specs.Soundness.{IsExceptionalChallenge, HaveDegrees, IsFalse, LetsPass, bound, bounds, sum_of_bounds};
 ghost use Rattle.gkr_layers.specs.Honest.{AreHonest, AreHonestMessages};
 

@@ -4,7 +4,7 @@ use Rattle.std.proofs.lemmas.List.{get_or_append_left, take-append-le}
 use Rattle.field_ext.specs.Field.{F, K, k_ops, zero_k}
 use Rattle.field_ext.specs.Polynomial.{coefficients}
 use Rattle.circuit_core.specs.declared.gate.CircuitGate.{CircuitGate}
-use Rattle.circuit_core.specs.Parts.{Parts, height, leaf_value, padded_values}
+use Rattle.circuit_core.specs.Parts.{Parts, height, leaf_value, padded_values, input_table}
 use Rattle.circuit_core.specs.Sound.{exponent_at}
 use Rattle.gkr_layers.specs.Sumcheck.{round_polynomial}
 use Rattle.gkr_layers.specs.Forms.{last_polynomial, place_between}
@@ -19,7 +19,6 @@ use Rattle.proof_wire.specs.Lists.{messages_of, all_messages, HasShape}
 use Rattle.transcript_fs.proofs.Draws.{draws-append, length-draws}
 use Rattle.gkr_layers.proofs.Shapes.{length-messages}
 use Rattle.gkr_layers.specs.Honest.{IsHonestLayer, AreHonest}
-use Rattle.gkr_layers.specs.Acceptance.{input_table}
 use Rattle.gkr_layers.proofs.Forms.{place_over}
 use Rattle.proof_wire.specs.declared.form.ProofForm.{ProofForm}
 use Rattle.gkr_layers.specs.Places.{Place, IsOver}

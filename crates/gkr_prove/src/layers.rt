@@ -8,7 +8,7 @@ ghost use Rattle.gkr_layers.specs.Layers.{layers_of, lower_exponents, message_co
 ghost use Rattle.transcript_fs.specs.Source.{draws, state_after};
 ghost use Rattle.proof_wire.specs.Lists.{all_messages, HaveShape};
 ghost use Rattle.gkr_layers.specs.Honest.{AreHonest};
-ghost use Rattle.gkr_layers.specs.Acceptance.{input_table};
+ghost use Rattle.circuit_core.specs.Parts.{input_table};
 ghost use Rattle.gkr_layers.specs.Places.{IsOver};
 ghost use Rattle.gkr_prove.specs.Kept.{kept_place};
 ghost use Rattle.phase_run.specs.Work.{IsWorkerCount};

@@ -2,7 +2,7 @@
 
 ghost use Rattle.std.specs.Prelude.{◌≡◌, ◌≤◌, ◌*◌, ◌+◌, [], ◌∷◌, length, IsTrue};
 ghost use Rattle.field_ext.specs.Field.{k_ops};
-ghost use Rattle.circuit_core.specs.Parts.{height};
+ghost use Rattle.circuit_core.specs.Parts.{height, input_table};
 ghost use Rattle.circuit_core.specs.Sound.{exponent_at};
 ghost use Rattle.gkr_layers.specs.Layers.{message_count, total_exponent, layers_below, lower_exponents};
 ghost use Rattle.transcript_fs.specs.Source.{draws};
@@ -10,7 +10,6 @@ ghost use Rattle.gkr_layers.specs.Equations.{input_equation, equations, first_fa
 ghost use Rattle.proof_wire.specs.Lists.{all_messages, HaveShape};
 ghost use Rattle.gkr_layers.specs.Places.{IsOver, value_over};
 ghost use Rattle.gkr_layers.specs.Standing.{place_of};
-ghost use Rattle.gkr_layers.specs.Acceptance.{input_table};
 ghost use Rattle.run_wiring.specs.CircuitRuns.{AreWiringsOf};
 
 use crate::layer::check_layer;

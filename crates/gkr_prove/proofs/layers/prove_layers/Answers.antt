@@ -1,7 +1,7 @@
 -- One layer more
 use Rattle.std.proofs.Common.{◌≡◌, ℕ, ◌+◌, ◌<◌, ◌≤◌, ◌++◌, List, [], ◌∷◌, IsTrue, length, get_or, arith, ◌∙◌, ap, sym, subst, append-nil, append_assoc}
 use Rattle.field_ext.specs.Field.{K, k_ops}
-use Rattle.circuit_core.specs.Parts.{Parts, height}
+use Rattle.circuit_core.specs.Parts.{Parts, height, input_table}
 use Rattle.circuit_core.specs.Sound.{exponent_at}
 use Rattle.mle_table.specs.Shape.{TableValues}
 use Rattle.gkr_layers.specs.Layers.{GateLayer, layers_of, lower_exponents, message_count, layers_below, layer_at, next_place}
@@ -12,7 +12,6 @@ use Rattle.transcript_fs.proofs.Draws.{length-draws, state-append}
 use Rattle.gkr_layers.proofs.Circuits.{below_more, below_none}
 use Rattle.gkr_layers.proofs.Shapes.{length-messages, has_layer, has_below}
 use Rattle.gkr_layers.specs.Honest.{AreHonest, IsHonestLayer}
-use Rattle.gkr_layers.specs.Acceptance.{input_table}
 use Rattle.gkr_prove.proofs.LayerSteps.{messages-more, table_values, layers_more, over-next}
 use Rattle.gkr_prove.proofs.TableShapes.{table_exponent, is_layer, few_gates, shape_more}
 use Rattle.gkr_prove.proofs.layers.prove_layers.Goals as goal

@@ -8,7 +8,7 @@ use Rattle.transcript_fs.specs.Source.{draws, state_after}
 use Rattle.proof_wire.specs.declared.messages.LayerMessages.{LayerMessages}
 use Rattle.proof_wire.specs.Lists.{all_messages, HaveShape}
 use Rattle.gkr_layers.specs.Honest.{AreHonest}
-use Rattle.gkr_layers.specs.Acceptance.{input_table}
+use Rattle.circuit_core.specs.Parts.{input_table}
 use Rattle.gkr_prove.proofs.layers.prove_layers.Given as goal
 use Rattle.gkr_layers.specs.Places.{IsOver}
 use Rattle.gkr_prove.specs.Kept.{kept_place}

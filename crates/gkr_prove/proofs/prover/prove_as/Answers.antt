@@ -1,6 +1,6 @@
 -- The coordinates of the output point come first
 use Rattle.std.proofs.Common.{◌≡◌, ℕ, ◌++◌, List, IsTrue, length, take, drop, ◌∙◌, ap, sym, subst}
-use Rattle.circuit_core.specs.Parts.{Parts}
+use Rattle.circuit_core.specs.Parts.{Parts, input_table}
 use Rattle.circuit_core.specs.Sound.{exponent_at, exponents}
 use Rattle.gkr_layers.specs.Layers.{layers_of, message_count}
 use Rattle.round_tables.proofs.PhaseSteps.{written_back}
@@ -9,7 +9,6 @@ use Rattle.proof_wire.specs.declared.messages.LayerMessages.{LayerMessages}
 use Rattle.proof_wire.specs.Lists.{all_messages, HaveShape}
 use Rattle.transcript_fs.proofs.Draws.{has_front, has_after_point}
 use Rattle.gkr_layers.specs.Honest.{AreHonest}
-use Rattle.gkr_layers.specs.Acceptance.{input_table}
 use Rattle.gkr_layers.proofs.Shapes.{have_circuit_shape}
 use Rattle.gkr_prove.proofs.prover.prove_as.Goals as goal
 use Rattle.gkr_layers.specs.Places.{IsOver}
