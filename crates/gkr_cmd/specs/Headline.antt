@@ -90,7 +90,7 @@ pub record Headline (run : Run) : Type 0 where
       → length input ≤ script_limit → IsReplied run.ended
       → (run.ended ≡ statuses.Done) × WritesReplies script run.before.written run.after.written
   -- `serve --history` answers every script with the replies of `prove` to the jobs that its clients
-  -- don't withdraw, in the script's order, and with a history that its table had.
+  -- don't withdraw, in the script's order, and with a legal history of a table with them.
   pub told : (input : List ℕ) (workers provers clients : ℕ) (script : List MarkedJob)
       → Asks run (ServeHistory workers provers clients) input
       → history_script_reading input ≡ Ok script

@@ -138,8 +138,8 @@ pub record IsNoHistoryScript (input : List ℕ) (bad : BadCase) : Type 0 where
   pub within : length input ≤ script_limit
   pub read : history_script_reading input ≡ Err bad
 
--- The input is a text of such a script, and these are the replies to its jobs and a history that
--- its table had.
+-- The input is a text of such a script, and these are the replies to its jobs and a legal
+-- history of a table with them.
 pub record IsToldScript (input : List ℕ) (history : History) : Type 0 where
   pub within : length input ≤ script_limit
   pub script : List MarkedJob

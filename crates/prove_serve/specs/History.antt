@@ -1,4 +1,4 @@
--- A history that a table had, of the jobs of a script.
+-- The legal histories of a table with the jobs of a script.
 use Rattle.std.specs.Prelude.{◌≡◌, ◌⊎◌, ◌↔◌, ◌<◌, ◌+◌, ◌*◌, ⊤, ℕ, Bool, true, List, [], length, Some, slice_get}
 use Rattle.tallies.specs.Tallies.{HasEachOnce}
 use Rattle.job_core.specs.JobMachine.{are_steps, replay, withdrawals}
@@ -24,7 +24,7 @@ module _ {C A : Type 0} (fits : A → C → Type 0) where
     pub marked : o ≡ Withdrawn → job.2 ≡ true
     pub suits : AnswerFits o job.1
 
-  -- The history of a table that the jobs of a script went through. A job is a client, a case, and
+  -- A legal history of a table with the jobs of a script. A job is a client, a case, and
   -- whether it is marked; `places` has the place in the script of each number of the history.
   pub record IsHistoryOf (jobs : List (ℕ × C × Bool)) (outcomes : List (HistoryOutcome A))
       (history : List Entry) (places : List ℕ) : Type 0 where

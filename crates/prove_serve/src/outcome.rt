@@ -9,7 +9,7 @@ pub enum HistoryOutcome<A> {
     Withdrawn,
 }
 
-/// The outcomes of a script's jobs, in its order, and the history that its table had.
+/// The outcomes of a script's jobs, in its order, and a history of the table with them.
 #[derive(Drop)]
 pub struct Run<A> {
     pub outcomes: Vec<HistoryOutcome<A>>,

@@ -57,8 +57,9 @@ line_of places (entries.Take n) = lines.Take n
 line_of places (entries.Finish n) = lines.Finish n
 line_of places (entries.Withdraw n) = lines.Withdraw n
 
--- These are the replies to the jobs of a script, and the lines of a history that its table had: a
--- job is told as withdrawn exactly where the history withdraws it, and else by its reply.
+-- These are the replies to the jobs of a script, and the lines of a legal history of a table with
+-- these jobs: a job is told as withdrawn exactly where the history withdraws it, and else by its
+-- reply.
 pub record IsServedHistory (script : List MarkedJob) (served : List Served)
     (printed : List HistoryLine) : Type 0 where
   pub outcomes : List (HistoryOutcome JobReply)
