@@ -221,8 +221,7 @@ impl<'a> GateTables<'a> {
         let pairs = pair_count(self.layer.k, self.working.count);
         let from = PIECE * piece;
         let to = (from + PIECE).min(pairs);
-        let part = self.working.part(&self.layer, from, to, steps);
-        [part.constant, part.linear, part.square]
+        self.working.part(&self.layer, from, to, steps)
     }
 
     /// The coefficients of 1, X and X² of a piece of the next round.

@@ -1,6 +1,6 @@
 // What the pairs of a round sum to.
 
-ghost use Rattle.std.specs.Prelude.{◌≡◌, ◌≤◌, ◌<◌, ◌*◌, ◌+◌, ◌-◌, ◌^◌, ℕ, [], ◌∷◌, length, slice_index_or};
+ghost use Rattle.std.specs.Prelude.{◌≡◌, ◌≤◌, ◌<◌, ◌*◌, ◌+◌, ◌-◌, ◌^◌, ℕ, length, slice_index_or};
 ghost use Rattle.field_ext.specs.Field.{K, k_ops, zero_k};
 ghost use Rattle.field_ext.specs.Polynomial.{value_at};
 ghost use Rattle.field_ext.specs.Sums.{sum_below};
@@ -12,14 +12,6 @@ use crate::operand::Operand;
 use field_ext::Ext;
 use std::sync::ledger::Ledger;
 use step_count::Steps;
-
-/// The coefficients of 1, X and X².
-#[derive(Clone, Copy)]
-pub(crate) struct Quadratic {
-    pub(crate) constant: Ext,
-    pub(crate) linear: Ext,
-    pub(crate) square: Ext,
-}
 
 /// A quadratic polynomial by its values at 0 and 1 and its last coefficient.
 #[derive(Clone, Copy)]
@@ -54,7 +46,7 @@ fn pair<V: Operand>(table: &[Ext], scales: &[Ext], shifts: &[Ext], j: usize) -> 
     }
 }
 
-/// The sum of what the pairs from `from` to before `to` give, which are a piece.
+/// The coefficients of 1, X and X² of the sum of what the pairs from `from` to before `to` give, which are a piece.
 pub(crate) fn pair_sum<V: Operand, L: Ledger>(
     table: &[Ext],
     scales: &[Ext],
@@ -62,15 +54,15 @@ pub(crate) fn pair_sum<V: Operand, L: Ledger>(
     from: usize,
     to: usize,
     steps: &mut Steps<L>,
-) -> Quadratic
+) -> [Ext; 3]
     requires ordered { from ≤ to }
     requires few { to ≤ from + 1024 }
     requires table { 2 * to ≤ length table.now }
     requires scales { 2 * to ≤ length scales.now }
     requires shifts { 2 * to ≤ length shifts.now }
     requires values { (i : ℕ) → V.holds (slice_index_or table.now i zero_k) }
-    ensures sum { (e : K) → value_at k_ops (result.constant ∷ result.linear ∷ result.square ∷ []) e
-        ≡ sum_below k_ops (to - from)
+    ensures three { length result ≡ 3 }
+    ensures sum { (e : K) → value_at k_ops result e ≡ sum_below k_ops (to - from)
         (λ j. pair_at k_ops table.now scales.now shifts.now e (from + j)) }
     ensures steps { steps.new ≡ steps.old + (to - from) }
 {
@@ -87,14 +79,10 @@ pub(crate) fn pair_sum<V: Operand, L: Ledger>(
     through(at_zero.reduced(), at_one.reduced(), square.reduced())
 }
 
-/// The polynomial with these values at 0 and 1 and this last coefficient.
-fn through(at_zero: Ext, at_one: Ext, square: Ext) -> Quadratic
-    ensures { (e : K) → value_at k_ops (result.constant ∷ result.linear ∷ result.square ∷ []) e
-        ≡ quadratic_at k_ops at_zero at_one square e }
+/// The coefficients of the polynomial with these values at 0 and 1 and this last coefficient.
+fn through(at_zero: Ext, at_one: Ext, square: Ext) -> [Ext; 3]
+    ensures three { length result ≡ 3 }
+    ensures value { (e : K) → value_at k_ops result e ≡ quadratic_at k_ops at_zero at_one square e }
 {
-    Quadratic {
-        constant: at_zero,
-        linear: at_one - (at_zero + square),
-        square,
-    }
+    [at_zero, at_one - (at_zero + square), square]
 }

@@ -14,7 +14,7 @@ use crate::folding::fold_front;
 use crate::gathering::{gather_left, gather_right};
 use crate::layer_gates::{LayerGates, power};
 use crate::operand::{Base, Whole};
-use crate::pairs::{Quadratic, pair_sum};
+use crate::pairs::pair_sum;
 use field_ext::Ext;
 use mle_table::fill_equality;
 use std::alloc::{AllocError, Global};
@@ -72,7 +72,7 @@ fn fold_table<L: Ledger>(values: &mut [Ext], half: usize, r: Ext, base: bool, st
     }
 }
 
-/// The sum of the pairs of a piece, where the table's values lie in the base field if `base` is true.
+/// The coefficients of the sum of the pairs of a piece, where the table's values lie in the base field if `base` is true.
 fn sum_pairs<L: Ledger>(
     table: &[Ext],
     scales: &[Ext],
@@ -81,15 +81,15 @@ fn sum_pairs<L: Ledger>(
     to: usize,
     base: bool,
     steps: &mut Steps<L>,
-) -> Quadratic
+) -> [Ext; 3]
     requires ordered { from ≤ to }
     requires few { to ≤ from + 1024 }
     requires table { 2 * to ≤ length table.now }
     requires scales { 2 * to ≤ length scales.now }
     requires shifts { 2 * to ≤ length shifts.now }
     requires values { IsTrue base → AreBase table.now }
-    ensures sum { (e : K) → value_at k_ops (result.constant ∷ result.linear ∷ result.square ∷ []) e
-        ≡ sum_below k_ops (to - from)
+    ensures three { length result ≡ 3 }
+    ensures sum { (e : K) → value_at k_ops result e ≡ sum_below k_ops (to - from)
         (λ j. pair_at k_ops table.now scales.now shifts.now e (from + j)) }
     ensures steps { steps.new ≡ steps.old + (to - from) }
 {
@@ -310,23 +310,23 @@ impl Working {
         }
     }
 
-    /// The part of the next round in which the pairs are those from `from` to before `to`.
+    /// The coefficients of 1, X and X² of the part of the next round in which the pairs are those from `from` to before `to`.
     pub(crate) fn part<L: Ledger>(
         &self,
         layer: &LayerGates<'_>,
         from: usize,
         to: usize,
         steps: &mut Steps<L>,
-    ) -> Quadratic
+    ) -> [Ext; 3]
         requires layer { IsLayerGates layer.now }
         requires works { WorksFor layer.now self.now }
         requires left { self.now.count < layer.now.k + layer.now.k }
         requires ordered { from ≤ to }
         requires few { to ≤ from + 1024 }
         requires within { to ≤ 2 ^ (left_in_phase layer.now.k self.now.count - 1) }
-        ensures part { (result.constant ∷ result.linear ∷ result.square ∷ []) ≡
-            coefficients k_ops 3 (part_of_round k_ops layer.now.k layer.now.gates.now
-            layer.now.values.now.items (place_of layer.now) (bound_of self.now) from to) }
+        ensures part { result ≡ coefficients k_ops 3 (part_of_round k_ops layer.now.k
+            layer.now.gates.now layer.now.values.now.items (place_of layer.now)
+            (bound_of self.now) from to) }
         ensures steps { steps.new ≡ steps.old + (to - from) }
     {
         let base = self.is_base(layer);

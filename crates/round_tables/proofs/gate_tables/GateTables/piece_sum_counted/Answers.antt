@@ -15,6 +15,6 @@ returns-clause-sum g c =
     let n : length (bound_of c.self.inside.working) ≡ c.self.inside.working.count = length-count w.challenges.items layer.k w.count (sym w.challenges.ok.0 ∙ works.rooms.challenges) works.counted in
     let to : c.min-to.result ≡ min (1024 * c.args.piece + 1024) (2 ^ (left_in_phase c.self.inside.layer.k (length (bound_of c.self.inside.working)) - 1)) =
     c.min-to.ensures ∙ ap (min (1024 * c.args.piece + 1024)) (c.pair_count-pairs.ensures ∙ (λ i. 2 ^ (left_in_phase layer.k (sym n i) - 1))) in
-    c.part-part.ensures.part
+    c.part.ensures.part
     ∙ (λ i. coefficients k_ops 3 (part_of_round k_ops layer.k layer.gates.now layer.values.now.items (place_of layer) (bound_of w) (1024 * c.args.piece) (to i)))
     ∙ ap (λ (s : LayerSum). coefficients k_ops 3 (piece_poly s c.args.piece)) c.self.view_is

@@ -1,5 +1,5 @@
 -- The pairs of a range sum to a part of the round
-use Rattle.std.proofs.Common.{◌≡◌, ◌^◌, ◌+◌, ◌-◌, ◌*◌, ◌≤◌, [], ◌∷◌, length, arith, ◌∙◌, sym, refl, lit<}
+use Rattle.std.proofs.Common.{◌≡◌, ◌^◌, ◌+◌, ◌-◌, ◌*◌, ◌≤◌, length, arith, ◌∙◌, sym, lit<}
 use Rattle.field_ext.specs.Field.{k_ops}
 use Rattle.field_ext.proofs.KLaws.{k_laws}
 use Rattle.field_ext.specs.Sums.{sum_below}
@@ -35,9 +35,8 @@ returns-clause-part g c =
     let k = c.args.layer.now.k in
     let w = c.args.self.now in
     let n : length (bound_of c.args.self.now) ≡ c.args.self.now.count = length-count w.challenges.items k w.count (sym w.challenges.ok.0 ∙ c.requires.works.rooms.challenges) c.requires.works.counted in
-    let sum = c.sum_pairs.result in
-    from_values 3 (sum.constant ∷ sum.linear ∷ sum.square ∷ []) (part_of_round k_ops k c.args.layer.now.gates.now c.args.layer.now.values.now.items (place_of c.args.layer.now) (bound_of w) c.args.from c.args.to)
-    (lit< tt) refl (length-part k_ops k c.args.layer.now.gates.now c.args.layer.now.values.now.items (place_of c.args.layer.now) (bound_of w) c.args.from c.args.to) (λ e.
+    from_values 3 c.sum_pairs.result (part_of_round k_ops k c.args.layer.now.gates.now c.args.layer.now.values.now.items (place_of c.args.layer.now) (bound_of w) c.args.from c.args.to)
+    (lit< tt) c.sum_pairs.ensures.three (length-part k_ops k c.args.layer.now.gates.now c.args.layer.now.values.now.items (place_of c.args.layer.now) (bound_of w) c.args.from c.args.to) (λ e.
     c.sum_pairs.ensures.sum e
     ∙ (λ i. sum_below k_ops (c.args.to - c.args.from) (λ j. pair_at k_ops (c.deref.ensures.value i) (c.deref-2.ensures.value i) (c.deref-3.ensures.value i) e (c.args.from + j)))
     ∙ sym (part-pairs k_ops k_laws k (left_in_phase k w.count - 1) c.args.layer.now.gates.now c.args.layer.now.values.now.items (place_of c.args.layer.now) (bound_of w)
