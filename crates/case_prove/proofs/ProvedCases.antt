@@ -8,7 +8,7 @@ use Rattle.field_ext.specs.Bytes.{bytes_of}
 use Rattle.circuit_core.specs.Parts.{Parts, layer_values, input_table}
 use Rattle.circuit_core.specs.Sound.{SoundCircuit, exponent_at, exponents}
 use Rattle.gkr_layers.specs.Layers.{GateLayer, layers_of, message_count}
-use Rattle.transcript_fs.specs.Source.{Source, coordinates, state_after_coordinates, draws, all_draws}
+use Rattle.transcript_fs.specs.Source.{Source, point_draws, state_after_point, draws, all_draws}
 use Rattle.transcript_fs.specs.Transcript.{transcript}
 use Rattle.proof_wire.specs.declared.messages.Round.{Round}
 use Rattle.proof_wire.specs.declared.messages.LayerMessages.{LayerMessages}
@@ -93,7 +93,7 @@ one_proof : (form : ProofForm) → HonestIsUnique form → (p : Parts) (inputs :
 one_proof form unique p inputs s a b shape shape' honest honest' =
     let k : ℕ = exponent_at p 0 in
     same_spelling form a b
-    (unique (layers_of p) (input_table p inputs) (coordinates transcript s k) transcript (state_after_coordinates transcript s k) (all_messages a.layers) (all_messages b.layers)
+    (unique (layers_of p) (input_table p inputs) (point_draws transcript s k) transcript (state_after_point transcript s k) (all_messages a.layers) (all_messages b.layers)
     (count form p a shape) (count form p b shape') honest honest')
 
 pub one_proved : (form : ProofForm) → OneTree → OneCircuit → HonestIsUnique form → (c p q : Content) → IsProved form c p → IsProved form c q → p ≡ q

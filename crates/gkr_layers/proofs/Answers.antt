@@ -2,7 +2,7 @@
 use Rattle.std.proofs.Common.{◌≡◌, ℕ, suc, ◌+◌, ◌≤◌, List, [], ◌∷◌, ◌++◌, length, get_or, take, drop, Bool, true, false, if◌then◌else◌, refl, sym, ◌∙◌, ap, arith, length-append, length-take, length-drop}
 use Rattle.field_ext.specs.Field.{K, k_ops, zero_k, same_k}
 use Rattle.field_ext.specs.Polynomial.{value_at}
-use Rattle.transcript_fs.specs.Source.{Source, coordinates, state_after_coordinates, draws, all_draws, state_after}
+use Rattle.transcript_fs.specs.Source.{Source, point_draws, state_after_point, draws, all_draws, state_after}
 use Rattle.transcript_fs.proofs.Draws.{point_front, point_rest, length-draws}
 use Rattle.gkr_layers.specs.declared.verdict.Verdict.{Verdict}
 use Rattle.gkr_layers.specs.declared.verdict.Verdict.TheVariants.{Accepted}
@@ -37,9 +37,9 @@ answer-still source s (e ∷ es) = still (same_k e.had e.want) (answer source s 
 pub answer_from-verdict : (stated : CircuitClaim) (source : Source) (s : List ℕ) (qs : List (List K)) → (answer_from stated source s qs).verdict ≡ verdict_of stated qs (all_draws source s stated.k qs)
 answer_from-verdict stated source s qs =
     let k : ℕ = stated.k in
-    let behind : List ℕ = state_after_coordinates source s k in
+    let behind : List ℕ = state_after_point source s k in
     let rest : List K = draws source behind qs in
-    let point : List K = coordinates source s k in
+    let point : List K = point_draws source s k in
     answer-verdict source behind (equations stated.form 0 stated.layers stated.input_table (At point) (value_over k_ops stated.claimed_table (At point)) qs rest) qs
     ∙ (λ i. first_failure (equations stated.form 0 stated.layers stated.input_table (At (sym (point_front source s k rest) i)) (value_over k_ops stated.claimed_table (At (sym (point_front source s k rest) i))) qs (sym (point_rest source s k rest) i)))
 
@@ -98,10 +98,10 @@ taken_whole source s (e ∷ es) (q ∷ qs) t u h =
     the_first (same_k e.had e.want) (answer source next es qs) e.failed s (state_after source next qs) t.0 (taken_whole source next es qs t.1 v) h
 
 pub all_taken : (stated : CircuitClaim) (source : Source) (s : List ℕ) (qs : List (List K)) → length qs ≡ message_count stated.layers → (answer_from stated source s qs).verdict ≡ Accepted →
-    (answer_from stated source s qs).state ≡ state_after source (state_after_coordinates source s stated.k) qs
+    (answer_from stated source s qs).state ≡ state_after source (state_after_point source s stated.k) qs
 all_taken stated source s qs size accepted =
-    let behind : List ℕ = state_after_coordinates source s stated.k in
-    let place : Place K = At (coordinates source s stated.k) in
+    let behind : List ℕ = state_after_point source s stated.k in
+    let place : Place K = At (point_draws source s stated.k) in
     let claim : K = value_over k_ops stated.claimed_table place in
     let rs : List K = draws source behind qs in
     let count = count-all stated.form 0 stated.layers stated.input_table place claim qs rs size (length-draws source behind qs ∙ size) in

@@ -3,7 +3,7 @@ use Rattle.std.proofs.Common.{◌≡◌, ℕ, List, length, map, take, drop, sym
 use Rattle.field_ext.specs.Field.{F, K, k_ops, embed_k}
 use Rattle.circuit_core.specs.Parts.{layer_values, leaf_value, padded_values}
 use Rattle.circuit_core.specs.Sound.{SoundCircuit, exponents}
-use Rattle.transcript_fs.specs.Source.{Source, coordinates, state_after_coordinates, draws, all_draws}
+use Rattle.transcript_fs.specs.Source.{Source, point_draws, state_after_point, draws, all_draws}
 use Rattle.transcript_fs.proofs.Draws.{length-draws, length-coordinates, point_front, point_rest}
 use Rattle.proof_wire.specs.declared.messages.Messages.{Messages}
 use Rattle.proof_wire.specs.Lists.{all_messages, HaveShape}
@@ -23,16 +23,16 @@ use Rattle.gkr_layers.proofs.Shapes.{have_shape, length-all}
 
 -- of layers whose claimed table is the true one
 pub honest_accepted : (stated : CircuitClaim) (source : Source) (s : List ℕ) (qs : List (List K)) → FitTogether stated.k stated.layers → length qs ≡ message_count stated.layers → stated.claimed_table ≡ true_table stated →
-    AreHonest stated.form stated.layers stated.input_table (At (coordinates source s stated.k)) qs (draws source (state_after_coordinates source s stated.k) qs) → verdict_of stated qs (all_draws source s stated.k qs) ≡ Accepted
+    AreHonest stated.form stated.layers stated.input_table (At (point_draws source s stated.k)) qs (draws source (state_after_point source s stated.k) qs) → verdict_of stated qs (all_draws source s stated.k qs) ≡ Accepted
 honest_accepted stated source s qs fits size are honest =
     let form : ProofForm = stated.form in
     let k : ℕ = stated.k in
-    let z : List K = coordinates source s k in
-    let rest : List K = draws source (state_after_coordinates source s k) qs in
+    let z : List K = point_draws source s k in
+    let rest : List K = draws source (state_after_point source s k) qs in
     (λ i. first_failure (equations form 0 stated.layers stated.input_table (At (point_front source s k rest i)) (value_over k_ops stated.claimed_table (At (point_front source s k rest i))) qs (point_rest source s k rest i)))
     ∙ (λ i. first_failure (equations form 0 stated.layers stated.input_table (At z) (value_over k_ops (are i) (At z)) qs rest))
     ∙ layers_accepted form 0 stated.layers stated.input_table (At z) (value_over k_ops (true_table stated) (At z)) qs rest
-    (honest_hold form k stated.layers stated.input_table (At z) qs rest (length-coordinates source s k) fits size (length-draws source (state_after_coordinates source s k) qs ∙ size) honest)
+    (honest_hold form k stated.layers stated.input_table (At z) qs rest (length-coordinates source s k) fits size (length-draws source (state_after_point source s k) qs ∙ size) honest)
 
 -- of a circuit that has the claimed outputs
 pub honest_of_circuit : (form : ProofForm) (c : SoundCircuit) (inputs outputs : List F) (source : Source) (s : List ℕ) (qs : List (List K)) → length outputs ≡ c.parts.outputs →

@@ -11,7 +11,7 @@ use Rattle.gkr_layers.specs.Layers.{GateLayer, layers_from, layers_of, lower_exp
 use Rattle.circuit_core.proofs.Sizes.{size_of}
 use Rattle.gkr_layers.proofs.Circuits.{layers_fit, input_size, length-layers, over-embed, input_width, length-table}
 use Rattle.wiring_poly.proofs.Identity.{take-front}
-use Rattle.transcript_fs.specs.Source.{Source, coordinates, state_after_coordinates, draws, all_draws, state_after}
+use Rattle.transcript_fs.specs.Source.{Source, point_draws, state_after_point, draws, all_draws, state_after}
 use Rattle.proof_wire.specs.declared.messages.LayerMessages.{LayerMessages}
 use Rattle.proof_wire.specs.declared.messages.Messages.{Messages}
 use Rattle.proof_wire.specs.declared.messages.Round.{Round}
@@ -99,7 +99,7 @@ degrees_of form (layer ∷ layers) (m ∷ ms) h =
 
 length-challenges : (source : Source) (s : List ℕ) (stated : CircuitClaim) (qs : List (List K)) → length qs ≡ message_count stated.layers → length (all_draws source s stated.k qs) ≡ challenge_count stated
 length-challenges source s stated qs e =
-    omega (arith, length-append (coordinates source s stated.k) (draws source (state_after_coordinates source s stated.k) qs), length-coordinates source s stated.k, length-draws source (state_after_coordinates source s stated.k) qs, e)
+    omega (arith, length-append (point_draws source s stated.k) (draws source (state_after_point source s stated.k) qs), length-coordinates source s stated.k, length-draws source (state_after_point source s stated.k) qs, e)
 
 -- a source gives as many challenges for messages of the shape
 pub drawn : (form : ProofForm) (p : Parts) (inputs outputs : List F) (source : Source) (s : List ℕ) (messages : Messages) → HaveShape form (drop 1 (exponents p)) messages.layers →

@@ -3,7 +3,7 @@ use Rattle.std.specs.Prelude.{ℕ, ◌+◌, List, map, take, drop}
 use Rattle.field_ext.specs.Field.{F, K, k_ops, embed_k}
 use Rattle.circuit_core.specs.Parts.{Parts, width_of, padded_values, input_table}
 use Rattle.circuit_core.specs.Sound.{exponent_at}
-use Rattle.transcript_fs.specs.Source.{Source, coordinates, state_after_coordinates, draws}
+use Rattle.transcript_fs.specs.Source.{Source, point_draws, state_after_point, draws}
 use Rattle.gkr_layers.specs.declared.verdict.Verdict.{Verdict}
 use Rattle.gkr_layers.specs.Places.{Place, value_over}
 use Rattle.gkr_layers.specs.Places.Place.{At}
@@ -66,7 +66,7 @@ verdict_of stated qs rs =
 -- point are drawn, then each message is taken in once its equation holds.
 abbrev pub answer_from : CircuitClaim → Source → List ℕ → List (List K) → Answered
 answer_from stated source s qs =
-    let place = At (coordinates source s stated.k) in
-    let behind = state_after_coordinates source s stated.k in
+    let place = At (point_draws source s stated.k) in
+    let behind = state_after_point source s stated.k in
     answer source behind (equations stated.form 0 stated.layers stated.input_table place
     (value_over k_ops stated.claimed_table place) qs (draws source behind qs)) qs

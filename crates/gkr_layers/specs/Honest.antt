@@ -5,7 +5,7 @@ use Rattle.field_ext.specs.Polynomial.{coefficients}
 use Rattle.circuit_core.specs.declared.gate.CircuitGate.{CircuitGate}
 use Rattle.circuit_core.specs.Parts.{Parts, input_table}
 use Rattle.circuit_core.specs.Sound.{exponent_at}
-use Rattle.transcript_fs.specs.Source.{Source, coordinates, state_after_coordinates, draws}
+use Rattle.transcript_fs.specs.Source.{Source, point_draws, state_after_point, draws}
 use Rattle.gkr_layers.specs.Places.{Place}
 use Rattle.gkr_layers.specs.Places.Place.{At}
 use Rattle.proof_wire.specs.declared.form.ProofForm.{ProofForm}
@@ -42,8 +42,8 @@ AreHonest form (layer ∷ layers) input place qs rs =
 abbrev pub AreHonestMessages : ProofForm → Parts → List F → Source → List ℕ → List (List K) → Type 0
 AreHonestMessages form p inputs source s qs =
     let k = exponent_at p 0 in
-    AreHonest form (layers_of p) (input_table p inputs) (At (coordinates source s k)) qs
-    (draws source (state_after_coordinates source s k) qs)
+    AreHonest form (layers_of p) (input_table p inputs) (At (point_draws source s k)) qs
+    (draws source (state_after_point source s k) qs)
 
 -- the same by lines
 abbrev pub IsHonestProof : Parts → List F → Source → List ℕ → List (List K) → Type 0

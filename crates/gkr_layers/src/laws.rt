@@ -9,7 +9,7 @@ ghost use Rattle.circuit_core.specs.Parts as parts;
 ghost use Rattle.circuit_core.specs.Parts.{Parts, layer_values, height, input_table};
 ghost use Rattle.circuit_core.specs.Sound.{SoundCircuit, exponents};
 ghost use Rattle.wiring_poly.specs.Wiring.{values_above};
-ghost use Rattle.transcript_fs.specs.Source.{Source, draws, all_draws, state_after, state_after_coordinates};
+ghost use Rattle.transcript_fs.specs.Source.{Source, draws, all_draws, state_after, state_after_point};
 ghost use Rattle.proof_wire.specs.declared.messages.Messages.{Messages};
 ghost use Rattle.proof_wire.specs.Lists.{all_messages, HaveShape};
 ghost use Rattle.gkr_layers.specs.declared.verdict.Verdict.TheVariants.{Accepted};
@@ -68,7 +68,7 @@ pub fn answers()
         → length qs ≡ message_count stated.layers
         → (answer_from stated source s qs).verdict ≡ Accepted →
         (answer_from stated source s qs).state ≡ state_after source
-        (state_after_coordinates source s stated.k) qs }
+        (state_after_point source s stated.k) qs }
 {}
 
 /// At each place and after any messages and challenges, few challenges are exceptional, whatever the verdict is.

@@ -5,7 +5,7 @@ ghost use Rattle.field_ext.specs.Field.{F};
 ghost use Rattle.circuit_core.specs.Sound.{exponent_at, exponents};
 ghost use Rattle.circuit_eval.specs.Tables.{AreTables};
 ghost use Rattle.gkr_layers.specs.Layers.{challenges_of};
-ghost use Rattle.transcript_fs.specs.Source.{state_after, state_after_coordinates};
+ghost use Rattle.transcript_fs.specs.Source.{state_after, state_after_point};
 ghost use Rattle.phase_run.specs.Work.{IsWorkerCount};
 ghost use Rattle.proof_wire.specs.Lists.{all_messages, HaveShape};
 ghost use Rattle.gkr_layers.specs.Honest.{AreHonestMessages, IsHonestProof};
@@ -45,7 +45,7 @@ pub fn prove<R: Threads + Sync, C: Challenges, G: Gate>(
         IsHonestProof circuit.now.parts inputs C.source (C.state challenges.old)
         (all_messages messages.layers)) }
     ensures state { IfOk result (λ messages. C.state challenges.new
-        ≡ state_after C.source (state_after_coordinates C.source (C.state challenges.old)
+        ≡ state_after C.source (state_after_point C.source (C.state challenges.old)
         (exponent_at circuit.now.parts 0)) (all_messages messages.layers)) }
     ensures shape { IfOk result
         (λ messages. HaveShape ProofForm.Line (drop 1 (exponents circuit.now.parts)) messages.layers) }
@@ -80,7 +80,7 @@ pub fn prove_pair<R: Threads + Sync, C: Challenges, G: Gate>(
         AreHonestMessages ProofForm.Pair circuit.now.parts inputs C.source (C.state challenges.old)
         (all_messages messages.layers)) }
     ensures state { IfOk result (λ messages. C.state challenges.new
-        ≡ state_after C.source (state_after_coordinates C.source (C.state challenges.old)
+        ≡ state_after C.source (state_after_point C.source (C.state challenges.old)
         (exponent_at circuit.now.parts 0)) (all_messages messages.layers)) }
     ensures shape { IfOk result
         (λ messages. HaveShape ProofForm.Pair (drop 1 (exponents circuit.now.parts)) messages.layers) }
@@ -116,7 +116,7 @@ pub fn prove_as<R: Threads + Sync, C: Challenges, G: Gate>(
         AreHonestMessages form circuit.now.parts inputs C.source (C.state challenges.old)
         (all_messages messages.layers)) }
     ensures state { IfOk result (λ messages. C.state challenges.new
-        ≡ state_after C.source (state_after_coordinates C.source (C.state challenges.old)
+        ≡ state_after C.source (state_after_point C.source (C.state challenges.old)
         (exponent_at circuit.now.parts 0)) (all_messages messages.layers)) }
     ensures shape { IfOk result
         (λ messages. HaveShape form (drop 1 (exponents circuit.now.parts)) messages.layers) }

@@ -1,7 +1,7 @@
 -- The challenges of a source, and the state after them
 use Rattle.std.proofs.Common.{◌≡◌, ℕ, zero, suc, ◌+◌, List, [], ◌∷◌, ◌++◌, length, take, drop, IsTrue, refl, ap, subst, arith}
 use Rattle.field_ext.specs.Field.{K}
-use Rattle.transcript_fs.specs.Source.{Source, coordinates, state_after_coordinates, draws, state_after}
+use Rattle.transcript_fs.specs.Source.{Source, point_draws, state_after_point, draws, state_after}
 
 -- where there are some, there is one
 pub has_any : (source : Source) (s : List ℕ) (n : ℕ) → IsTrue (source.has s (suc n)) → IsTrue (source.has s 1)
@@ -32,19 +32,19 @@ pub has_front : (source : Source) (s : List ℕ) (m n : ℕ) → IsTrue (source.
 has_front source s m zero h = subst (λ (i : ℕ). IsTrue (source.has s i)) (let e : m + 0 ≡ m = omega arith in e) h
 has_front source s m (suc n) h = has_front source s m n (source.has_fewer s (m + n) (subst (λ (i : ℕ). IsTrue (source.has s i)) (let e : m + suc n ≡ suc (m + n) = omega arith in e) h))
 
-pub has_after_point : (source : Source) (s : List ℕ) (k n : ℕ) → IsTrue (source.has s (k + n)) → IsTrue (source.has (state_after_coordinates source s k) n)
+pub has_after_point : (source : Source) (s : List ℕ) (k n : ℕ) → IsTrue (source.has s (k + n)) → IsTrue (source.has (state_after_point source s k) n)
 has_after_point source s zero n h = subst (λ (m : ℕ). IsTrue (source.has s m)) (let e : 0 + n ≡ n = omega arith in e) h
 has_after_point source s (suc k) n h =
     has_after_point source (source.after s) k n (source.has_after s (k + n) (subst (λ (m : ℕ). IsTrue (source.has s m)) (let e : suc k + n ≡ suc (k + n) = omega arith in e) h))
 
-pub length-coordinates : (source : Source) (s : List ℕ) (k : ℕ) → length (coordinates source s k) ≡ k
+pub length-coordinates : (source : Source) (s : List ℕ) (k : ℕ) → length (point_draws source s k) ≡ k
 length-coordinates source s zero = refl
 length-coordinates source s (suc k) = ap (λ (n : ℕ). suc n) (length-coordinates source (source.after s) k)
 
-pub point_front : (source : Source) (s : List ℕ) (k : ℕ) (rest : List K) → take k (coordinates source s k ++ rest) ≡ coordinates source s k
+pub point_front : (source : Source) (s : List ℕ) (k : ℕ) (rest : List K) → take k (point_draws source s k ++ rest) ≡ point_draws source s k
 point_front source s zero rest = refl
 point_front source s (suc k) rest = ap (λ (xs : List K). source.draw s ∷ xs) (point_front source (source.after s) k rest)
 
-pub point_rest : (source : Source) (s : List ℕ) (k : ℕ) (rest : List K) → drop k (coordinates source s k ++ rest) ≡ rest
+pub point_rest : (source : Source) (s : List ℕ) (k : ℕ) (rest : List K) → drop k (point_draws source s k ++ rest) ≡ rest
 point_rest source s zero rest = refl
 point_rest source s (suc k) rest = point_rest source (source.after s) k rest

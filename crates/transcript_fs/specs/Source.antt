@@ -15,14 +15,14 @@ pub record Source : Type 0 where
       → IsTrue (has (absorb s message) n)
 
 -- so many challenges with no message between them
-abbrev pub coordinates : Source → List ℕ → ℕ → List K
-coordinates source s zero = []
-coordinates source s (suc n) = source.draw s ∷ coordinates source (source.after s) n
+abbrev pub point_draws : Source → List ℕ → ℕ → List K
+point_draws source s zero = []
+point_draws source s (suc n) = source.draw s ∷ point_draws source (source.after s) n
 
 -- the state after them
-abbrev pub state_after_coordinates : Source → List ℕ → ℕ → List ℕ
-state_after_coordinates source s zero = s
-state_after_coordinates source s (suc n) = state_after_coordinates source (source.after s) n
+abbrev pub state_after_point : Source → List ℕ → ℕ → List ℕ
+state_after_point source s zero = s
+state_after_point source s (suc n) = state_after_point source (source.after s) n
 
 -- the challenges that follow the messages, one each
 abbrev pub draws : Source → List ℕ → List (List K) → List K
@@ -39,5 +39,5 @@ state_after source s (q ∷ qs) = state_after source (source.after (source.absor
 -- of a layer are those of its rounds and then its line.
 abbrev pub all_draws : Source → List ℕ → ℕ → List (List K) → List K
 all_draws source s coordinate_count messages =
-    coordinates source s coordinate_count ++ draws source
-    (state_after_coordinates source s coordinate_count) messages
+    point_draws source s coordinate_count ++ draws source
+    (state_after_point source s coordinate_count) messages

@@ -5,7 +5,7 @@ use Rattle.field_ext.specs.Field.{K, of}
 use Rattle.field_ext.proofs.Elements.{of_self}
 use Rattle.transcript_fs.proofs.Draws.{length-coordinates, length-draws}
 use Rattle.transcript_fs.specs.Given.{given, has_elements, numbers_of}
-use Rattle.transcript_fs.specs.Source.{Source, all_draws, coordinates, draws, state_after_coordinates}
+use Rattle.transcript_fs.specs.Source.{Source, all_draws, point_draws, draws, state_after_point}
 
 pub has_all : (rs : List K) (n : ℕ) → n ≤ length rs → IsTrue (has_elements (numbers_of rs) n)
 has_all rs zero le = refl
@@ -18,12 +18,12 @@ element r = record { re = of r.re.value; im = of r.im.value }
 same_element : (r : K) → element r ≡ r
 same_element r = λ j. record { re = of_self r.re j; im = of_self r.im j }
 
-coordinates_given : (rs : List K) (k : ℕ) → k ≤ length rs → coordinates given (numbers_of rs) k ≡ take k rs
+coordinates_given : (rs : List K) (k : ℕ) → k ≤ length rs → point_draws given (numbers_of rs) k ≡ take k rs
 coordinates_given rs zero le = refl
 coordinates_given [] (suc k) le = absurd (omega (arith, le))
 coordinates_given (r ∷ rs) (suc k) le = ap₂ (λ (x : K) (xs : List K). x ∷ xs) (same_element r) (coordinates_given rs k (omega (arith, le)))
 
-left_given : (rs : List K) (k : ℕ) → k ≤ length rs → state_after_coordinates given (numbers_of rs) k ≡ numbers_of (drop k rs)
+left_given : (rs : List K) (k : ℕ) → k ≤ length rs → state_after_point given (numbers_of rs) k ≡ numbers_of (drop k rs)
 left_given rs zero le = refl
 left_given [] (suc k) le = absurd (omega (arith, le))
 left_given (r ∷ rs) (suc k) le = left_given rs k (omega (arith, le))
@@ -42,5 +42,5 @@ all_given rs k qs e =
 
 -- as many messages as draws after the point
 pub as_many : (source : Source) (s : List ℕ) (k : ℕ) (qs : List (List K)) → length (all_draws source s k qs) ≡ k + length qs
-as_many source s k qs = length-append (coordinates source s k) (draws source (state_after_coordinates source s k) qs)
-    ∙ ap₂ (λ (m n : ℕ). m + n) (length-coordinates source s k) (length-draws source (state_after_coordinates source s k) qs)
+as_many source s k qs = length-append (point_draws source s k) (draws source (state_after_point source s k) qs)
+    ∙ ap₂ (λ (m n : ℕ). m + n) (length-coordinates source s k) (length-draws source (state_after_point source s k) qs)

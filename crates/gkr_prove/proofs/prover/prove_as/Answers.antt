@@ -4,7 +4,7 @@ use Rattle.circuit_core.specs.Parts.{Parts, input_table}
 use Rattle.circuit_core.specs.Sound.{exponent_at, exponents}
 use Rattle.gkr_layers.specs.Layers.{layers_of, message_count}
 use Rattle.round_tables.proofs.PhaseSteps.{written_back}
-use Rattle.transcript_fs.specs.Source.{Source, coordinates, state_after_coordinates, draws, state_after}
+use Rattle.transcript_fs.specs.Source.{Source, point_draws, state_after_point, draws, state_after}
 use Rattle.proof_wire.specs.declared.messages.LayerMessages.{LayerMessages}
 use Rattle.proof_wire.specs.Lists.{all_messages, HaveShape}
 use Rattle.transcript_fs.proofs.Draws.{has_front, has_after_point}
@@ -34,7 +34,7 @@ prove_layers-requires-clause-has g c κs within =
     let s : List ℕ = g.C.Challenges.state c.args.challenges.now in
     let p : Parts = c.args.circuit.now.parts in
     let count = c.deref_mut.ensures.len ∙ c.in_ok-point.ensures.len ∙ c.coordinates.ensures.value in
-    let after = c.draw_point.ensures.state ∙ ap (state_after_coordinates source s) count in
+    let after = c.draw_point.ensures.state ∙ ap (state_after_point source s) count in
     subst (λ (t : List ℕ). IsTrue (source.has t (message_count (layers_of p)))) (sym after) (has_after_point source s (exponent_at p 0) (message_count (layers_of p)) c.requires.has)
 
 pub returns-clause-honest : goal.returns-clause-honest
@@ -43,9 +43,9 @@ returns-clause-honest g c inputs tables =
     let s : List ℕ = g.C.Challenges.state c.args.challenges.now in
     let p : Parts = c.args.circuit.now.parts in
     let count : length c.deref_mut.result.now ≡ exponent_at c.args.circuit.now.parts 0 = c.deref_mut.ensures.len ∙ c.in_ok-point.ensures.len ∙ c.coordinates.ensures.value in
-    let after : g.C.Challenges.state c.draw_point.new.challenges ≡ state_after_coordinates source s (exponent_at p 0) = c.draw_point.ensures.state ∙ ap (state_after_coordinates source s) count in
-    let z : take c.in_ok-point.point.len (c.draw_point.new.point ++ drop (length c.draw_point.new.point) c.in_ok-point.point.items) ≡ coordinates source s (exponent_at p 0) =
-    written_back c.in_ok-point.point.items c.draw_point.new.point c.in_ok-point.point.len (c.draw_point.auto.point ∙ c.deref_mut.ensures.len) ∙ c.draw_point.ensures.point ∙ ap (coordinates source s) count in
+    let after : g.C.Challenges.state c.draw_point.new.challenges ≡ state_after_point source s (exponent_at p 0) = c.draw_point.ensures.state ∙ ap (state_after_point source s) count in
+    let z : take c.in_ok-point.point.len (c.draw_point.new.point ++ drop (length c.draw_point.new.point) c.in_ok-point.point.items) ≡ point_draws source s (exponent_at p 0) =
+    written_back c.in_ok-point.point.items c.draw_point.new.point c.in_ok-point.point.len (c.draw_point.auto.point ∙ c.deref_mut.ensures.len) ∙ c.draw_point.ensures.point ∙ ap (point_draws source s) count in
     coe 0 1 (j. AreHonest c.args.form (layers_of p) (input_table p inputs) ((c.at-place.ensures ∙ ap At z) j) (all_messages (sym c.of.ensures j)) (draws source (after j) (all_messages (sym c.of.ensures j)))) (c.in_ok-layers.ensures.honest inputs tables)
 
 pub returns-clause-shape : goal.returns-clause-shape
@@ -59,4 +59,4 @@ returns-clause-state g c =
     let s : List ℕ = g.C.Challenges.state c.args.challenges.now in
     let count = c.deref_mut.ensures.len ∙ c.in_ok-point.ensures.len ∙ c.coordinates.ensures.value in
     c.in_ok-layers.ensures.state
-    ∙ (λ j. state_after source ((c.draw_point.ensures.state ∙ ap (state_after_coordinates source s) count) j) (all_messages (sym c.of.ensures j)))
+    ∙ (λ j. state_after source ((c.draw_point.ensures.state ∙ ap (state_after_point source s) count) j) (all_messages (sym c.of.ensures j)))

@@ -5,7 +5,7 @@ use Rattle.circuit_core.specs.Parts.{padded_values}
 use Rattle.circuit_core.specs.Sound.{exponent_at}
 use Rattle.gkr_layers.specs.Layers.{layers_of, lower_exponents, message_count}
 use Rattle.circuit_core.proofs.Sizes.{size_of}
-use Rattle.transcript_fs.specs.Source.{Source, coordinates, state_after_coordinates, draws}
+use Rattle.transcript_fs.specs.Source.{Source, point_draws, state_after_point, draws}
 use Rattle.proof_wire.specs.declared.messages.LayerMessages.{LayerMessages}
 use Rattle.gkr_layers.specs.Equations.{equations, answer}
 use Rattle.gkr_layers.specs.Acceptance.{CircuitClaim, claim_in}
@@ -42,7 +42,7 @@ check_layers-requires-clause-has g c =
     let source : Source = g.C.Challenges.source in
     let s = g.C.Challenges.state c.args.challenges.now in
     let p = c.args.circuit.now.parts in
-    let after = c.draw_point.ensures.state ∙ ap (state_after_coordinates source s) (c.split_at_mut-point.ensures.front_len ∙ c.coordinates.ensures.value) in
+    let after = c.draw_point.ensures.state ∙ ap (state_after_point source s) (c.split_at_mut-point.ensures.front_len ∙ c.coordinates.ensures.value) in
     subst (λ t. IsTrue (source.has t (message_count (layers_of p)))) (sym after) (has_after_point source s (exponent_at p 0) (message_count (layers_of p)) c.requires.has)
 
 pub returns : goal.returns
@@ -54,9 +54,9 @@ returns g c =
     let qs = all_messages c.args.messages.now.layers in
     let stated : CircuitClaim = claim_in c.args.form circuit.parts c.args.inputs.now c.args.outputs.now in
     let count = c.split_at_mut-point.ensures.front_len ∙ c.coordinates.ensures.value in
-    let z : c.draw_point.new.point ≡ coordinates source s k = c.draw_point.ensures.point ∙ ap (coordinates source s) count in
-    let after : g.C.Challenges.state c.draw_point.new.challenges ≡ state_after_coordinates source s k = c.draw_point.ensures.state ∙ ap (state_after_coordinates source s) count in
+    let z : c.draw_point.new.point ≡ point_draws source s k = c.draw_point.ensures.point ∙ ap (point_draws source s) count in
+    let after : g.C.Challenges.state c.draw_point.new.challenges ≡ state_after_point source s k = c.draw_point.ensures.state ∙ ap (state_after_point source s) count in
     let width = ap (λ (n : ℕ). 2 ^ n) (c.draw_point.auto.point ∙ count) ∙ sym (size_of circuit 0 (omega arith)).0 in
     c.check_layers.ensures
     ∙ (λ i. answer source (after i) (equations c.args.form 0 stated.layers stated.input_table (At c.draw_point.new.point) (c.values_extension-claim.ensures i) (all_messages (c.as_slice.ensures i)) (draws source (after i) (all_messages (c.as_slice.ensures i)))) (all_messages (c.as_slice.ensures i)))
-    ∙ (λ i. answer source (state_after_coordinates source s k) (equations c.args.form 0 stated.layers stated.input_table (At (z i)) (extension_at k_ops k_ops (λ x. x) (map embed_k (padded_values (width i) c.args.outputs.now)) (z i)) qs (draws source (state_after_coordinates source s k) qs)) qs)
+    ∙ (λ i. answer source (state_after_point source s k) (equations c.args.form 0 stated.layers stated.input_table (At (z i)) (extension_at k_ops k_ops (λ x. x) (map embed_k (padded_values (width i) c.args.outputs.now)) (z i)) qs (draws source (state_after_point source s k) qs)) qs)
