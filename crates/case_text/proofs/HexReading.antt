@@ -8,7 +8,7 @@ use Rattle.hex.specs.Hex as decoded
 use Rattle.hex.specs.declared.error.FromHexError.{FromHexError}
 use Rattle.hex.specs.declared.error.FromHexError.TheVariants.{InvalidHexCharacter, OddLength, InvalidStringLength, OutOfMemory}
 use Rattle.case_text.specs.Reading.{Fails, hex_stop}
-use Rattle.case_text.specs.declared.refusal.Kind.TheVariants.{Hex}
+use Rattle.case_text.specs.declared.refusal.DueKind.TheVariants.{Hex}
 use Rattle.case_text.specs.Due.{Taking, ◌>>=◌, stopped, digits_stop, each_at, hex_byte_at, hex_digit_at}
 
 one_of_three : (p q r : Bool) (x y z : ℕ) → is_some (if p then Some x else if q then Some y else if r then Some z else None) ≡ ((r || p) || q)

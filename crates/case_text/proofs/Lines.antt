@@ -5,7 +5,7 @@ use Rattle.field_ext.specs.Field.{F, of, prime}
 use Rattle.field_ext.proofs.Elements.{of-value, of_self}
 use Rattle.std.specs.Prelude.{codes, IfSome}
 use Rattle.std.specs.List.{concat}
-use Rattle.case_text.specs.declared.refusal.Kind.TheVariants.{Header, Section, Hex}
+use Rattle.case_text.specs.declared.refusal.DueKind.TheVariants.{Header, Section, Hex}
 use Rattle.case_text.specs.declared.rule.Rule.{Rule}
 use Rattle.case_text.specs.Rules.{behind, behind_value, text_length, value_count, value_rule, proof_length}
 use Rattle.case_text.specs.Content.{Content, AreValues}

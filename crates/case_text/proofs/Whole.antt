@@ -1,8 +1,8 @@
 -- A part that takes all of the bytes: what it gives is spelled, what is spelled it gives, and where it is refused.
 use Rattle.std.proofs.Common.{◌≡◌, ℕ, zero, suc, ◌-◌, ◌+◌, ◌<◌, ◌≤◌, ◌⊎◌, inl, inr, List, [], ◌∷◌, ◌++◌, length, take, Result, Ok, Err, refl, sym, ap, subst, ◌∙◌, append_assoc, arith}
 use Rattle.std.proofs.lemmas.List.{append-nil, length-append, take_at}
-use Rattle.case_text.specs.declared.refusal.Kind.{Kind}
-use Rattle.case_text.specs.declared.refusal.Kind.TheVariants.{Rest}
+use Rattle.case_text.specs.declared.refusal.DueKind.{DueKind}
+use Rattle.case_text.specs.declared.refusal.DueKind.TheVariants.{Rest}
 use Rattle.case_text.specs.declared.refusal.BadCase.{BadCase}
 use Rattle.case_text.specs.declared.stop.Stop.{Stop}
 use Rattle.case_text.specs.Due.{Taking, stopped}
@@ -72,7 +72,7 @@ place_at Text front rest begins longest = record {
   longest = longest;
 }
 
-blocked : {A : Type 0} (Text : A → List ℕ → Type 0) (taking : List ℕ → Taking A) → IsExact Text taking → (front : List ℕ) (kind : Kind) (rest : List ℕ) → Blocks taking front kind rest → (n : ℕ) → length front < n → n ≤ length (front ++ rest) → Begins Text (take n (front ++ rest)) → ⊥
+blocked : {A : Type 0} (Text : A → List ℕ → Type 0) (taking : List ℕ → Taking A) → IsExact Text taking → (front : List ℕ) (kind : DueKind) (rest : List ℕ) → Blocks taking front kind rest → (n : ℕ) → length front < n → n ≤ length (front ++ rest) → Begins Text (take n (front ++ rest)) → ⊥
 blocked Text taking exact front kind [] h n lt le begins = omega (arith, ap length (append-nil front))
 blocked {A} Text taking exact front kind (b ∷ rest) h n lt le begins =
     nothing_longer Text front b rest (λ more a spelled.

@@ -3,7 +3,7 @@ use Rattle.std.specs.Prelude.{◌≡◌, ℕ, ◌-◌, List, [], ◌∷◌, leng
 use Rattle.field_ext.specs.Field.{F, of}
 use Rattle.hex.specs.declared.error.FromHexError.{FromHexError}
 use Rattle.hex.specs.declared.error.FromHexError.TheVariants.{InvalidHexCharacter, OddLength, InvalidStringLength, OutOfMemory}
-use Rattle.case_text.specs.declared.refusal.Kind.TheVariants.{Header, Section, Hex, Rest}
+use Rattle.case_text.specs.declared.refusal.DueKind.TheVariants.{Header, Section, Hex, Rest}
 use Rattle.case_text.specs.declared.refusal.BadCase.{BadCase}
 use Rattle.case_text.specs.declared.refusal.CaseRefused.{CaseRefused}
 use Rattle.case_text.specs.declared.refusal.CaseRefused.TheVariants as refusals

@@ -6,8 +6,8 @@ use Rattle.arr_ast.specs.declared.refusal.ProgramKind.TheVariants as programs
 use Rattle.field_ext.specs.Field.{K}
 use Rattle.proof_wire.specs.declared.refused.BadProof.{BadProof}
 use Rattle.proof_wire.specs.declared.refused.BadProof.TheVariants as proofs
-use Rattle.case_text.specs.declared.refusal.Kind.{Kind}
-use Rattle.case_text.specs.declared.refusal.Kind.TheVariants as kinds
+use Rattle.case_text.specs.declared.refusal.DueKind.{DueKind}
+use Rattle.case_text.specs.declared.refusal.DueKind.TheVariants as kinds
 use Rattle.case_text.specs.declared.demo.DemoSummary.{DemoSummary}
 use Rattle.case_text.specs.declared.sizes.LayerSize.{LayerSize}
 use Rattle.case_text.specs.Sizes.{Sizes}
@@ -20,7 +20,7 @@ use Rattle.case_text.specs.declared.reply.Reply.TheVariants as replies
 use Rattle.case_text.specs.Spelling.{number, counted_text, lower_case_text}
 use Rattle.hex.specs.Hex.{encode_lower}
 
-abbrev pub kind_name : Kind → List ℕ
+abbrev pub kind_name : DueKind → List ℕ
 kind_name kinds.Header = codes "header"
 kind_name kinds.Section = codes "section"
 kind_name kinds.Number = codes "number"

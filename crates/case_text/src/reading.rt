@@ -9,7 +9,7 @@ ghost use Rattle.case_text.specs.Reading.{outputs_at, proof_at, hex_stop, Gives,
 use crate::case::Case;
 use crate::form::Form;
 use crate::parts::{decimal, digits_stop, some_bytes, word};
-use crate::refusal::{BadCase, CaseRefused, Kind};
+use crate::refusal::{BadCase, CaseRefused, DueKind};
 use crate::rule::Rule;
 use crate::stop::{ReadError, stop_at};
 use field_ext::Fp;
@@ -21,10 +21,10 @@ use std::alloc::Global;
 fn program(bytes: &[u8]) -> Result<(&[u8], &[u8]), ReadError>
     ensures { Gives (λ x. (x.0.now, x.1.now)) result (program_at bytes.now) }
 {
-    let rest = word(Kind::Section, b"program ", bytes)?;
+    let rest = word(DueKind::Section, b"program ", bytes)?;
     let (len, rest) = decimal(Rule::text_length(), rest)?;
     let (program, rest) = some_bytes(len, rest)?;
-    let rest = word(Kind::Section, b"\n", rest)?;
+    let rest = word(DueKind::Section, b"\n", rest)?;
     Ok((program, rest))
 }
 
@@ -63,7 +63,7 @@ fn counted(alloc: Global, bytes: &[u8]) -> Result<(Vec<Fp>, &[u8]), ReadError>
 fn outputs(alloc: Global, bytes: &[u8]) -> Result<(Vec<Fp>, &[u8]), ReadError>
     ensures { Gives (λ x. (x.0.items, x.1.now)) result (outputs_at bytes.now) }
 {
-    let rest = word(Kind::Section, b"output ", bytes)?;
+    let rest = word(DueKind::Section, b"output ", bytes)?;
     counted(alloc, rest)
 }
 
@@ -99,10 +99,10 @@ fn hex_stop(refused: FromHexError, bytes: &[u8]) -> ReadError
 fn proof(alloc: Global, bytes: &[u8]) -> Result<(Vec<u8>, &[u8]), ReadError>
     ensures { Gives (λ x. (x.0.items, x.1.now)) result (proof_at bytes.now) }
 {
-    let rest = word(Kind::Section, b"proof ", bytes)?;
+    let rest = word(DueKind::Section, b"proof ", bytes)?;
     let (len, rest) = decimal(Rule::proof_length(), rest)?;
     let (proof, rest) = hex_bytes(alloc, len, rest)?;
-    let rest = word(Kind::Hex, b"\n", rest)?;
+    let rest = word(DueKind::Hex, b"\n", rest)?;
     Ok((proof, rest))
 }
 
@@ -119,7 +119,7 @@ fn outputs_of(
     match (form, bytes) {
         (Form::Plain, _) => return Ok((None, bytes)),
         (Form::Full, _) => {}
-        (Form::Any, []) => return Err(stop_at(bytes, Kind::End)),
+        (Form::Any, []) => return Err(stop_at(bytes, DueKind::End)),
         (Form::Any, [first, ..]) => {
             if *first != b'o' {
                 return Ok((None, bytes));
@@ -143,7 +143,7 @@ fn proof_of(alloc: Global, form: Form, bytes: &[u8]) -> Result<(Option<Vec<u8>>,
             Ok((Some(proof), rest))
         }
         Form::Any => match bytes {
-            [] => Err(stop_at(bytes, Kind::End)),
+            [] => Err(stop_at(bytes, DueKind::End)),
             [b'p', ..] => {
                 let (proof, rest) = proof(alloc, bytes)?;
                 Ok((Some(proof), rest))
@@ -159,13 +159,13 @@ fn proof_of(alloc: Global, form: Form, bytes: &[u8]) -> Result<(Option<Vec<u8>>,
 pub fn case_of(alloc: Global, form: Form, bytes: &[u8]) -> Result<(Case, &[u8]), ReadError>
     ensures { Gives (λ x. (x.0, x.1.now)) result (case_at form bytes.now) }
 {
-    let rest = word(Kind::Header, b"gkr case 1\n", bytes)?;
+    let rest = word(DueKind::Header, b"gkr case 1\n", bytes)?;
     let (program, rest) = program(rest)?;
-    let rest = word(Kind::Section, b"input ", rest)?;
+    let rest = word(DueKind::Section, b"input ", rest)?;
     let (inputs, rest) = counted(alloc, rest)?;
     let (outputs, rest) = outputs_of(alloc, form, rest)?;
     let (proof, rest) = proof_of(alloc, form, rest)?;
-    let rest = word(Kind::Section, b"end\n", rest)?;
+    let rest = word(DueKind::Section, b"end\n", rest)?;
     let program = Vec::from_slice(alloc, program)?;
     Ok((Case::new(program, inputs, outputs, proof), rest))
 }
@@ -177,7 +177,7 @@ fn whole(alloc: Global, form: Form, bytes: &[u8]) -> Result<Case, ReadError>
 {
     let (case, rest) = case_of(alloc, form, bytes)?;
     if !rest.is_empty() {
-        return Err(stop_at(rest, Kind::Rest));
+        return Err(stop_at(rest, DueKind::Rest));
     }
     Ok(case)
 }

@@ -4,7 +4,7 @@ use thiserror::Error;
 
 /// What was due where a byte wasn't taken.
 #[derive(Clone, Copy, Debug, PartialEq, Eq)]
-pub enum Kind {
+pub enum DueKind {
     /// The first line.
     Header,
     /// Another fixed word with its space or line end, or the line end after the program.
@@ -29,7 +29,7 @@ pub struct BadCase {
     /// How many bytes the due parts take: the place of the first byte that isn't taken.
     pub at: usize,
     /// What was due there.
-    pub kind: Kind,
+    pub kind: DueKind,
 }
 
 /// Why a case or a script can't be read.

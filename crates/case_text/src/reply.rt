@@ -6,10 +6,10 @@ ghost use Rattle.case_text.specs.Replies.{reply_text, sizes_text, layer_lines, l
 use crate::case::Case;
 use crate::demo::DemoSummary;
 use crate::history::{ServedHistory, write_history};
-use crate::refusal::{BadCase, Kind};
+use crate::outputs::Outputs;
+use crate::refusal::{BadCase, DueKind};
 use crate::served::{ServedJobs, write_served};
 use crate::sizes::{CircuitSizes, LayerSize};
-use crate::values::Values;
 use crate::writing::{hex_text, put_counted, put_number, write_case};
 use arr_ast::ProgramKind;
 use field_ext::Ext;
@@ -21,7 +21,7 @@ use std::alloc::{AllocError, Global};
 #[derive(Debug, Drop)]
 pub enum Reply {
     /// The outputs of a program.
-    Outputs(Values),
+    Outputs(Outputs),
     /// The words are no command.
     Usage,
     /// The input is longer than this.
@@ -87,18 +87,18 @@ pub enum Reply {
 }
 
 /// How the kind is told.
-fn kind_name(kind: Kind) -> &'static [u8]
+fn kind_name(kind: DueKind) -> &'static [u8]
     ensures { result.now ≡ kind_name kind }
 {
     match kind {
-        Kind::Header => b"header",
-        Kind::Section => b"section",
-        Kind::Number => b"number",
-        Kind::Range => b"range",
-        Kind::Length => b"length",
-        Kind::Hex => b"hex",
-        Kind::End => b"end",
-        Kind::Rest => b"rest",
+        DueKind::Header => b"header",
+        DueKind::Section => b"section",
+        DueKind::Number => b"number",
+        DueKind::Range => b"range",
+        DueKind::Length => b"length",
+        DueKind::Hex => b"hex",
+        DueKind::End => b"end",
+        DueKind::Rest => b"rest",
     }
 }
 
@@ -302,9 +302,9 @@ pub fn write_reply(alloc: Global, reply: &Reply) -> Result<Vec<u8>, AllocError>
 {
     let mut out = Vec::new(alloc);
     match reply {
-        Reply::Outputs(values) => {
+        Reply::Outputs(outputs) => {
             out.extend_from_slice(b"output ")?;
-            put_counted(&mut out, values.as_slice())?;
+            put_counted(&mut out, outputs.as_slice())?;
         }
         Reply::Usage => out.extend_from_slice(b"refused usage\n")?,
         Reply::TooLong(limit) => {

@@ -11,7 +11,7 @@ ghost use Rattle.case_prove.specs.Answers.{IsProveAnswer};
 use crate::reply_error::ReplyError;
 use arr_compile::BadProgram;
 use case_prove::{Refused, circuit_case, eval_case, prove_case, verify_case};
-use case_text::{Case, CaseRefused, Form, Reply, Values, read_case};
+use case_text::{Case, CaseRefused, Form, Outputs, Reply, read_case};
 use gkr_verify::Verdict;
 use gkr_words::{CaseCommand, Command};
 use io_edge::Gate;
@@ -82,7 +82,7 @@ fn evaluate(alloc: Global, case: &Case) -> Result<Reply, ReplyError>
     ensures fault { result ≢ Err ReplyError.ReadFault }
 {
     match eval_case(alloc, case) {
-        Ok(outputs) => Ok(Reply::Outputs(Values::new(outputs))),
+        Ok(outputs) => Ok(Reply::Outputs(Outputs::new(outputs))),
         Err(refused) => refused_reply(refused),
     }
 }

@@ -1,7 +1,7 @@
 -- Taking jobs one after the other, as a loop does.
 use Rattle.std.proofs.Common.{◌≡◌, ℕ, zero, suc, ◌-◌, ◌<◌, Bool, true, false, eqb, List, [], ◌∷◌, ◌++◌, Result, Ok, Err, refl, sym, ap, ◌∙◌, arith}
 use Rattle.std.proofs.lemmas.List.{append-nil}
-use Rattle.case_text.specs.declared.refusal.Kind.TheVariants.{End, Section}
+use Rattle.case_text.specs.declared.refusal.DueKind.TheVariants.{End, Section}
 use Rattle.case_text.specs.declared.stop.Stop.{Stop}
 use Rattle.case_text.specs.declared.stop.ReadError.{ReadError}
 use Rattle.case_text.specs.declared.stop.ReadError.TheVariants as errors

@@ -5,7 +5,7 @@ use Rattle.std.proofs.lemmas.List.{length-append}
 use Rattle.std.proofs.lemmas.Fmt.{decimal_digit, first_decimal, decimal_nonempty}
 use Rattle.case_text.specs.declared.rule.Rule.{Rule}
 use Rattle.case_text.specs.declared.stop.Stop.{Stop}
-use Rattle.case_text.specs.declared.refusal.Kind.TheVariants.{End}
+use Rattle.case_text.specs.declared.refusal.DueKind.TheVariants.{End}
 use Rattle.case_text.specs.Rules.{behind}
 use Rattle.case_text.specs.Due.{stopped, decimal_at}
 use Rattle.script_text.specs.Scripts.{positive_at}

@@ -5,7 +5,7 @@ use Rattle.std.specs.List.{concat}
 use Rattle.std.proofs.lemmas.Bool.{eqb-true}
 use Rattle.std.proofs.lemmas.List.{append-nil}
 use Rattle.case_text.specs.declared.form.Form.TheVariants.{Plain}
-use Rattle.case_text.specs.declared.refusal.Kind.TheVariants.{Section}
+use Rattle.case_text.specs.declared.refusal.DueKind.TheVariants.{Section}
 use Rattle.script_text.specs.declared.script.ScriptJob.{ScriptJob}
 use Rattle.script_text.specs.declared.script.MarkedJob.{MarkedJob}
 use Rattle.case_text.specs.Rules.{behind}

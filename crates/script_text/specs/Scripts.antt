@@ -2,7 +2,7 @@
 use Rattle.std.specs.Prelude.{◌≡◌, ℕ, zero, suc, ◌<◌, ◌≤◌, List, [], ◌∷◌, ◌++◌, length, codes, Bool, true, false, Result, Ok, Err, ◌==◌, if◌then◌else◌}
 use Rattle.std.specs.List.{concat}
 use Rattle.case_text.specs.declared.form.Form.TheVariants.{Plain}
-use Rattle.case_text.specs.declared.refusal.Kind.TheVariants.{Section, Length, End}
+use Rattle.case_text.specs.declared.refusal.DueKind.TheVariants.{Section, Length, End}
 use Rattle.case_text.specs.declared.refusal.BadCase.{BadCase}
 use Rattle.std.specs.Global.{Vec}
 use Rattle.case_text.specs.declared.refusal.CaseRefused.{CaseRefused}

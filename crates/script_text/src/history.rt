@@ -7,7 +7,7 @@ ghost use Rattle.script_text.specs.Scripts.{SpellsHistoryScript, history_script_
 
 use crate::jobs::{MOST_JOBS, job, job_follows};
 use crate::script::MarkedJob;
-use case_text::{BadCase, CaseRefused, Kind, ReadError, stop_at, word};
+use case_text::{BadCase, CaseRefused, DueKind, ReadError, stop_at, word};
 use std::alloc::Global;
 
 /// Takes the mark behind a job, where one stands.
@@ -16,12 +16,12 @@ fn mark(bytes: &[u8]) -> Result<(bool, &[u8]), ReadError>
     ensures { Gives (λ x. (x.0, x.1.now)) result (mark_at bytes.now) }
 {
     match bytes {
-        [] => Err(stop_at(bytes, Kind::End)),
+        [] => Err(stop_at(bytes, DueKind::End)),
         [first, ..] => {
             if *first != b'w' {
                 return Ok((false, bytes));
             }
-            let rest = word(Kind::Section, b"withdraw\n", bytes)?;
+            let rest = word(DueKind::Section, b"withdraw\n", bytes)?;
             Ok((true, rest))
         }
     }
@@ -60,7 +60,7 @@ fn history_jobs(alloc: Global, bytes: &[u8]) -> Result<(Vec<MarkedJob>, &[u8]), 
         rest = after;
         left -= 1;
     }
-    let rest = word(Kind::Section, b"done\n", rest)?;
+    let rest = word(DueKind::Section, b"done\n", rest)?;
     Ok((jobs, rest))
 }
 
@@ -70,7 +70,7 @@ fn whole_history(alloc: Global, bytes: &[u8]) -> Result<Vec<MarkedJob>, ReadErro
 {
     let (jobs, rest) = history_jobs(alloc, bytes)?;
     if !rest.is_empty() {
-        return Err(stop_at(rest, Kind::Rest));
+        return Err(stop_at(rest, DueKind::Rest));
     }
     Ok(jobs)
 }

@@ -7,7 +7,7 @@ ghost use Rattle.script_text.specs.Scripts.{client_number, positive_at, follows,
 
 use crate::script::ScriptJob;
 use case_text::{
-    BadCase, CaseRefused, Form, Kind, ReadError, Rule, case_of, decimal, stop_at, word,
+    BadCase, CaseRefused, DueKind, Form, ReadError, Rule, case_of, decimal, stop_at, word,
 };
 use std::alloc::Global;
 
@@ -20,7 +20,7 @@ fn client_number() -> Rule
 {
     Rule {
         limit: 65,
-        over: Kind::Length,
+        over: DueKind::Length,
         behind_zero: b'\n',
         behind_other: b'\n',
     }
@@ -33,7 +33,7 @@ fn positive(rule: Rule, bytes: &[u8]) -> Result<(u32, &[u8]), ReadError>
     ensures { Gives (λ x. (x.0, x.1.now)) result (positive_at rule bytes.now) }
 {
     match bytes {
-        [] => Err(stop_at(bytes, Kind::End)),
+        [] => Err(stop_at(bytes, DueKind::End)),
         [first, ..] => {
             if *first == b'0' {
                 return Err(stop_at(bytes, rule.over));
@@ -51,7 +51,7 @@ pub(crate) fn job_follows(left: u32, bytes: &[u8]) -> Result<bool, ReadError>
         return Ok(false);
     }
     match bytes {
-        [] => Err(stop_at(bytes, Kind::End)),
+        [] => Err(stop_at(bytes, DueKind::End)),
         [first, ..] => Ok(*first == b'c'),
     }
 }
@@ -61,7 +61,7 @@ pub(crate) fn job_follows(left: u32, bytes: &[u8]) -> Result<bool, ReadError>
 pub(crate) fn job(alloc: Global, bytes: &[u8]) -> Result<(ScriptJob, &[u8]), ReadError>
     ensures { Gives (λ x. (x.0, x.1.now)) result (job_at bytes.now) }
 {
-    let rest = word(Kind::Section, b"client ", bytes)?;
+    let rest = word(DueKind::Section, b"client ", bytes)?;
     let (client, rest) = positive(client_number(), rest)?;
     let (case, rest) = case_of(alloc, Form::Plain, rest)?;
     Ok((ScriptJob { client, case }, rest))
@@ -85,7 +85,7 @@ fn script_jobs(alloc: Global, bytes: &[u8]) -> Result<(Vec<ScriptJob>, &[u8]), R
         rest = after;
         left -= 1;
     }
-    let rest = word(Kind::Section, b"done\n", rest)?;
+    let rest = word(DueKind::Section, b"done\n", rest)?;
     Ok((jobs, rest))
 }
 
@@ -95,7 +95,7 @@ fn whole_script(alloc: Global, bytes: &[u8]) -> Result<Vec<ScriptJob>, ReadError
 {
     let (jobs, rest) = script_jobs(alloc, bytes)?;
     if !rest.is_empty() {
-        return Err(stop_at(rest, Kind::Rest));
+        return Err(stop_at(rest, DueKind::Rest));
     }
     Ok(jobs)
 }

@@ -2,8 +2,8 @@
 
 use arr_ast::ProgramKind;
 use case_text::{
-    BadCase, CaseRefused, Form, Kind, Reply, ServedJob, Values, read_case, write_case, write_reply,
-    write_served,
+    BadCase, CaseRefused, DueKind, Form, Outputs, Reply, ServedJob, read_case, write_case,
+    write_reply, write_served,
 };
 use field_ext::{Ext, Fp};
 use proof_wire::BadProof;
@@ -18,7 +18,7 @@ const WITH_OUTPUTS: &[u8; 66] =
 const FULL: &[u8; 79] =
     b"gkr case 1\nprogram 18\ninput a; output a;\ninput 1 5\noutput 1 5\nproof 2\nabcd\nend\n";
 
-fn refused<R: Abort + AllocGlobal>(rt: &R, form: Form, bytes: &[u8], kind: Kind, at: usize) {
+fn refused<R: Abort + AllocGlobal>(rt: &R, form: Form, bytes: &[u8], kind: DueKind, at: usize) {
     match read_case(rt.alloc(), bytes, form) {
         Ok(_) => assert!(rt; false, "read at {at}"),
         Err(refusal) => assert!(rt;
@@ -34,22 +34,22 @@ fn tells_where_a_case_is_refused(rt: HostRuntime) {
     let prime = b"gkr case 1\nprogram 18\ninput a; output a;\ninput 1 2147483647\nend\n";
     let rest = b"gkr case 1\nprogram 18\ninput a; output a;\ninput 1 5\nend\n!";
     let length = b"gkr case 1\nprogram 65537\n";
-    refused(&rt, Form::Plain, zero, Kind::Number, 50);
-    refused(&rt, Form::Plain, prime, Kind::Range, 58);
-    refused(&rt, Form::Plain, rest, Kind::Rest, 55);
-    refused(&rt, Form::Plain, length, Kind::Length, 23);
-    refused(&rt, Form::Plain, WITH_OUTPUTS, Kind::Section, 51);
+    refused(&rt, Form::Plain, zero, DueKind::Number, 50);
+    refused(&rt, Form::Plain, prime, DueKind::Range, 58);
+    refused(&rt, Form::Plain, rest, DueKind::Rest, 55);
+    refused(&rt, Form::Plain, length, DueKind::Length, 23);
+    refused(&rt, Form::Plain, WITH_OUTPUTS, DueKind::Section, 51);
     // The four digits of the proof stand at byte 70.
     let digit =
         b"gkr case 1\nprogram 18\ninput a; output a;\ninput 1 5\noutput 1 5\nproof 2\nabgd\nend\n";
     let digits =
         b"gkr case 1\nprogram 18\ninput a; output a;\ninput 1 5\noutput 1 5\nproof 2\nabcde\nend\n";
-    refused(&rt, Form::Full, digit, Kind::Hex, 72);
-    refused(&rt, Form::Full, digits, Kind::Hex, 74);
+    refused(&rt, Form::Full, digit, DueKind::Hex, 72);
+    refused(&rt, Form::Full, digits, DueKind::Hex, 74);
     let header = b"gkr case 2\n";
-    refused(&rt, Form::Any, header, Kind::Header, 9);
+    refused(&rt, Form::Any, header, DueKind::Header, 9);
     for len in 0..FULL.len() {
-        refused(&rt, Form::Full, &FULL[..len], Kind::End, len);
+        refused(&rt, Form::Full, &FULL[..len], DueKind::End, len);
     }
 }
 
@@ -92,14 +92,14 @@ fn tells_refusals_of_the_input(rt: HostRuntime) -> Result<(), Fail> {
         (Reply::TooLong(6000000), "refused long 6000000\n"),
     ]?;
     for (kind, at, want) in [
-        (Kind::Header, 9, "refused case header 9\n"),
-        (Kind::Section, 51, "refused case section 51\n"),
-        (Kind::Number, 50, "refused case number 50\n"),
-        (Kind::Range, 58, "refused case range 58\n"),
-        (Kind::Length, 23, "refused case length 23\n"),
-        (Kind::Hex, 72, "refused case hex 72\n"),
-        (Kind::End, 0, "refused case end 0\n"),
-        (Kind::Rest, 55, "refused case rest 55\n"),
+        (DueKind::Header, 9, "refused case header 9\n"),
+        (DueKind::Section, 51, "refused case section 51\n"),
+        (DueKind::Number, 50, "refused case number 50\n"),
+        (DueKind::Range, 58, "refused case range 58\n"),
+        (DueKind::Length, 23, "refused case length 23\n"),
+        (DueKind::Hex, 72, "refused case hex 72\n"),
+        (DueKind::End, 0, "refused case end 0\n"),
+        (DueKind::Rest, 55, "refused case rest 55\n"),
     ] {
         rows.push((Reply::Case(BadCase { at, kind }), want))?;
     }
@@ -143,7 +143,7 @@ fn tells_refusals_of_the_program(rt: HostRuntime) -> Result<(), Fail> {
 fn tells_verdicts_and_counts(rt: HostRuntime) -> Result<(), Fail> {
     let alloc = rt.alloc();
     let number = |n: u64| Ext::embed(Fp::reduce(n));
-    let values = Values::new(vec![in alloc; Fp::reduce(5), Fp::reduce(2147483646)]?);
+    let values = Outputs::new(vec![in alloc; Fp::reduce(5), Fp::reduce(2147483646)]?);
     let sum = Reply::RejectedSum {
         layer: 0,
         round: 1,

@@ -1,13 +1,13 @@
 use field_ext::Fp;
 use std::marker::Model;
 
-/// Elements of the field, which contracts see as their list.
+/// The outputs of a program, which contracts see as their list.
 #[derive(Debug, Drop)]
-pub struct Values {
+pub struct Outputs {
     items: Vec<Fp>,
 }
 
-impl Model for Values {
+impl Model for Outputs {
     ghost use Rattle.std.specs.Prelude.{List};
     ghost use Rattle.field_ext.specs.Field.{F};
 
@@ -16,17 +16,17 @@ impl Model for Values {
     ghost view = { λ v. v.items.items };
 }
 
-impl Values {
+impl Outputs {
     ghost use Rattle.std.specs.Prelude.{◌≡◌};
 
-    /// These elements, without a copy.
-    pub fn new(items: Vec<Fp>) -> Values
+    /// These outputs, without a copy.
+    pub fn new(items: Vec<Fp>) -> Outputs
         ensures { result ≡ items.items }
     {
-        Values { items }
+        Outputs { items }
     }
 
-    /// The elements in order.
+    /// The outputs in order.
     pub fn as_slice(&self) -> &[Fp]
         ensures { result.now ≡ self.now }
     {
