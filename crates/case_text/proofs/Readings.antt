@@ -1,16 +1,15 @@
 -- What reading a case answers.
-use Rattle.std.proofs.Common.{◌≡◌, ◌↔◌, ℕ, ◌≤◌, List, [], ◌++◌, length, Result, Ok, Err, subst}
+use Rattle.std.proofs.Common.{◌≡◌, ◌↔◌, ℕ, List, [], ◌++◌, length, Result, Ok, Err, subst}
 use Rattle.std.specs.Prelude.{IfOk}
 use Rattle.case_text.specs.declared.form.Form.{Form}
 use Rattle.case_text.specs.declared.refusal.CaseRefused.{CaseRefused}
 use Rattle.case_text.specs.declared.refusal.BadCase.{BadCase}
-use Rattle.case_text.specs.declared.stop.Stop.{Stop}
 use Rattle.case_text.specs.Content.{Content}
 use Rattle.case_text.specs.Spelling.{Spells}
-use Rattle.case_text.specs.Reading.{case_at, case_in, reading, Answers}
+use Rattle.case_text.specs.Reading.{case_at, reading, Answers}
 use Rattle.case_text.specs.Places.{IsPlace}
 use Rattle.case_text.proofs.Lines.{case_exact}
-use Rattle.case_text.proofs.Whole.{whole_one, whole_alone, stop_place, refused_at, answer_found, answer_only}
+use Rattle.case_text.proofs.Whole.{whole_one, whole_alone, refused_at, answer_found, answer_only}
 
 -- What a call answered stands where the reading of it gives it.
 pub answers_found : {A : Type 0} (Text : A → List ℕ → Type 0) (bytes : List ℕ) (given : Result A BadCase) (result : Result A CaseRefused) → ((a : A) → given ≡ Ok a → Text a bytes) → Answers result given → IfOk result (λ a. Text a bytes)
@@ -34,9 +33,6 @@ case_one form = whole_one (CaseText form) (case_at form) (case_exact form)
 
 pub case_alone : (form : Form) (text more : List ℕ) (c d : Content) → Spells form text c → Spells form (text ++ more) d → more ≡ []
 case_alone form = whole_alone (CaseText form) (case_at form) (case_exact form)
-
-pub case_stop_within : (form : Form) (bytes : List ℕ) (s : Stop) → case_in form bytes ≡ Err s → s.left ≤ length bytes
-case_stop_within form bytes s e = (stop_place (CaseText form) (case_at form) (case_exact form) bytes s e).0
 
 pub case_refused_at : (form : Form) (bytes : List ℕ) (bad : BadCase) → reading form bytes ≡ Err bad → IsPlace (CaseText form) bytes bad.at
 case_refused_at form = refused_at (CaseText form) (case_at form) (case_exact form)

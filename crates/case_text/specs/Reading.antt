@@ -87,6 +87,11 @@ refused len (Err s) = Err (record { at = len - s.left; kind = s.kind })
 abbrev pub reading : Form → List ℕ → Result Content BadCase
 reading form bytes = refused (length bytes) (case_in form bytes)
 
+-- The refusal of so many bytes, where what a function returned says why reading ended.
+abbrev pub refusal_of : ℕ → ReadError → CaseRefused
+refusal_of len errors.Memory = refusals.Memory
+refusal_of len (errors.Stopped s) = refusals.Bad (record { at = len - s.left; kind = s.kind })
+
 -- What a function returned, seen by view, is what taking gives, unless memory ran out.
 abbrev pub Fails : {Y : Type 0} → ReadError → Result Y Stop → Type 0
 Fails errors.Memory taking = Unit {0}

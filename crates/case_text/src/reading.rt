@@ -9,7 +9,7 @@ ghost use Rattle.case_text.specs.Reading.{outputs_at, proof_at, hex_stop, Gives,
 use crate::case::Case;
 use crate::form::Form;
 use crate::parts::{decimal, digits_stop, some_bytes, word};
-use crate::refusal::{BadCase, CaseRefused, DueKind};
+use crate::refusal::{CaseRefused, DueKind};
 use crate::rule::Rule;
 use crate::stop::{ReadError, stop_at};
 use field_ext::Fp;
@@ -188,11 +188,7 @@ fn placed(alloc: Global, form: Form, bytes: &[u8]) -> Result<Case, CaseRefused>
 {
     match whole(alloc, form, bytes) {
         Ok(case) => Ok(case),
-        Err(ReadError::Memory) => Err(CaseRefused::Memory),
-        Err(ReadError::Stopped(stop)) => Err(CaseRefused::Bad(BadCase {
-            at: bytes.len() - stop.left,
-            kind: stop.kind,
-        })),
+        Err(error) => Err(error.refusal(bytes)),
     }
 }
 

@@ -1,17 +1,16 @@
 -- What reading a script answers.
-use Rattle.std.proofs.Common.{◌≡◌, ℕ, ◌≤◌, List, [], ◌++◌, length, Result, Ok, Err, subst}
+use Rattle.std.proofs.Common.{◌≡◌, ℕ, List, [], ◌++◌, length, Result, Ok, Err, subst}
 use Rattle.std.specs.Prelude.{IfOk}
 use Rattle.case_text.specs.declared.refusal.CaseRefused.{CaseRefused}
 use Rattle.case_text.specs.declared.refusal.BadCase.{BadCase}
-use Rattle.case_text.specs.declared.stop.Stop.{Stop}
 use Rattle.case_text.specs.Reading.{Answers}
 use Rattle.case_text.specs.Places.{IsPlace}
 use Rattle.case_text.proofs.Exact.{IsExact, same_texts}
 use Rattle.case_text.proofs.Readings.{answers_found}
-use Rattle.case_text.proofs.Whole.{whole_one, whole_alone, stop_place, refused_at, answer_found, answer_only}
+use Rattle.case_text.proofs.Whole.{whole_one, whole_alone, refused_at, answer_found, answer_only}
 use Rattle.script_text.specs.declared.script.ScriptJob.{ScriptJob}
 use Rattle.script_text.specs.declared.script.MarkedJob.{MarkedJob}
-use Rattle.script_text.specs.Scripts.{IsJob, IsMarkedJob, SpellsHistoryScript, SpellsScript, history_script_reading, job_at, jobs_at, marked_job_at, script_in, script_reading}
+use Rattle.script_text.specs.Scripts.{IsJob, IsMarkedJob, SpellsHistoryScript, SpellsScript, history_script_reading, job_at, jobs_at, marked_job_at, script_reading}
 use Rattle.script_text.proofs.ScriptTexts.{AreUpTo, jobs_exact, marked_jobs_exact}
 
 abbrev pub ScriptText : List ScriptJob → List ℕ → Type 0
@@ -31,9 +30,6 @@ script_one = whole_one ScriptText (jobs_at job_at 256) script_exact
 
 pub script_alone : (text more : List ℕ) (js ks : List ScriptJob) → SpellsScript text js → SpellsScript (text ++ more) ks → more ≡ []
 script_alone = whole_alone ScriptText (jobs_at job_at 256) script_exact
-
-pub script_stop_within : (bytes : List ℕ) (s : Stop) → script_in job_at bytes ≡ Err s → s.left ≤ length bytes
-script_stop_within bytes s e = (stop_place ScriptText (jobs_at job_at 256) script_exact bytes s e).0
 
 pub script_refused_at : (bytes : List ℕ) (bad : BadCase) → script_reading bytes ≡ Err bad → IsPlace ScriptText bytes bad.at
 script_refused_at = refused_at ScriptText (jobs_at job_at 256) script_exact
@@ -57,9 +53,6 @@ history_one = whole_one HistoryText (jobs_at marked_job_at 256) history_exact
 
 pub history_alone : (text more : List ℕ) (js ks : List MarkedJob) → SpellsHistoryScript text js → SpellsHistoryScript (text ++ more) ks → more ≡ []
 history_alone = whole_alone HistoryText (jobs_at marked_job_at 256) history_exact
-
-pub history_stop_within : (bytes : List ℕ) (s : Stop) → script_in marked_job_at bytes ≡ Err s → s.left ≤ length bytes
-history_stop_within bytes s e = (stop_place HistoryText (jobs_at marked_job_at 256) history_exact bytes s e).0
 
 pub history_refused_at : (bytes : List ℕ) (bad : BadCase) → history_script_reading bytes ≡ Err bad → IsPlace HistoryText bytes bad.at
 history_refused_at = refused_at HistoryText (jobs_at marked_job_at 256) history_exact

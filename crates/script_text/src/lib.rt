@@ -13,6 +13,7 @@
 mod history;
 mod jobs;
 pub mod laws;
+mod reading;
 mod script;
 
 pub use history::read_history_script;

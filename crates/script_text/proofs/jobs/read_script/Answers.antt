@@ -3,7 +3,7 @@ use Rattle.script_text.proofs.Readings.{script_found, script_only}
 use Rattle.script_text.proofs.jobs.read_script.Goals as goal
 
 pub returns-clause-found : goal.returns-clause-found
-returns-clause-found c = script_found c.args.bytes.now (jobs_of c.placed_script.result) c.placed_script.ensures
+returns-clause-found c = script_found c.args.bytes.now (jobs_of c.placed.result) c.placed.ensures
 
 pub returns-clause-only : goal.returns-clause-only
-returns-clause-only c = script_only c.args.bytes.now (jobs_of c.placed_script.result) c.placed_script.ensures
+returns-clause-only c = script_only c.args.bytes.now (jobs_of c.placed.result) c.placed.ensures
