@@ -29,7 +29,7 @@ use Rattle.gkr_words.specs.declared.words.CaseCommand.TheVariants.{Eval, Circuit
 use Rattle.io_edge.specs.Written.{Grows}
 use Rattle.gkr_cmd.specs.Reached.{ReadsUpTo, WritesFront}
 use Rattle.gkr_cmd.specs.Replies.{IsWithinLimit, IsTooLong, IsCommandReply, IsHistoryReply, IsScriptReply, IsCaseReply, IsAnswer, IsCircuitAnswer, IsDemoAnswer, IsEvalAnswer, IsVerifyAnswer, IsOfCase, form_of, refused_reply, verdict_reply, status_of}
-use Rattle.gkr_words.specs.Commands.{case_limit, script_limit}
+use Rattle.gkr_words.specs.Commands.{IsService, case_limit, input_limit, script_limit}
 use Rattle.case_prove.specs.Answers.{IsProveAnswer}
 use Rattle.gkr_cmd.specs.Runs.{IsInput, IsReplied, WritesNoMore, WritesReplyFront}
 
@@ -45,11 +45,20 @@ longer most left new bytes h long input e =
 pub too_long : (command : CaseCommand) (left new : Option (List ℕ)) (bytes : List ℕ) → ReadsUpTo (case_limit + 1) left new bytes → case_limit < length bytes → (input : List ℕ) → left ≡ Some input → IsCommandReply (Some (OfCase command)) input (replies.TooLong case_limit)
 too_long command left new bytes h long input e = longer case_limit left new bytes h long input e
 
-pub script_too_long : (left new : Option (List ℕ)) (bytes : List ℕ) → ReadsUpTo (script_limit + 1) left new bytes → script_limit < length bytes → (input : List ℕ) → left ≡ Some input → IsScriptReply input (replies.TooLong script_limit)
-script_too_long left new bytes h long input e = longer script_limit left new bytes h long input e
+-- the input of a service is told by its source
+service_told : (command : Option Command) (left : Option (List ℕ)) (input : List ℕ) → IsService command → IsInput command left input → left ≡ Some input
+service_told (Some (Serve workers provers clients)) left input service told = told
+service_told (Some (ServeHistory workers provers clients)) left input service told = told
+service_told (Some (OfCase command)) left input service told = absurd service
+service_told (Some (Demo number workers)) left input service told = absurd service
+service_told None left input service told = absurd service
 
-pub history_too_long : (left new : Option (List ℕ)) (bytes : List ℕ) → ReadsUpTo (script_limit + 1) left new bytes → script_limit < length bytes → (input : List ℕ) → left ≡ Some input → IsHistoryReply input (replies.TooLong script_limit)
-history_too_long left new bytes h long input e = longer script_limit left new bytes h long input e
+pub service_too_long : (command : Option Command) (left new : Option (List ℕ)) (bytes : List ℕ) → IsService command → ReadsUpTo (script_limit + 1) left new bytes → script_limit < length bytes → (input : List ℕ) → IsInput command left input → IsCommandReply command input (replies.TooLong script_limit)
+service_too_long (Some (Serve workers provers clients)) left new bytes service h long input told = longer script_limit left new bytes h long input told
+service_too_long (Some (ServeHistory workers provers clients)) left new bytes service h long input told = longer script_limit left new bytes h long input told
+service_too_long (Some (OfCase command)) left new bytes service h long input told = absurd service
+service_too_long (Some (Demo number workers)) left new bytes service h long input told = absurd service
+service_too_long None left new bytes service h long input told = absurd service
 
 whole : (most : ℕ) (left new : Option (List ℕ)) (bytes : List ℕ) → ReadsUpTo (most + 1) left new bytes → length bytes ≤ most → (input : List ℕ) → left ≡ Some input → bytes ≡ input
 whole most left new bytes h short input e =
@@ -68,18 +77,14 @@ pub command_replied : (command : CaseCommand) (left new : Option (List ℕ)) (by
 command_replied command left new bytes result h short replied =
     replied_whole case_limit (λ read reply. IsCommandReply (Some (OfCase command)) read reply) left new bytes result h short replied
 
-pub script_replied : (left new : Option (List ℕ)) (bytes : List ℕ) (result : Result Reply ReplyError) → ReadsUpTo (script_limit + 1) left new bytes → length bytes ≤ script_limit
-    → IfOk result (λ reply. IsScriptReply bytes reply) → IfOk result (λ reply. (input : List ℕ) → left ≡ Some input → IsScriptReply input reply)
-script_replied left new bytes result h short replied =
-    replied_whole script_limit (λ read reply. IsScriptReply read reply) left new bytes result h short replied
-
-pub history_replied : (left new : Option (List ℕ)) (bytes : List ℕ) (result : Result Reply ReplyError) → ReadsUpTo (script_limit + 1) left new bytes → length bytes ≤ script_limit
-    → IfOk result (λ reply. IsHistoryReply bytes reply) → IfOk result (λ reply. (input : List ℕ) → left ≡ Some input → IsHistoryReply input reply)
-history_replied left new bytes result h short replied =
-    replied_whole script_limit (λ read reply. IsHistoryReply read reply) left new bytes result h short replied
+pub service_replied : (command : Option Command) (left new : Option (List ℕ)) (bytes : List ℕ) (result : Result Reply ReplyError) → IsService command → ReadsUpTo (script_limit + 1) left new bytes → length bytes ≤ script_limit
+    → IfOk result (λ reply. IsCommandReply command bytes reply) → IfOk result (λ reply. (input : List ℕ) → IsInput command left input → IsCommandReply command input reply)
+service_replied command left new bytes result service h short replied =
+    IfOk-weaker result _ _ (λ reply is input told. is input (service_told command left input service told))
+    (replied_whole script_limit (λ read reply. IsCommandReply command read reply) left new bytes result h short replied)
 
 -- the reply of `serve` doesn't refuse the words
-pub script_named : (input : List ℕ) (reply : Reply) → IsScriptReply input reply → status_of reply ≢ statuses.Usage
+script_named : (input : List ℕ) (reply : Reply) → IsScriptReply input reply → status_of reply ≢ statuses.Usage
 script_named input (replies.Outputs values) is = absurd is
 script_named input replies.Usage is = absurd is
 script_named input (replies.TooLong limit) is = λ e. cc
@@ -101,7 +106,7 @@ script_named input (replies.RejectedEnd layer had want) is = absurd is
 script_named input (replies.RejectedInput had want) is = absurd is
 
 -- the reply of `serve --history` doesn't refuse the words
-pub history_named : (input : List ℕ) (reply : Reply) → IsHistoryReply input reply → status_of reply ≢ statuses.Usage
+history_named : (input : List ℕ) (reply : Reply) → IsHistoryReply input reply → status_of reply ≢ statuses.Usage
 history_named input (replies.Outputs values) is = absurd is
 history_named input replies.Usage is = absurd is
 history_named input (replies.TooLong limit) is = λ e. cc
@@ -121,6 +126,22 @@ history_named input replies.Accepted is = absurd is
 history_named input (replies.RejectedSum layer round had claim) is = absurd is
 history_named input (replies.RejectedEnd layer had want) is = absurd is
 history_named input (replies.RejectedInput had want) is = absurd is
+
+-- nor does that of either
+pub service_named : (command : Option Command) (input : List ℕ) (result : Result Reply ReplyError) → IsService command → IfOk result (λ reply. IsCommandReply command input reply) → IfOk result (λ reply. status_of reply ≢ statuses.Usage)
+service_named (Some (Serve workers provers clients)) input result service replied = IfOk-weaker result _ _ (λ reply is. script_named input reply is) replied
+service_named (Some (ServeHistory workers provers clients)) input result service replied = IfOk-weaker result _ _ (λ reply is. history_named input reply is) replied
+service_named (Some (OfCase command)) input result service replied = absurd service
+service_named (Some (Demo number workers)) input result service replied = absurd service
+service_named None input result service replied = absurd service
+
+-- a service reads a script
+pub service_limit : (command : Option Command) → IsService command → input_limit command ≡ script_limit
+service_limit (Some (Serve workers provers clients)) service = refl
+service_limit (Some (ServeHistory workers provers clients)) service = refl
+service_limit (Some (OfCase command)) service = absurd service
+service_limit (Some (Demo number workers)) service = absurd service
+service_limit None service = absurd service
 
 -- a named command's input is told by its source
 pub input_of : (named : CaseCommand) (command : Option Command) (left : Option (List ℕ)) (input : List ℕ) → command ≡ Some (OfCase named) → left ≡ Some input → IsInput command left input

@@ -1,9 +1,9 @@
 //! The replies to a script.
 
-ghost use Rattle.std.specs.Prelude.{◌≡◌, ◌≢◌, ◌≤◌, ◌+◌, length, List, ℕ, IfOk, IfSome, OnOk, IsErrOf, Some, Err};
+ghost use Rattle.std.specs.Prelude.{◌≡◌, ◌≢◌, ◌≤◌, ◌+◌, length, List, ℕ, IfOk, IfSome, OnOk, IsErrOf, Err};
 ghost use Rattle.io_edge.specs.Causes.{Rose};
 ghost use Rattle.phase_run.specs.Work.{IsWorkerCount};
-ghost use Rattle.gkr_words.specs.Commands.{HasWorkers, IsService, input_limit, read_room, script_limit};
+ghost use Rattle.gkr_words.specs.Commands.{HasWorkers, IsService, read_room, script_limit};
 ghost use Rattle.gkr_cmd.specs.Reached.{IsReadUpTo, ReadsWithin};
 ghost use Rattle.gkr_cmd.specs.Replies.{IsCommandReply, IsHistoryReply, IsScriptReply, status_of};
 ghost use Rattle.gkr_cmd.specs.Runs.{IsInput};
@@ -37,14 +37,35 @@ pub fn reply_service<R: Threads + Wait + Sync, S: Source, G: Gate>(
     ensures reply { IfOk result (λ reply. (input : List ℕ)
         → IsInput command (S.left source.old) input → IsCommandReply command input reply) }
     ensures named { IfOk result (λ reply. status_of reply ≢ Status.Usage) }
-    ensures read { OnOk result (IsReadUpTo (input_limit command + 1) (S.left source.old)
+    ensures read { OnOk result (IsReadUpTo (script_limit + 1) (S.left source.old)
         (S.left source.new)) }
-    ensures within { ReadsWithin (input_limit command + 1) read_room (S.left source.old)
+    ensures within { ReadsWithin (script_limit + 1) read_room (S.left source.old)
         (S.left source.new) (S.calls source.old) (S.calls source.new) }
     ensures fault { IsErrOf result ReplyError.ReadFault
         → Rose (S.faults source.old) (S.faults source.new) }
     ensures no_fault { result ≢ Err ReplyError.ReadFault
         → S.faults source.new ≡ S.faults source.old }
+{
+    let input = read_input(alloc, source, SCRIPT_LIMIT as usize)?;
+    if input.len() > SCRIPT_LIMIT as usize {
+        return Ok(Reply::TooLong(SCRIPT_LIMIT));
+    }
+    answer_service(rt, alloc, command, &input, gate)
+}
+
+/// The reply to an input that isn't too long.
+fn answer_service<R: Threads + Wait + Sync, G: Gate>(
+    rt: &R,
+    alloc: Global,
+    command: Option<Command>,
+    input: &[u8],
+    gate: &G,
+) -> Result<Reply, ReplyError>
+    requires service { IsService command }
+    requires workers { IfSome command HasWorkers }
+    requires limit { length input.now ≤ script_limit }
+    ensures reply { IfOk result (λ reply. IsCommandReply command input.now reply) }
+    ensures fault { result ≢ Err ReplyError.ReadFault }
 {
     match command {
         Some(
@@ -59,7 +80,7 @@ pub fn reply_service<R: Threads + Wait + Sync, S: Source, G: Gate>(
                 provers,
                 clients,
             };
-            serve(rt, alloc, threading, source, gate)
+            answer_script(rt, alloc, threading, input, gate)
         }
         Some(
             Command::ServeHistory {
@@ -73,40 +94,10 @@ pub fn reply_service<R: Threads + Wait + Sync, S: Source, G: Gate>(
                 provers,
                 clients,
             };
-            serve_history(rt, alloc, threading, source, gate)
+            answer_history(rt, alloc, threading, input, gate)
         }
         _ => unreachable!(),
     }
-}
-
-/// The reply of `serve` to what it reads.
-fn serve<R: Threads + Wait + Sync, S: Source, G: Gate>(
-    rt: &R,
-    alloc: Global,
-    threading: Threading,
-    source: &mut S,
-    gate: &G,
-) -> Result<Reply, ReplyError>
-    requires workers { IsWorkerCount threading.workers }
-    requires provers { IsWorkerCount threading.provers }
-    requires clients { IsWorkerCount threading.clients }
-    ensures reply { IfOk result (λ reply. (input : List ℕ) → S.left source.old ≡ Some input
-        → IsScriptReply input reply) }
-    ensures named { IfOk result (λ reply. status_of reply ≢ Status.Usage) }
-    ensures read { OnOk result (IsReadUpTo (script_limit + 1) (S.left source.old)
-        (S.left source.new)) }
-    ensures within { ReadsWithin (script_limit + 1) read_room (S.left source.old)
-        (S.left source.new) (S.calls source.old) (S.calls source.new) }
-    ensures fault { IsErrOf result ReplyError.ReadFault
-        → Rose (S.faults source.old) (S.faults source.new) }
-    ensures no_fault { result ≢ Err ReplyError.ReadFault
-        → S.faults source.new ≡ S.faults source.old }
-{
-    let input = read_input(alloc, source, SCRIPT_LIMIT as usize)?;
-    if input.len() > SCRIPT_LIMIT as usize {
-        return Ok(Reply::TooLong(SCRIPT_LIMIT));
-    }
-    answer_script(rt, alloc, threading, &input, gate)
 }
 
 /// The reply of `serve` to an input that isn't too long.
@@ -131,36 +122,6 @@ fn answer_script<R: Threads + Wait + Sync, G: Gate>(
     };
     let served = serve_script(rt, alloc, script, threading, gate)?;
     Ok(Reply::Served(ServedJobs::new(served)))
-}
-
-/// The reply of `serve --history` to what it reads.
-fn serve_history<R: Threads + Wait + Sync, S: Source, G: Gate>(
-    rt: &R,
-    alloc: Global,
-    threading: Threading,
-    source: &mut S,
-    gate: &G,
-) -> Result<Reply, ReplyError>
-    requires workers { IsWorkerCount threading.workers }
-    requires provers { IsWorkerCount threading.provers }
-    requires clients { IsWorkerCount threading.clients }
-    ensures reply { IfOk result (λ reply. (input : List ℕ) → S.left source.old ≡ Some input
-        → IsHistoryReply input reply) }
-    ensures named { IfOk result (λ reply. status_of reply ≢ Status.Usage) }
-    ensures read { OnOk result (IsReadUpTo (script_limit + 1) (S.left source.old)
-        (S.left source.new)) }
-    ensures within { ReadsWithin (script_limit + 1) read_room (S.left source.old)
-        (S.left source.new) (S.calls source.old) (S.calls source.new) }
-    ensures fault { IsErrOf result ReplyError.ReadFault
-        → Rose (S.faults source.old) (S.faults source.new) }
-    ensures no_fault { result ≢ Err ReplyError.ReadFault
-        → S.faults source.new ≡ S.faults source.old }
-{
-    let input = read_input(alloc, source, SCRIPT_LIMIT as usize)?;
-    if input.len() > SCRIPT_LIMIT as usize {
-        return Ok(Reply::TooLong(SCRIPT_LIMIT));
-    }
-    answer_history(rt, alloc, threading, &input, gate)
 }
 
 /// The reply of `serve --history` to an input that isn't too long.

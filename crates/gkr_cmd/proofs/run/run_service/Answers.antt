@@ -5,6 +5,7 @@ use Rattle.gkr_words.specs.declared.words.Command.{Command}
 use Rattle.gkr_words.specs.Commands.{IsService}
 use Rattle.gkr_cmd.specs.Headline.{Run}
 use Rattle.gkr_cmd.proofs.Headlines.{Makes, promises_of}
+use Rattle.gkr_cmd.proofs.Replied.{service_limit}
 use Rattle.gkr_cmd.proofs.run.run_service.Goals as goal
 
 not_none : (command : Option Command) → IsService command → command ≡ None → ⊥
@@ -30,11 +31,12 @@ returns g c =
       };
       ended = c.finish.result;
     } in
+    let limit = service_limit c.in-Ok.command (subst IsService (sym c.in-Ok.ensures.command) c.requires.service) in
     let makes : Makes run c.in-Ok.command c.reply_service-made.result = record {
       is_reply = c.reply_service-made.ensures.reply;
       usage = IfOk-weaker c.reply_service-made.result _ _ (λ reply named. (λ e. absurd (named e), λ e. absurd (not_none c.in-Ok.command (subst IsService (sym c.in-Ok.ensures.command) c.requires.service) e))) c.reply_service-made.ensures.named;
-      read = λ reads. c.reply_service-made.ensures.read;
-      within = λ reads. c.reply_service-made.ensures.within;
+      read = λ reads. rw limit c.reply_service-made.ensures.read;
+      within = λ reads. rw limit c.reply_service-made.ensures.within;
       fault = c.reply_service-made.ensures.fault;
       no_fault = c.reply_service-made.ensures.no_fault;
     } in
