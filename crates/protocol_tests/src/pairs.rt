@@ -1,38 +1,16 @@
 //! Verdicts on proofs by pairs for given challenges, by hand, and bytes that are none.
 
-use crate::spelled::{by_lines, by_pairs};
-use circuit_core::{Circuit, Shape};
+use crate::answered::answer;
+use crate::spelled::bytes_of;
+use circuit_core::Shape;
 use field_ext::{Ext, Fp};
-use gkr_verify::{Verdict, challenge_count, check_pair};
+use gkr_verify::Verdict;
 use mle_table::Table;
 use pair_reduce::{decode_pair, encode_pair, pair_at, proof_len_pair};
-use proof_wire::{BadProof, ProofRefused};
+use proof_wire::{BadProof, ProofForm, ProofRefused};
 use std::alloc::{AllocError, Global};
-use std::process::Abort;
 use std::test::Fail;
 use test_circuits::{copy, number, numbers, product};
-use transcript_fs::{Challenges, Given};
-
-/// The answer to messages of these coefficients and pairs, with these challenges, for one output.
-fn answer<R: Abort + AllocGlobal>(
-    rt: &R,
-    circuit: &Circuit,
-    inputs: &[Fp],
-    output: u64,
-    elements: &[i32],
-    challenges: &[i32],
-) -> Result<Verdict, Fail> {
-    let bytes = by_pairs(rt.alloc(), elements)?;
-    let Ok(messages) = decode_pair(rt.alloc(), &bytes, circuit.shape()) else {
-        return Err(Fail::new("no messages"));
-    };
-    let mut given = Given::of(numbers(rt.alloc(), challenges)?);
-    assert!(rt; given.has(challenge_count(circuit)));
-    assert!(rt; inputs.len() == circuit.inputs() as usize);
-    assert!(rt; circuit.outputs() == 1);
-    let outputs = [Fp::reduce(output)];
-    Ok(check_pair(rt.alloc(), circuit, inputs, &outputs, &messages, &mut given)?)
-}
 
 const COPIED: [i32; 8] = [0, -5, 15, 120, -80, -40, 15, 20];
 
@@ -67,7 +45,7 @@ fn follows_a_copy(rt: HostRuntime) -> Result<(), Fail> {
         ([0, -5, 15, 120, -80, -40, 14, 21], input),
     ] {
         assert_eq!(rt;
-            answer(&rt, &circuit, &five, 5, &messages, &drawn)?,
+            answer(&rt, ProofForm::Pair, &circuit, &five, 5, &messages, &drawn)?,
             verdict
         );
     }
@@ -89,7 +67,7 @@ fn accepts_a_false_pair_at_its_exceptional_challenge(rt: HostRuntime) -> Result<
     for (challenge, verdict) in [(2, Verdict::Accepted), (6, input)] {
         let drawn = [2, 3, 4, challenge];
         assert_eq!(rt;
-            answer(&rt, &circuit, &five, 0, &messages, &drawn)?,
+            answer(&rt, ProofForm::Pair, &circuit, &five, 0, &messages, &drawn)?,
             verdict
         );
     }
@@ -108,11 +86,27 @@ fn follows_a_product(rt: HostRuntime) -> Result<(), Fail> {
     ];
     let drawn = [2, 3, -1, 2, 1, 2, -1, 3, 5];
     assert_eq!(rt;
-        answer(&rt, &circuit, &inputs, 12, &messages, &drawn)?,
+        answer(
+            &rt,
+            ProofForm::Pair,
+            &circuit,
+            &inputs,
+            12,
+            &messages,
+            &drawn
+        )?,
         Verdict::Accepted
     );
     messages[20] = -2;
-    let verdict = answer(&rt, &circuit, &inputs, 12, &messages, &drawn)?;
+    let verdict = answer(
+        &rt,
+        ProofForm::Pair,
+        &circuit,
+        &inputs,
+        12,
+        &messages,
+        &drawn,
+    )?;
     assert!(rt; matches!(verdict, Verdict::End { layer: 1, .. }));
     Ok(())
 }
@@ -125,7 +119,7 @@ fn refusal(alloc: Global, bytes: &[u8]) -> Result<Option<ProofRefused>, AllocErr
 
 #[test]
 fn reads_and_writes_bytes(rt: HostRuntime) -> Result<(), Fail> {
-    let bytes = by_pairs(rt.alloc(), &COPIED)?;
+    let bytes = bytes_of(rt.alloc(), ProofForm::Pair, &COPIED)?;
     let shape = Shape::of(Vec::from_slice(rt.alloc(), &[1, 1])?);
     let Ok(read) = decode_pair(rt.alloc(), &bytes, &shape) else {
         return Err(Fail::new("no messages"));
@@ -137,7 +131,7 @@ fn reads_and_writes_bytes(rt: HostRuntime) -> Result<(), Fail> {
 
 #[test]
 fn refuses_each_prefix(rt: HostRuntime) -> Result<(), Fail> {
-    let bytes = by_pairs(rt.alloc(), &COPIED)?;
+    let bytes = bytes_of(rt.alloc(), ProofForm::Pair, &COPIED)?;
     for at in 0..68 {
         let short = ProofRefused::Bad(BadProof::Short { at, need: 68 });
         assert_eq!(rt;
@@ -150,8 +144,8 @@ fn refuses_each_prefix(rt: HostRuntime) -> Result<(), Fail> {
 
 #[test]
 fn refuses_more_bytes_and_other_magic(rt: HostRuntime) -> Result<(), Fail> {
-    let line = by_lines(rt.alloc(), &COPIED)?;
-    let longer = by_pairs(rt.alloc(), &[0; 9])?;
+    let line = bytes_of(rt.alloc(), ProofForm::Line, &COPIED)?;
+    let longer = bytes_of(rt.alloc(), ProofForm::Pair, &[0; 9])?;
     for (bytes, bad) in [
         (line.as_slice(), BadProof::Magic { at: 3 }),
         (longer.as_slice(), BadProof::Long { extra: 8 }),

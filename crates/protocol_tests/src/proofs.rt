@@ -1,6 +1,6 @@
 //! Proofs for given challenges, by hand.
 
-use crate::spelled::{by_lines, by_pairs};
+use crate::spelled::bytes_of;
 use circuit_core::Circuit;
 use circuit_eval::layer_values;
 use field_ext::Fp;
@@ -8,7 +8,7 @@ use gkr_layers::challenge_count;
 use gkr_prove::{prove, prove_pair};
 use io_edge::OpenGate;
 use pair_reduce::encode_pair;
-use proof_wire::encode;
+use proof_wire::{ProofForm, encode};
 use std::marker::Sync;
 use std::process::Abort;
 use std::test::Fail;
@@ -39,7 +39,11 @@ fn proves_a_copy(rt: HostRuntime) -> Result<(), Fail> {
     };
     let five = [Fp::reduce(5)];
     let bytes = proved(&rt, &circuit, &five, &[2, 3, 4, 6])?;
-    let want = by_lines(rt.alloc(), &[0, -5, 15, 120, -80, -40, 15, 5])?;
+    let want = bytes_of(
+        rt.alloc(),
+        ProofForm::Line,
+        &[0, -5, 15, 120, -80, -40, 15, 5],
+    )?;
     assert!(rt; bytes.as_slice() == want.as_slice());
     Ok(())
 }
@@ -54,7 +58,7 @@ fn proves_a_product(rt: HostRuntime) -> Result<(), Fail> {
     let messages = [
         0, 12, -12, 0, 12, -12, 0, 0, 0, 3, -3, 0, 4, -4, 0, 3, -3, 0, 4, -4, 0, 0, 0,
     ];
-    let want = by_lines(rt.alloc(), &messages)?;
+    let want = bytes_of(rt.alloc(), ProofForm::Line, &messages)?;
     assert!(rt; bytes.as_slice() == want.as_slice());
     Ok(())
 }
@@ -82,7 +86,11 @@ fn proves_a_copy_by_a_pair(rt: HostRuntime) -> Result<(), Fail> {
     };
     let five = [Fp::reduce(5)];
     let bytes = proved_by_pairs(&rt, &circuit, &five, &[2, 3, 4, 6])?;
-    let want = by_pairs(rt.alloc(), &[0, -5, 15, 120, -80, -40, 15, 20])?;
+    let want = bytes_of(
+        rt.alloc(),
+        ProofForm::Pair,
+        &[0, -5, 15, 120, -80, -40, 15, 20],
+    )?;
     assert!(rt; bytes.as_slice() == want.as_slice());
     Ok(())
 }
@@ -98,7 +106,7 @@ fn proves_a_product_by_pairs(rt: HostRuntime) -> Result<(), Fail> {
     let messages = [
         0, -12, 36, 288, -192, -96, 36, -12, 0, 6, 6, 12, -24, 12, 12, -24, 12, 0, -18, 66, -3, 30,
     ];
-    let want = by_pairs(rt.alloc(), &messages)?;
+    let want = bytes_of(rt.alloc(), ProofForm::Pair, &messages)?;
     assert!(rt; bytes.as_slice() == want.as_slice());
     Ok(())
 }

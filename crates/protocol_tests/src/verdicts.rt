@@ -1,35 +1,11 @@
 //! Verdicts on messages for given challenges, by hand.
 
-use crate::spelled::by_lines;
-use circuit_core::Circuit;
+use crate::answered::answer;
 use field_ext::Fp;
-use gkr_verify::{Verdict, challenge_count, check};
-use proof_wire::decode;
-use std::process::Abort;
+use gkr_verify::{Verdict, challenge_count};
+use proof_wire::ProofForm;
 use std::test::Fail;
-use test_circuits::{copy, number, numbers, product};
-use transcript_fs::{Challenges, Given};
-
-/// The answer to messages of these coefficients, with these challenges, for one output.
-fn answer<R: Abort + AllocGlobal>(
-    rt: &R,
-    circuit: &Circuit,
-    inputs: &[Fp],
-    output: u64,
-    coefficients: &[i32],
-    challenges: &[i32],
-) -> Result<Verdict, Fail> {
-    let bytes = by_lines(rt.alloc(), coefficients)?;
-    let Ok(messages) = decode(rt.alloc(), &bytes, circuit.shape()) else {
-        return Err(Fail::new("no messages"));
-    };
-    let mut given = Given::of(numbers(rt.alloc(), challenges)?);
-    assert!(rt; given.has(challenge_count(circuit)));
-    assert!(rt; inputs.len() == circuit.inputs() as usize);
-    assert!(rt; circuit.outputs() == 1);
-    let outputs = [Fp::reduce(output)];
-    Ok(check(rt.alloc(), circuit, inputs, &outputs, &messages, &mut given)?)
-}
+use test_circuits::{copy, number, product};
 
 const COPIED: [i32; 8] = [0, -5, 15, 120, -80, -40, 15, 5];
 
@@ -67,7 +43,15 @@ fn follows_a_copy(rt: HostRuntime) -> Result<(), Fail> {
         (5, [0, -5, 15, 120, -80, -40, 5, 15], other_line),
     ] {
         assert_eq!(rt;
-            answer(&rt, &circuit, &five, output, &messages, &drawn)?,
+            answer(
+                &rt,
+                ProofForm::Line,
+                &circuit,
+                &five,
+                output,
+                &messages,
+                &drawn
+            )?,
             verdict
         );
     }
@@ -88,7 +72,15 @@ fn accepts_false_outputs_at_exceptional_challenges(rt: HostRuntime) -> Result<()
         ([0, 0, 0, 0, 0, 0, -20, 40], [2, 3, 4, 1], true),
         ([0, 0, 0, 0, 0, 0, -20, 40], [2, 3, 4, 6], false),
     ] {
-        let verdict = answer(&rt, &circuit, &five, 0, &messages, &challenges)?;
+        let verdict = answer(
+            &rt,
+            ProofForm::Line,
+            &circuit,
+            &five,
+            0,
+            &messages,
+            &challenges,
+        )?;
         assert!(rt; (verdict == Verdict::Accepted) == passes);
     }
     Ok(())
@@ -114,7 +106,15 @@ fn tells_the_first_equation_that_fails(rt: HostRuntime) -> Result<(), Fail> {
         ([0; 8], [0, 1, 1, 0], input),
     ] {
         assert_eq!(rt;
-            answer(&rt, &circuit, &five, 0, &messages, &challenges)?,
+            answer(
+                &rt,
+                ProofForm::Line,
+                &circuit,
+                &five,
+                0,
+                &messages,
+                &challenges
+            )?,
             verdict
         );
     }
@@ -133,7 +133,15 @@ fn follows_a_product(rt: HostRuntime) -> Result<(), Fail> {
     // Where the first challenge is 0, another output is accepted too.
     for output in [12, 13] {
         assert_eq!(rt;
-            answer(&rt, &circuit, &inputs, output, &messages, &[0; 9])?,
+            answer(
+                &rt,
+                ProofForm::Line,
+                &circuit,
+                &inputs,
+                output,
+                &messages,
+                &[0; 9]
+            )?,
             Verdict::Accepted
         );
     }
