@@ -3,3 +3,4 @@ pub mod RoundSteps
 pub mod LayerSteps
 pub mod InputSteps
 pub mod TableSteps
+pub mod BothSteps

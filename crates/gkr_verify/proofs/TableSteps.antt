@@ -5,7 +5,6 @@ use Rattle.std.proofs.lemmas.Bool.{cases_eq}
 use Rattle.field_ext.specs.Ring.{Ops, Laws}
 use Rattle.field_ext.specs.Field.{F, K, k_ops, zero_k, mul_k, add_k, embed_k}
 use Rattle.field_ext.specs.Sums.{sum_below}
-use Rattle.field_ext.specs.Multilinear.{eq_poly}
 use Rattle.field_ext.proofs.KLaws.{k_laws}
 use Rattle.field_ext.proofs.Rings.{zero_add, zero_mul}
 use Rattle.circuit_core.specs.Parts.{padded_values, zero_f}
@@ -54,23 +53,24 @@ zero-behind width values (suc g) u =
     let past : length values ≤ g = omega arith in
     read-embed (padded_values width values) (suc g) ∙ ap embed_k (behind-zero zero_f values (width - (1 + length values)) g ∙ get_or_past values g zero_f past)
 
-module _ (width : ℕ) (values : List F) (point : List K) where
+-- the sum with these weights, one place more at a time
+module _ (width : ℕ) (values : List F) (weight : ℕ → K) where
   abbrev term : ℕ → K
-  term g = mul_k (get_or (table width values) g zero_k) (eq_poly k_ops point g)
+  term g = mul_k (get_or (table width values) g zero_k) (weight g)
 
   -- the sum up to place n
   abbrev pub IsSumTo : ℕ → K → Type 0
-  IsSumTo n sum = sum ≡ sum_below k_ops n (λ g. mul_k (get_or (table width values) g zero_k) (eq_poly k_ops point g))
+  IsSumTo n sum = sum ≡ sum_below k_ops n (λ g. mul_k (get_or (table width values) g zero_k) (weight g))
 
   pub sum_begun : (sum : K) → sum ≡ zero_k → IsSumTo (0 + 1) sum
-  sum_begun sum e = e ∙ sym (zero_add k_ops k_laws _ ∙ zero_mul k_ops k_laws (eq_poly k_ops point 0))
+  sum_begun sum e = e ∙ sym (zero_add k_ops k_laws _ ∙ zero_mul k_ops k_laws (weight 0))
 
-  pub sum_more : (i : ℕ) (sum next : K) → next ≡ add_k sum (mul_k (embed_k (get_or values i zero_f)) (eq_poly k_ops point (i + 1))) → IsSumTo (i + 1) sum → IsSumTo (i + 1 + 1) next
+  pub sum_more : (i : ℕ) (sum next : K) → next ≡ add_k sum (mul_k (embed_k (get_or values i zero_f)) (weight (i + 1))) → IsSumTo (i + 1) sum → IsSumTo (i + 1 + 1) next
   sum_more i sum next e h =
-      one_more k_ops k_laws (i + 1) term sum next (e ∙ ap (λ (x : K). add_k sum (mul_k x (eq_poly k_ops point (i + 1)))) (sym (value-behind width values i))) h
+      one_more k_ops k_laws (i + 1) term sum next (e ∙ ap (λ (x : K). add_k sum (mul_k x (weight (i + 1)))) (sym (value-behind width values i))) h
 
   pub sum_all : (i n : ℕ) (sum : K) → length values ≤ i → i + 1 ≤ n → IsSumTo (i + 1) sum → IsSumTo n sum
   sum_all i n sum u v h =
       h ∙ zeros_behind k_ops k_laws (i + 1) n term v
       (λ g w. let past : length values + 1 ≤ g = omega arith in
-      ap (λ (x : K). mul_k x (eq_poly k_ops point g)) (zero-behind width values g past) ∙ zero_mul k_ops k_laws (eq_poly k_ops point g))
+      ap (λ (x : K). mul_k x (weight g)) (zero-behind width values g past) ∙ zero_mul k_ops k_laws (weight g))

@@ -11,12 +11,15 @@
 //! ```
 #![tactic(auto)]
 
+mod blocks;
+mod both;
 mod end;
 mod extension;
 mod layer;
 mod layers;
 mod rounds;
 mod standing;
+mod tables;
 mod verifier;
 
 pub use gkr_layers::{Verdict, bound_sum, challenge_count};

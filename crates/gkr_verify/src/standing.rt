@@ -7,11 +7,13 @@ ghost use Rattle.circuit_core.specs.Faults.{IsLeafWithin};
 ghost use Rattle.circuit_core.specs.Sound.{exponent_at};
 ghost use Rattle.wiring_poly.specs.Wiring.{wiring_add, wiring_mul};
 ghost use Rattle.gkr_layers.specs.Places.{IsOver, weighted, value_over};
+ghost use Rattle.gkr_layers.specs.Places.Place.{AtBoth};
 ghost use Rattle.gkr_layers.specs.Forms.{place_between};
 ghost use Rattle.gkr_layers.specs.Sumcheck.{point_between};
 ghost use Rattle.gkr_layers.specs.Standing.{place_of};
 ghost use Rattle.run_wiring.specs.CircuitRuns.{IsWiringOf};
 
+use crate::both::{gates_at_both, leaves_at_both};
 use crate::extension::leaves_extension;
 use circuit_core::{Circuit, Leaf};
 use field_ext::{Ext, Fp};
@@ -19,13 +21,7 @@ use gkr_layers::Standing;
 use line_reduce::point_at;
 use proof_wire::ProofForm;
 use run_wiring::LayerWiring;
-
-/// The values of the two wiring polynomials.
-#[derive(Clone, Copy)]
-pub(crate) struct Wiring {
-    pub(crate) add: Ext,
-    pub(crate) mul: Ext,
-}
+use wiring_poly::WiringSums;
 
 /// The wiring polynomials of a layer where its claim stands, and at `left` and `right`.
 pub(crate) fn wiring_there(
@@ -35,7 +31,7 @@ pub(crate) fn wiring_there(
     place: &Standing<'_>,
     left: &[Ext],
     right: &[Ext],
-) -> Wiring
+) -> WiringSums
     requires layer { layer < height circuit.now.parts }
     requires wiring { IsWiringOf circuit.now.parts layer wiring.now }
     requires place { IsOver (exponent_at circuit.now.parts layer) (place_of place.now) }
@@ -51,13 +47,47 @@ pub(crate) fn wiring_there(
     match place {
         Standing::One(point) => {
             let (add, mul) = wiring.at(circuit, layer, point, left, right);
-            Wiring { add, mul }
+            WiringSums { add, mul }
         }
         Standing::Both(first, second, weight) => {
-            let weight = *weight;
+            wiring_at_both(circuit, layer, wiring, first, second, *weight, left, right)
+        }
+    }
+}
+
+/// The wiring polynomials of a layer where its claim stands at two points, the second with this weight: gates are gone over
+/// once, runs once for each point.
+fn wiring_at_both(
+    circuit: &Circuit,
+    layer: usize,
+    wiring: &LayerWiring,
+    first: &[Ext],
+    second: &[Ext],
+    weight: Ext,
+    left: &[Ext],
+    right: &[Ext],
+) -> WiringSums
+    requires layer { layer < height circuit.now.parts }
+    requires wiring { IsWiringOf circuit.now.parts layer wiring.now }
+    requires first { length first.now ≡ exponent_at circuit.now.parts layer }
+    requires second { length second.now ≡ exponent_at circuit.now.parts layer }
+    requires left { length left.now ≡ exponent_at circuit.now.parts (layer + 1) }
+    requires right { length right.now ≡ exponent_at circuit.now.parts (layer + 1) }
+    ensures add { result.add ≡ weighted k_ops (AtBoth first.now second.now weight)
+        (λ z. wiring_add k_ops (slice_index_or circuit.now.parts.layers layer []) z left.now
+        right.now) }
+    ensures mul { result.mul ≡ weighted k_ops (AtBoth first.now second.now weight)
+        (λ z. wiring_mul k_ops (slice_index_or circuit.now.parts.layers layer []) z left.now
+        right.now) }
+{
+    match wiring {
+        LayerWiring::Gates => {
+            gates_at_both(circuit.gates(layer), first, second, weight, left, right)
+        }
+        LayerWiring::Runs(_) => {
             let (add, mul) = wiring.at(circuit, layer, first, left, right);
             let (other_add, other_mul) = wiring.at(circuit, layer, second, left, right);
-            Wiring {
+            WiringSums {
                 add: add + weight * other_add,
                 mul: mul + weight * other_mul,
             }
@@ -78,10 +108,7 @@ pub(crate) fn leaves_there(leaves: &[Leaf], inputs: &[Fp], k: usize, place: &Sta
     match place {
         Standing::One(point) => leaves_extension(leaves, inputs, point),
         Standing::Both(first, second, weight) => {
-            let weight = *weight;
-            let value = leaves_extension(leaves, inputs, first);
-            let other = leaves_extension(leaves, inputs, second);
-            value + weight * other
+            leaves_at_both(leaves, inputs, first, second, *weight)
         }
     }
 }

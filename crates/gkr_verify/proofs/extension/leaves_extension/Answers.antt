@@ -1,13 +1,14 @@
 use Rattle.std.proofs.Common.{◌+◌, ◌^◌, ◌<◌, ◌≤◌, length, map, arith, ◌∙◌, ap, ap₂, sym}
 use Rattle.std.proofs.lemmas.List.{get_or-map, length-map}
-use Rattle.field_ext.specs.Field.{F, add_k, mul_k, embed_k}
+use Rattle.field_ext.specs.Field.{F, k_ops, add_k, mul_k, embed_k}
+use Rattle.field_ext.specs.Multilinear.{eq_poly}
 use Rattle.circuit_core.specs.declared.gate.Leaf.{Leaf}
 use Rattle.circuit_core.specs.Parts.{leaf_value, zero_f}
 use Rattle.gkr_verify.proofs.TableSteps.{sum_begun, sum_more, sum_all}
 use Rattle.gkr_verify.proofs.extension.leaves_extension.Goals as goal
 
 pub loop-i-init : goal.loop-i-init
-loop-i-init c = sum_begun (2 ^ length c.args.point.now) (map (leaf_value c.args.inputs.now) c.args.leaves.now) c.args.point.now c.zero-sum.result c.zero-sum.ensures
+loop-i-init c = sum_begun (2 ^ length c.args.point.now) (map (leaf_value c.args.inputs.now) c.args.leaves.now) (eq_poly k_ops c.args.point.now) c.zero-sum.result c.zero-sum.ensures
 
 pub loop-i-preserved : goal.loop-i-preserved
 loop-i-preserved c =
@@ -17,7 +18,7 @@ loop-i-preserved c =
     let i = c.loop-i.i in
     let inside : c.loop-i.i + 1 < 2 ^ length c.args.point.now = omega (arith, c.loop-i-test.true, c.requires.fits) in
     let here = c.leaf_value-value.ensures ∙ ap value c.index-leaves-i.is ∙ sym (get_or-map value leaves i c.index-leaves-i.result zero_f c.loop-i-test.true) in
-    sum_more (2 ^ length point) (map value leaves) point i c.loop-i.sum _
+    sum_more (2 ^ length point) (map value leaves) (eq_poly k_ops point) i c.loop-i.sum _
     (c.add-sum.ensures ∙ ap (add_k c.loop-i.sum) (c.mul.ensures ∙ ap₂ mul_k (c.embed.ensures ∙ ap embed_k here) (c.value.ensures point c.at-equality.ensures inside)))
     c.loop-i.invariant
 
@@ -26,4 +27,4 @@ returns c =
     let point = c.args.point.now in
     let size = length-map c.args.leaves.now (leaf_value c.args.inputs.now) in
     let all : c.loop-i.i + 1 ≤ 2 ^ length c.args.point.now = omega (arith, c.loop-i.auto.i-end, c.requires.fits) in
-    sum_all (2 ^ length point) (map (leaf_value c.args.inputs.now) c.args.leaves.now) point c.loop-i.i (2 ^ length point) c.loop-i.sum (omega (arith, size, c.loop-i-test.false)) all c.loop-i.invariant
+    sum_all (2 ^ length point) (map (leaf_value c.args.inputs.now) c.args.leaves.now) (eq_poly k_ops point) c.loop-i.i (2 ^ length point) c.loop-i.sum (omega (arith, size, c.loop-i-test.false)) all c.loop-i.invariant

@@ -1,7 +1,9 @@
 use Rattle.std.proofs.Common.{◌+◌, ◌^◌, length, map}
 use Rattle.circuit_core.specs.Parts.{leaf_value}
+use Rattle.field_ext.specs.Field.{k_ops}
+use Rattle.field_ext.specs.Multilinear.{eq_poly}
 use Rattle.gkr_verify.proofs.TableSteps.{IsSumTo}
 use Rattle.gkr_verify.proofs.extension.leaves_extension.Given as goal
 
 abbrev pub invariant-loop-i : goal.invariant-loop-i
-invariant-loop-i l = IsSumTo (2 ^ length l.point) (map (leaf_value l.inputs) l.leaves) l.point (l.i + 1) l.sum
+invariant-loop-i l = IsSumTo (2 ^ length l.point) (map (leaf_value l.inputs) l.leaves) (eq_poly k_ops l.point) (l.i + 1) l.sum

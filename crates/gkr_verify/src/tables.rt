@@ -1,0 +1,65 @@
+// The equality polynomial at a point, for a walk over positions in blocks of 256.
+
+ghost use Rattle.std.specs.Prelude.{◌≡◌, ◌≤◌, ◌<◌, length, slice_index_or};
+ghost use Rattle.field_ext.specs.Field.{zero_k};
+ghost use Rattle.mle_table.specs.SplitEquality.{IsSplitAt};
+
+use field_ext::Ext;
+use mle_table::fill_equality;
+use std::marker::Model;
+
+/// The tables of `SplitEquality`, whose two values a walk takes apart: the first at each position, the second once for all
+/// 256 positions of a block.
+#[derive(Drop)]
+pub(crate) struct Tables {
+    low: [Ext; 256],
+    high: [Ext; 256],
+    ghost low_size: { length low ≡ 256 },
+    ghost high_size: { length high ≡ 256 },
+}
+
+impl Model for Tables {
+    ghost use Rattle.mle_table.specs.SplitEquality.{TwoTables};
+
+    ghost Value = { TwoTables };
+
+    ghost view = { λ s. record {
+      low = s.low;
+      high = s.high;
+      low_size = s.low_size;
+      high_size = s.high_size;
+    } };
+}
+
+impl Tables {
+    /// The tables at a point of at most 16 coordinates: one for the first eight, one for the others.
+    pub(crate) fn at(point: &[Ext]) -> Tables
+        requires { length point.now ≤ 16 }
+        ensures { IsSplitAt point.now result }
+    {
+        let (first, rest) = point.split_at(if point.len() < 8 { point.len() } else { 8 });
+        let mut low = [Ext::zero(); 256];
+        let mut high = [Ext::zero(); 256];
+        fill_equality(&mut low, first);
+        fill_equality(&mut high, rest);
+        Tables { low, high }
+    }
+
+    /// What a position's value has besides the factor of its block.
+    #[inline]
+    pub(crate) fn within(&self, place: usize) -> Ext
+        requires { place < 256 }
+        ensures { result ≡ slice_index_or self.now.low place zero_k }
+    {
+        self.low[place]
+    }
+
+    /// The factor of a block.
+    #[inline]
+    pub(crate) fn of_block(&self, block: usize) -> Ext
+        requires { block < 256 }
+        ensures { result ≡ slice_index_or self.now.high block zero_k }
+    {
+        self.high[block]
+    }
+}
