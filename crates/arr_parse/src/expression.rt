@@ -1,28 +1,27 @@
 //! Expressions, from the left.
 
 ghost use Rattle.std.specs.Prelude.{◌≡◌, ℕ, suc, ◌≤◌, ◌<◌, List, [], ◌∷◌, ◌++◌, length, IfOk, flat_map};
-ghost use Rattle.arr_lex.specs.declared.token.Symbol.TheVariants.{CloseRound};
+ghost use Rattle.arr_lex.specs.declared.token.Symbol.TheVariants.{CloseRound, Name as NameWord};
 ghost use Rattle.arr_parse.specs.Mark.{Separator};
-ghost use Rattle.arr_parse.specs.IndexSpelling.{name_spelling, maybe_indices_spelling};
 ghost use Rattle.arr_parse.specs.Spelling.{single_symbol, pair_symbol, expression_spelling, term_spelling, factor_spelling, added_term_spelling, times_factor_spelling};
-ghost use Rattle.arr_parse.specs.Grammar.{Part, The, AnExpression, MoreTerms, ATerm, MoreFactors, AFactor, OneArgument, TwoArguments};
+ghost use Rattle.arr_parse.specs.Grammar.{Part, The, AnExpression, MoreTerms, ATerm, MoreFactors, AFactor, FirstIndex, OneArgument, TwoArguments};
 ghost use Rattle.arr_parse.specs.Reading.{levels as levels_of, refusal};
 ghost use Rattle.arr_parse.specs.Parsed.{IsSpelled, IsSpelledUpTo, Agrees};
 
+use crate::boxed::{
+    add_factor, add_term, expression_of, named, negation, number, pair_call, parenthesized,
+    single_call, term_of,
+};
 use crate::indices::maybe_indices;
 use crate::levels::level_behind;
 use crate::refused::ParseRefused;
 use crate::signs::{added_sign, behind, open_round, times_sign};
 use crate::source::Source;
-use arr_ast::{
-    AddedTerm, Expression, Factor, Indices, Name, PairFunction, SingleFunction, Term, TimesFactor,
-};
+use arr_ast::{AddedTerm, Expression, Factor, PairFunction, SingleFunction, Term, TimesFactor};
 use arr_lex::{Symbol, Token};
 use std::alloc::Global;
 
 /// The expression that the tokens begin with, and the tokens behind it.
-#[cycle(expression)]
-#[tactic(auto, using(crate::proofs::Rows::of_expressions))]
 pub fn expression<'t>(
     alloc: Global,
     source: &Source,
@@ -36,13 +35,35 @@ pub fn expression<'t>(
         Agrees (λ found. refusal (length source.now.text) due found.1.now) result
         (refusal (length source.now.text) (AnExpression ∷ due) tokens.now) }
 {
+    let (found, rest) = boxed_expression(alloc, source, tokens, levels)?;
+    Ok((Box::into_inner(found), rest))
+}
+
+// The same on the heap, as all that is nested in it is made.
+#[cycle(expression)]
+#[inline(never)]
+#[tactic(auto, using(crate::proofs::Rows::of_expressions))]
+fn boxed_expression<'t>(
+    alloc: Global,
+    source: &Source,
+    tokens: &'t [Token],
+    levels: usize,
+) -> Result<(Box<Expression>, &'t [Token]), ParseRefused>
+    requires { levels ≤ 64 }
+    ensures spelled { IfOk result
+        (λ found. IsSpelled source.now tokens.now (expression_spelling found.0.value) found.1.now) }
+    ensures exact { (due : List Part) → levels_of due ≡ levels →
+        Agrees (λ found. refusal (length source.now.text) due found.1.now) result
+        (refusal (length source.now.text) (AnExpression ∷ due) tokens.now) }
+{
     let (first, rest) = term(alloc, source, tokens, levels)?;
     let (added, rest) = added_terms(alloc, source, rest, levels)?;
-    Ok((Expression { first, added }, rest))
+    Ok((expression_of(alloc, first, added)?, rest))
 }
 
 // The further terms of an expression.
 #[cycle(expression)]
+#[inline(never)]
 #[tactic(auto, using(crate::proofs::Rows::of_expressions))]
 fn added_terms<'t>(
     alloc: Global,
@@ -62,38 +83,36 @@ fn added_terms<'t>(
     let mut rest = tokens;
     while let Some((sign, token, behind)) = added_sign(rest) {
         let (term, behind) = term(alloc, source, behind, levels)?;
-        added.push(AddedTerm {
-            sign,
-            at: token.start,
-            term,
-        })?;
+        add_term(&mut added, sign, token.start, term)?;
         rest = behind;
     }
     Ok((added, rest))
 }
 
 #[cycle(expression)]
+#[inline(never)]
 #[tactic(auto, using(crate::proofs::Rows::of_expressions))]
 fn term<'t>(
     alloc: Global,
     source: &Source,
     tokens: &'t [Token],
     levels: usize,
-) -> Result<(Term, &'t [Token]), ParseRefused>
+) -> Result<(Box<Term>, &'t [Token]), ParseRefused>
     requires { levels ≤ 64 }
     ensures spelled { IfOk result
-        (λ found. IsSpelled source.now tokens.now (term_spelling found.0) found.1.now) }
+        (λ found. IsSpelled source.now tokens.now (term_spelling found.0.value) found.1.now) }
     ensures exact { (due : List Part) → levels_of due ≡ levels →
         Agrees (λ found. refusal (length source.now.text) due found.1.now) result
         (refusal (length source.now.text) (ATerm ∷ due) tokens.now) }
 {
     let (first, rest) = factor(alloc, source, tokens, levels)?;
     let (times, rest) = times_factors(alloc, source, rest, levels)?;
-    Ok((Term { first, times }, rest))
+    Ok((term_of(alloc, first, times)?, rest))
 }
 
 // The further factors of a term.
 #[cycle(expression)]
+#[inline(never)]
 #[tactic(auto, using(crate::proofs::Rows::of_expressions))]
 fn times_factors<'t>(
     alloc: Global,
@@ -113,26 +132,24 @@ fn times_factors<'t>(
     let mut rest = tokens;
     while let Some((token, behind)) = times_sign(rest) {
         let (factor, behind) = factor(alloc, source, behind, levels)?;
-        times.push(TimesFactor {
-            at: token.start,
-            factor,
-        })?;
+        add_factor(&mut times, token.start, factor)?;
         rest = behind;
     }
     Ok((times, rest))
 }
 
 #[cycle(expression)]
+#[inline(never)]
 #[tactic(auto, using(crate::proofs::Rows::of_expressions))]
 fn factor<'t>(
     alloc: Global,
     source: &Source,
     tokens: &'t [Token],
     levels: usize,
-) -> Result<(Factor, &'t [Token]), ParseRefused>
+) -> Result<(Box<Factor>, &'t [Token]), ParseRefused>
     requires { levels ≤ 64 }
     ensures spelled { IfOk result
-        (λ found. IsSpelled source.now tokens.now (factor_spelling found.0) found.1.now) }
+        (λ found. IsSpelled source.now tokens.now (factor_spelling found.0.value) found.1.now) }
     ensures exact { (due : List Part) → levels_of due ≡ levels →
         Agrees (λ found. refusal (length source.now.text) due found.1.now) result
         (refusal (length source.now.text) (AFactor ∷ due) tokens.now) }
@@ -142,24 +159,18 @@ fn factor<'t>(
     };
     let at = token.start;
     match token.symbol {
-        Symbol::Number(value) => Ok((Factor::Number { at, value }, rest)),
-        Symbol::Name => {
-            let name = source.name(token);
-            let (indices, rest) = maybe_indices(alloc, source, rest, levels)?;
-            Ok((named(name, indices), rest))
-        }
+        Symbol::Number(value) => Ok((number(alloc, at, value)?, rest)),
+        Symbol::Name => name_or_element(alloc, source, token, rest, levels),
         Symbol::Minus => {
             let levels = level_behind(token, levels)?;
             let (operand, rest) = factor(alloc, source, rest, levels)?;
-            let operand = Box::new(alloc, operand)?;
-            Ok((Factor::Negation { at, operand }, rest))
+            Ok((negation(alloc, at, operand)?, rest))
         }
         Symbol::OpenRound => {
             let levels = level_behind(token, levels)?;
-            let (inner, rest) = expression(alloc, source, rest, levels)?;
+            let (inner, rest) = boxed_expression(alloc, source, rest, levels)?;
             let rest = behind(source, rest, Symbol::CloseRound)?;
-            let inner = Box::new(alloc, inner)?;
-            Ok((Factor::Parenthesized { at, inner }, rest))
+            Ok((parenthesized(alloc, at, inner)?, rest))
         }
         Symbol::Sum => single(alloc, source, token, SingleFunction::Sum, rest, levels),
         Symbol::Transpose => single(
@@ -177,18 +188,32 @@ fn factor<'t>(
     }
 }
 
-// A name, or its element at the indices.
-fn named(name: Name, indices: Option<Indices>) -> Factor
-    ensures { factor_spelling result ≡ name_spelling name ++ maybe_indices_spelling indices }
+// A name, or its element at the indices behind it.
+#[inline(never)]
+fn name_or_element<'t>(
+    alloc: Global,
+    source: &Source,
+    token: &Token,
+    tokens: &'t [Token],
+    levels: usize,
+) -> Result<(Box<Factor>, &'t [Token]), ParseRefused>
+    requires name { token.now.symbol ≡ NameWord }
+    requires within { levels ≤ 64 }
+    ensures spelled { IfOk result
+        (λ found. IsSpelled source.now (token.now ∷ tokens.now) (factor_spelling found.0.value)
+        found.1.now) }
+    ensures exact { (due : List Part) → levels_of due ≡ levels →
+        Agrees (λ found. refusal (length source.now.text) due found.1.now) result
+        (refusal (length source.now.text) (FirstIndex ∷ due) tokens.now) }
 {
-    match indices {
-        None => Factor::Name(name),
-        Some(indices) => Factor::Element { name, indices },
-    }
+    let name = source.name(token);
+    let (indices, rest) = maybe_indices(alloc, source, tokens, levels)?;
+    Ok((named(alloc, name, indices)?, rest))
 }
 
 // A call of a function of one argument, behind the function's word.
 #[cycle(expression)]
+#[inline(never)]
 #[tactic(auto, using(crate::proofs::Rows::of_expressions))]
 fn single<'t>(
     alloc: Global,
@@ -197,11 +222,11 @@ fn single<'t>(
     function: SingleFunction,
     tokens: &'t [Token],
     levels: usize,
-) -> Result<(Factor, &'t [Token]), ParseRefused>
+) -> Result<(Box<Factor>, &'t [Token]), ParseRefused>
     requires word { word.now.symbol ≡ single_symbol function }
     requires within { levels ≤ 64 }
     ensures spelled { IfOk result
-        (λ found. IsSpelled source.now (word.now ∷ tokens.now) (factor_spelling found.0)
+        (λ found. IsSpelled source.now (word.now ∷ tokens.now) (factor_spelling found.0.value)
         found.1.now) }
     ensures exact { (due : List Part) → levels_of due ≡ levels →
         Agrees (λ found. refusal (length source.now.text) due found.1.now) result
@@ -209,19 +234,15 @@ fn single<'t>(
 {
     let (opening, rest) = open_round(source, tokens)?;
     let levels = level_behind(opening, levels)?;
-    let (argument, rest) = expression(alloc, source, rest, levels)?;
+    let (argument, rest) = boxed_expression(alloc, source, rest, levels)?;
     let rest = behind(source, rest, Symbol::CloseRound)?;
-    let call = Factor::Single {
-        function,
-        at: word.start,
-        parenthesis: opening.start,
-        argument: Box::new(alloc, argument)?,
-    };
+    let call = single_call(alloc, function, word.start, opening.start, argument)?;
     Ok((call, rest))
 }
 
 // A call of a function of two arguments, behind the function's word.
 #[cycle(expression)]
+#[inline(never)]
 #[tactic(auto, using(crate::proofs::Rows::of_expressions))]
 fn pair<'t>(
     alloc: Global,
@@ -230,11 +251,11 @@ fn pair<'t>(
     function: PairFunction,
     tokens: &'t [Token],
     levels: usize,
-) -> Result<(Factor, &'t [Token]), ParseRefused>
+) -> Result<(Box<Factor>, &'t [Token]), ParseRefused>
     requires word { word.now.symbol ≡ pair_symbol function }
     requires within { levels ≤ 64 }
     ensures spelled { IfOk result
-        (λ found. IsSpelled source.now (word.now ∷ tokens.now) (factor_spelling found.0)
+        (λ found. IsSpelled source.now (word.now ∷ tokens.now) (factor_spelling found.0.value)
         found.1.now) }
     ensures exact { (due : List Part) → levels_of due ≡ levels →
         Agrees (λ found. refusal (length source.now.text) due found.1.now) result
@@ -242,37 +263,32 @@ fn pair<'t>(
 {
     let (opening, rest) = open_round(source, tokens)?;
     let levels = level_behind(opening, levels)?;
-    let (left, rest) = expression(alloc, source, rest, levels)?;
+    let (left, rest) = boxed_expression(alloc, source, rest, levels)?;
     let rest = behind(source, rest, Symbol::Comma)?;
     let (right, rest) = last_argument(alloc, source, rest, levels)?;
-    let call = Factor::Pair {
-        function,
-        at: word.start,
-        parenthesis: opening.start,
-        left: Box::new(alloc, left)?,
-        right: Box::new(alloc, right)?,
-    };
+    let call = pair_call(alloc, function, word.start, opening.start, left, right)?;
     Ok((call, rest))
 }
 
 // The last argument of a call, up to the call's `)`.
 #[cycle(expression)]
+#[inline(never)]
 #[tactic(auto, using(crate::proofs::Rows::of_expressions))]
 fn last_argument<'t>(
     alloc: Global,
     source: &Source,
     tokens: &'t [Token],
     levels: usize,
-) -> Result<(Expression, &'t [Token]), ParseRefused>
+) -> Result<(Box<Expression>, &'t [Token]), ParseRefused>
     requires { levels ≤ 64 }
     ensures spelled { IfOk result
         (λ found. IsSpelled source.now tokens.now
-        (expression_spelling found.0 ++ Separator CloseRound ∷ []) found.1.now) }
+        (expression_spelling found.0.value ++ Separator CloseRound ∷ []) found.1.now) }
     ensures exact { (due : List Part) → suc (levels_of due) ≡ levels →
         Agrees (λ found. refusal (length source.now.text) due found.1.now) result
         (refusal (length source.now.text) (AnExpression ∷ The CloseRound ∷ due) tokens.now) }
 {
-    let (argument, rest) = expression(alloc, source, tokens, levels)?;
+    let (argument, rest) = boxed_expression(alloc, source, tokens, levels)?;
     let rest = behind(source, rest, Symbol::CloseRound)?;
     Ok((argument, rest))
 }

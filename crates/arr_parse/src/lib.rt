@@ -11,6 +11,7 @@
 //! `output 1 + 2 * 3;` is an output of a sum whose second term is a product.
 #![tactic(auto)]
 
+mod boxed;
 mod expression;
 mod index;
 mod indices;
