@@ -159,6 +159,7 @@ fn of_two(
 }
 
 // The nodes of a name. A loop variable is a constant.
+#[inline(never)]
 fn named(store: &Store, nodes: &mut Nodes, alloc: Global, name: &Name) -> Result<NodeArray, Stopped>
     ensures { Follows (λ array. record {
       array = array;
@@ -176,6 +177,7 @@ fn named(store: &Store, nodes: &mut Nodes, alloc: Global, name: &Name) -> Result
 }
 
 // The node of an element.
+#[inline(never)]
 fn element(store: &Store, name: &Name, indices: &Indices) -> Result<NodeArray, Stopped>
     ensures { (nodes : List Node) → Follows (λ array. record {
       array = array;

@@ -21,6 +21,7 @@ use shared_list::SharedList;
 use std::alloc::{AllocError, Global};
 
 /// A sum or a difference.
+#[inline(never)]
 pub fn signed(
     nodes: &mut Nodes,
     alloc: Global,
@@ -58,6 +59,7 @@ fn signed_items(
 }
 
 /// A product, element by element.
+#[inline(never)]
 pub fn times(
     nodes: &mut Nodes,
     alloc: Global,
@@ -78,6 +80,7 @@ pub fn times(
 }
 
 /// A negation.
+#[inline(never)]
 pub fn negated(nodes: &mut Nodes, alloc: Global, array: &NodeArray) -> Result<NodeArray, AllocError>
     ensures { IfOk result (λ found. negated_array (record {
       array = array.now;
@@ -92,6 +95,7 @@ pub fn negated(nodes: &mut Nodes, alloc: Global, array: &NodeArray) -> Result<No
 }
 
 /// A function of one argument.
+#[inline(never)]
 pub fn single(
     nodes: &mut Nodes,
     alloc: Global,
@@ -120,6 +124,7 @@ pub fn single(
 }
 
 /// A function of two arguments.
+#[inline(never)]
 pub fn pair(
     nodes: &mut Nodes,
     alloc: Global,
@@ -215,6 +220,7 @@ fn matmul(
 }
 
 /// A constant, as a scalar.
+#[inline(never)]
 pub fn constant(nodes: &mut Nodes, value: u32) -> Result<NodeArray, AllocError>
     ensures { IfOk result (λ array. of_scalar (constant_node value nodes.old) ≡ record {
       array = array;
