@@ -13,3 +13,5 @@ mod proofs;
 mod spelled;
 #[cfg(test)]
 mod verdicts;
+#[cfg(test)]
+mod walks;
