@@ -13,7 +13,7 @@ use Rattle.tallies.proofs.Totals.{one_le, inside, whole}
 use Rattle.tallies.proofs.Once.{few}
 use Rattle.chunk_board.specs.declared.rule.Hand.{Hand}
 use Rattle.chunk_board.specs.declared.rule.Plan.{Plan}
-use Rattle.chunk_board.specs.ClaimMachine.{Worker, worker, phase, start, ClaimStep, Claim, Split, Join, claiming, gone, IsStep, IsRun, AllDrawn, stopped_shares, IsRule}
+use Rattle.chunk_board.specs.ClaimMachine.{Worker, worker, phase, start, ClaimStep, Claim, Split, Join, claiming, gone, IsStep, IsRun, AllDrawn, stopped_shares, IsRule, AreResults}
 use Rattle.chunk_board.specs.Hands.{hand, worker_of, no_output, Claims, IsReached, board_of, Kept, claimed, IsClaimStep, Claimed, Counted, left_hand, right_hand, joined, spent}
 use Rattle.chunk_board.proofs.Machine.{reached_sound}
 
@@ -21,15 +21,14 @@ run_more : (n : ℕ) (ss : List ClaimStep) (p q r : Claims) (s : ClaimStep) → 
 run_more n [] p q r s e step = (r, subst (λ (q : Claims). IsStep n no_output s q r) e step, refl)
 run_more n (t ∷ ss) p q r s (m, first, rest) step = (m, first, run_more n ss m q r s rest step)
 
-one_more : (n shares : ℕ) (q r : Claims) (s : ClaimStep) → IsReached n shares q → IsStep n no_output s q r → IsReached n shares r
+pub one_more : (n shares : ℕ) (q r : Claims) (s : ClaimStep) → IsReached n shares q → IsStep n no_output s q r → IsReached n shares r
 one_more n shares q r s (ss, run) step = (ss ++ s ∷ [], run_more n ss (start shares) q r s run step)
 
-pub rule_of : (n shares next : ℕ) (hands : List Hand) → IsReached n shares (board_of next hands) → IsRule n shares next (map worker_of hands)
-rule_of n shares next hands (ss, run) = (reached_sound n shares no_output ss (board_of next hands) run).0
+pub sound_of : (n shares : ℕ) (p : Claims) → IsReached n shares p → IsRule n shares p.next p.workers × AreResults no_output p.workers p.results
+sound_of n shares p (ss, run) = reached_sound n shares no_output ss p run
 
-pub total-map : (f : Worker → ℕ) (hands : List Hand) → total f (map worker_of hands) ≡ total (λ v. f (worker_of v)) hands
-total-map f [] = refl
-total-map f (v ∷ hands) = ap (λ (k : ℕ). f (worker_of v) + k) (total-map f hands)
+pub rule_of : (n shares next : ℕ) (hands : List Hand) → IsReached n shares (board_of next hands) → IsRule n shares next (map worker_of hands)
+rule_of n shares next hands r = (sound_of n shares (board_of next hands) r).0
 
 same_claim : (n next : ℕ) (v : Hand) → v.pieces ≡ n → worker_of (claimed v next) ≡ claiming n next (worker_of v)
 same_claim n next v is = subst (λ (n : ℕ). worker_of (claimed v next) ≡ claiming n next (worker_of v)) is (on (ltb next v.pieces)) where
@@ -46,17 +45,17 @@ claim_step n next hands id v is some_share going at = (
   ap (λ (ws : List Worker). phase (next + 1) ws []) (map-set worker_of hands id (claimed v next) ∙ ap (set (map worker_of hands) id) (same_claim n next v is)),
 )
 
-stopped_le : (vs : List Worker) → total stopped_shares vs ≤ total (λ u. u.shares) vs
+pub stopped_le : (vs : List Worker) → total stopped_shares vs ≤ total (λ u. u.shares) vs
 stopped_le [] = omega arith
 stopped_le (x ∷ xs) = let r = stopped_le xs in let P : Bool → Type 0 = λ t. cond t x.shares 0 ≤ x.shares in let here : P x.stopped = elim x.stopped as P [ true ↦ omega arith | false ↦ omega arith ] in omega arith
 
-below_all : (x next n k : ℕ) → k ≤ once_below x (min next n) → k ≤ once_below x n
+pub below_all : (x next n k : ℕ) → k ≤ once_below x (min next n) → k ≤ once_below x n
 below_all x next n k h = grind (arith, nat_tests)
 
-worker_few : (n shares next : ℕ) (ws : List Worker) (i : ℕ) (v : Worker) → get_elem? ws i ≡ some v → IsRule n shares next ws → length v.drawn ≤ n
+pub worker_few : (n shares next : ℕ) (ws : List Worker) (i : ℕ) (v : Worker) → get_elem? ws i ≡ some v → IsRule n shares next ws → length v.drawn ≤ n
 worker_few n shares next ws i v at b = few n v.drawn (λ x. below_all x next n (times x v.drawn) (let m = one_le (λ u. times x u.drawn) ws i v at in let o = b.drawn x in omega arith))
 
-all_drawn : (n shares next : ℕ) (ws : List Worker) → IsRule n shares next ws → n ≤ next ↔ AllDrawn n ws
+pub all_drawn : (n shares next : ℕ) (ws : List Worker) → IsRule n shares next ws → n ≤ next ↔ AllDrawn n ws
 all_drawn n shares next ws b = (
   (λ le x lt. b.drawn x ∙ full x le lt),
   λ all. dite (dec_le n next) (λ (le : n ≤ next). le) (λ (no : ¬ (n ≤ next)). let lt : next < n = lt_of_not-le no in let one = all next lt in let z = b.drawn next ∙ not_drawn in absurd (omega arith)),

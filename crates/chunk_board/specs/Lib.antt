@@ -1,3 +1,5 @@
 pub mod ClaimMachine
 pub mod Hands
 pub mod Board
+pub mod PartHands
+pub mod PartViews

@@ -1,9 +1,11 @@
 //! What holds of every interleaving of claims. Each function does nothing: its contract is a law that is proved.
 
-ghost use Rattle.std.specs.Prelude.{◌≡◌, ℕ, ◌<◌, List, map, Some};
+ghost use Rattle.std.specs.Prelude.{◌≡◌, ℕ, ◌<◌, List, length, map, Some};
 ghost use Rattle.std.specs.List.{range_with_len};
 ghost use Rattle.std.specs.List.Sorted.{IsPermutation};
 ghost use Rattle.chunk_board.specs.ClaimMachine.{ClaimStep, Phase, start, IsRun, IsRule, AreResults, AllStopped, AllWorked, pieces_of, outputs_of, result_at, sum_with};
+ghost use Rattle.chunk_board.specs.PartHands.{Homes, IsPartBoard, IsHomeOrHeld};
+ghost use Rattle.chunk_board.specs.declared.part_rule.PartHand.{PartHand};
 
 /// Every list of steps keeps the rule: what is drawn are the numbers below `next` and n, each once; the shares add to
 /// the total; where a worker has stopped, all is drawn. Each result is the output of a piece that was drawn, once.
@@ -34,4 +36,12 @@ pub fn one_sum<A>()
         (ss : List ClaimStep) (p : Phase A) → 0 < shares → IsRun n out ss (start shares) p
         → AllStopped p → AllWorked p →
         sum_with add zero (outputs_of p.results) ≡ sum_with add zero (map out (range_with_len 0 n)) }
+{}
+
+/// At each moment of a board of parts, each part lies in its slot and no claimer holds it, or its slot is out and one claimer
+/// holds it.
+pub fn each_part_home_or_held<T>()
+    ensures { (parts : List T) (shares next back : ℕ) (homes : Homes T) (hands : List (PartHand T))
+        → IsPartBoard parts shares next back homes hands → (k : ℕ) → k < length parts
+        → IsHomeOrHeld k homes hands }
 {}

@@ -1,5 +1,5 @@
 -- How many workers there may be, and what they give.
-use Rattle.std.specs.Prelude.{◌≡◌, ℕ, ◌<◌, ◌≤◌, List, map, length, Option, None, MatchOption, slice_index_or}
+use Rattle.std.specs.Prelude.{◌≡◌, ℕ, ◌<◌, ◌≤◌, List, map, length, Option, Some, None, MatchOption, slice_index_or, slice_get}
 use Rattle.std.specs.List.{All}
 use Rattle.tallies.specs.Tallies.{times}
 
@@ -17,3 +17,14 @@ abbrev pub AllPlaced : {X : Type 0} → (ℕ → X) → List ℕ → List (Optio
 AllPlaced {X} out keys slots =
     (j : ℕ) → j < length slots
     → MatchOption (slice_index_or slots j None) (times j keys ≡ 0) (λ (x : X). x ≡ out j)
+
+-- the parts drawn were put back, each worked once: what is put back for part k is what the part at place k becomes
+pub record ArePartsWorked {T : Type 0} (f : ℕ → T → T) (parts : List T) (put : List (ℕ × T))
+    (drawn : List ℕ) : Type 0 where
+  pub numbers : map (λ (p : ℕ × T). p.0) put ≡ drawn
+  pub each : All (λ (p : ℕ × T). (x : T) × (slice_get parts p.0 ≡ Some x) × (p.1 ≡ f p.0 x)) put
+
+-- at each place is what the part there becomes
+abbrev pub IsEachWorked : {T : Type 0} → (ℕ → T → T) → List T → List T → Type 0
+IsEachWorked {T} f parts worked = (k : ℕ) (x : T) → slice_get parts k ≡ Some x
+    → slice_get worked k ≡ Some (f k x)

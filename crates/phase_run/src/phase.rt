@@ -1,13 +1,14 @@
 //! A run of workers.
 
-ghost use Rattle.std.specs.Prelude.{◌≡◌, ◌<◌, ◌≤◌, map, IfOk};
+ghost use Rattle.std.specs.Prelude.{◌≡◌, ◌<◌, ◌≤◌, ◌^◌, map, vec_len, IfOk, IfErr};
 ghost use Rattle.std.specs.List.{range_with_len};
-ghost use Rattle.phase_run.specs.Work.{IsWorkerCount};
+ghost use Rattle.phase_run.specs.Work.{IsWorkerCount, IsEachWorked};
 
 use crate::gathering::placed;
-use crate::work::PieceWork;
+use crate::part_workers;
+use crate::work::{PartWork, PieceWork};
 use crate::workers::spread;
-use chunk_board::ChunkBoard;
+use chunk_board::{ChunkBoard, PartBoard, Parts};
 use io_edge::Gate;
 use std::alloc::{AllocError, Global};
 use std::thread::Threads;
@@ -35,4 +36,30 @@ where
     let full = board.close(claimer);
     prove!(full);
     placed(alloc, n, work, results)
+}
+
+/// Works each part in place with so many workers, numbered from 0: place k of the result is what part k becomes. Each worker
+/// enters the gate between its claim of a part and its work on it. Err only where no memory is found for the board, before any
+/// part was worked, with the parts as before.
+pub fn run_parts<R: Threads + Sync, W: PartWork + Sync, G: Gate>(
+    rt: &R,
+    alloc: Global,
+    parts: Vec<W::Part>,
+    workers: u32,
+    work: &W,
+    gate: &G,
+) -> Result<Vec<W::Part>, Vec<W::Part>>
+where
+    W::Part: Drop + Send + Sync,
+    requires parts { (0 < vec_len parts) × (vec_len parts < 2 ^ 32) }
+    requires workers { IsWorkerCount workers }
+    ensures len { IfOk result (λ v. vec_len v ≡ vec_len parts) }
+    ensures each { IfOk result (λ v. IsEachWorked (W.part_of work.now) parts.items v.items) }
+    ensures refused { IfErr result (λ back. back.items ≡ parts.items) }
+{
+    let (board, claimer) = PartBoard::new(alloc, parts, workers)?;
+    let claimer = part_workers::spread(rt, &board, claimer, 0, work, gate);
+    let Parts { all, parts } = board.close(claimer);
+    prove!(all);
+    Ok(parts)
 }

@@ -1,0 +1,30 @@
+use Rattle.std.proofs.Common.{rules, ◌≡◌, ℕ, ◌<◌, List, Option, refl, slice_get, ◌∷◌, ◌∙◌, length, Some, sym, ap, arith}
+use Rattle.atomic_table.specs.Table.{rest}
+use Rattle.chunk_board.proofs.PartSteps.{claims}
+use Rattle.chunk_board.proofs.Emptying.{there}
+use Rattle.chunk_board.proofs.part_board.PartBoard.claim_part.Goals as goal
+
+pub fetch_add-found-requires : goal.fetch_add-found-requires
+fetch_add-found-requires g c = (
+  search rules,
+  search rules,
+  claims c.self.inside.table.shared.key _ _ c.claimer.inside.seat.me (search rules) (search rules) (search rules) (search rules),
+)
+
+pub exchange-slot-requires : goal.exchange-slot-requires
+exchange-slot-requires g c =
+    let same : c.claimer.inside.seat.me.0.parts ≡ c.self.inside.table.shared.key.parts.value.items = search rules in
+    let low : c.fetch_add-found.result < length c.claimer.inside.seat.me.0.parts = let t = c.if-found-from.true in let n = c.self.invariant.2 in let l = ap length same in omega arith in
+    let t = c.fetch_add-found.ensures.2.0 low in (search rules, (Some t.part, t.took ∙ sym (ap (λ l. (c.fetch_add-found.result, Some t.part) ∷ rest l) t.took)))
+
+head_of : {X : Type 0} {a b : ℕ × Option X} {k l : List (ℕ × Option X)} {x y : X} → a ∷ k ≡ b ∷ l → a.1 ≡ Some x → b.1 ≡ Some y → x ≡ y
+head_of e p q = cc
+
+pub returns-in-Some-clause-part : goal.returns-in-Some-clause-part
+returns-in-Some-clause-part g c =
+    let same : c.claimer.inside.seat.me.0.parts ≡ c.self.inside.table.shared.key.parts.value.items = search rules in
+    let low : c.fetch_add-found.result < length c.claimer.inside.seat.me.0.parts = let t = c.if-found-from.true in let n = c.self.invariant.2 in let l = ap length same in omega arith in
+    let t = c.fetch_add-found.ensures.2.0 low in
+    let part : t.part ≡ c.in-Some.part = head_of (sym t.took ∙ c.exchange-slot.ensures.2) refl c.in-Some.is in
+    let is : c.claimer.inside.seat.me.0.parts ≡ c.args.self.now.parts = search rules in
+    ap (λ l. slice_get l c.fetch_add-found.result) (sym is) ∙ there c.claimer.inside.seat.me.0.parts c.fetch_add-found.result t.part t.is ∙ ap Some part
