@@ -1,3 +1,4 @@
+pub mod GivenDraws
 pub mod Choices
 pub mod RoundSteps
 pub mod LayerSteps

@@ -6,6 +6,8 @@
 #[cfg(test)]
 mod answered;
 #[cfg(test)]
+mod audits;
+#[cfg(test)]
 mod pairs;
 #[cfg(test)]
 mod proofs;
