@@ -2,7 +2,6 @@
 use Rattle.std.proofs.Common.{◌≡◌, ◌∙◌, ◌≤◌, ℕ, List, [], ◌∷◌, ◌++◌, length, take, drop, replicate, subst, refl, sym, ap}
 use Rattle.std.specs.Prelude.{IsTrue, is_none, Option, Some, None}
 use Rattle.field_ext.specs.Field.{F, K}
-use Rattle.arr_check.specs.Program.{input_count}
 use Rattle.circuit_core.specs.Faults.{fault_of}
 use Rattle.circuit_core.specs.Parts.{Parts, layer_values, zero_f}
 use Rattle.circuit_core.specs.Sound.{SoundCircuit, greatest, exponents}
@@ -13,17 +12,18 @@ use Rattle.gkr_layers.specs.declared.verdict.Verdict.TheVariants.{Accepted}
 use Rattle.gkr_layers.specs.Acceptance.{challenge_count, claim_in, verdict_of}
 use Rattle.proof_wire.specs.Lists.{all_messages, HaveShape}
 use Rattle.gkr_layers.specs.Soundness.{IsFalse, LetsPass}
-use Rattle.arr_compile.specs.Circuits.{IsCompiled, Computes}
+use Rattle.arr_compile.specs.Circuits.{IsCompiled}
 use Rattle.case_text.specs.Content.{Content}
 use Rattle.proof_wire.specs.declared.form.ProofForm.{ProofForm}
 use Rattle.case_prove.specs.Started.{start_of}
-use Rattle.case_prove.specs.Verified.{IsVerdictOn}
+use Rattle.case_prove.specs.Verified.{IsClaim, IsVerdictOn}
 use Rattle.case_prove.specs.Sound.{HasMeaning, HasExceptionalChallenge}
+use Rattle.case_prove.proofs.ProvedOutputs.{InputsAre, IsComputed}
 
 -- what is known of the circuits of programs, and of the verifier
 pub record IsKnown : Type 0 where
-  pub inputs : (text : List ℕ) (parts : Parts) (is : IsCompiled text parts) → parts.inputs ≡ input_count is.tree.inputs
-  pub computes : (text : List ℕ) (parts : Parts) (is : IsCompiled text parts) (inputs : List F) → length inputs ≡ parts.inputs → Computes is.tree parts inputs
+  pub inputs : InputsAre
+  pub computes : IsComputed
   pub faultless : (text : List ℕ) (parts : Parts) → IsCompiled text parts → fault_of greatest parts ≡ None
   pub has_output : (text : List ℕ) (parts : Parts) → IsCompiled text parts → 1 ≤ parts.outputs
   pub lists : (form : ProofForm) (circuit : SoundCircuit) (inputs outputs : List F) (messages : Messages) (rs : List K) → length outputs ≡ circuit.parts.outputs → HaveShape form (drop 1 (exponents circuit.parts)) messages.layers →
@@ -42,23 +42,23 @@ front [] ys = refl
 front (x ∷ xs) ys = ap (λ (zs : List F). x ∷ zs) (front xs ys)
 
 -- outputs that the circuit has are the program's meaning
-meant : IsKnown → (c : Content) (is : IsVerdictOn c Accepted) → is.outputs ≡ take (length is.outputs) (drop 1 (layer_values is.parts c.inputs 0)) → HasMeaning c
-meant known c is same =
-    let compiled = is.claim.compiled in
-    let values = known.computes c.program is.parts compiled c.inputs is.claim.counted in
-    let as_many : length is.outputs ≡ length values.outputs = is.as_many ∙ sym values.as_many in
-    let are : is.outputs ≡ values.outputs =
+pub meant : InputsAre → IsComputed → (c : Content) (parts : Parts) (outputs : List F) (claim : IsClaim c parts outputs) → length outputs ≡ parts.outputs → outputs ≡ take (length outputs) (drop 1 (layer_values parts c.inputs 0)) → HasMeaning c
+meant inputs_are computes c parts outputs claim many same =
+    let compiled = claim.compiled in
+    let values = computes c.program parts compiled c.inputs claim.counted in
+    let as_many : length outputs ≡ length values.outputs = many ∙ sym values.as_many in
+    let are : outputs ≡ values.outputs =
     same
-    ∙ ap (λ (table : List F). take (length is.outputs) (drop 1 table)) values.values_are
+    ∙ ap (λ (table : List F). take (length outputs) (drop 1 table)) values.values_are
     ∙ ap (λ (n : ℕ). take n (values.outputs ++ replicate values.zeros zero_f)) as_many
     ∙ front values.outputs (replicate values.zeros zero_f) in
     record {
-      outputs = is.outputs;
-      outputs_are = is.claim.outputs_are;
+      outputs = outputs;
+      outputs_are = claim.outputs_are;
       evaluated = record {
         tree = compiled.tree;
         accepted = compiled.lowered.accepted;
-        counted = is.claim.counted ∙ known.inputs c.program is.parts compiled;
+        counted = claim.counted ∙ inputs_are c.program parts compiled;
         meaning_is = values.meaning_is ∙ ap (λ (xs : List F). Some xs) (sym are);
       };
     }
@@ -73,7 +73,7 @@ sound known c is wrong =
     let state = start_of is.form c.program c.inputs is.outputs in
     let stated = claim_in is.form is.parts c.inputs is.outputs in
     let rs = all_draws transcript state stated.k (all_messages is.messages.layers) in
-    let found = known.lists is.form circuit c.inputs is.outputs is.messages rs is.as_many is.of_shape (known.draws is.form circuit c.inputs is.outputs is.messages transcript state is.of_shape) (sym is.verdict_is) (λ same. wrong (meant known c is same)) in (
+    let found = known.lists is.form circuit c.inputs is.outputs is.messages rs is.as_many is.of_shape (known.draws is.form circuit c.inputs is.outputs is.messages transcript state is.of_shape) (sym is.verdict_is) (λ same. wrong (meant known.inputs known.computes c is.parts is.outputs is.claim is.as_many same)) in (
       found.0,
       record {
         parts = is.parts;

@@ -9,3 +9,5 @@ mod Statements
 mod TokensWithin
 mod WhiteSpace
 pub mod AcceptedProofs
+mod AuditedCases
+mod ReadProofs

@@ -6,3 +6,4 @@ pub mod Proved
 pub mod Sound
 pub mod Started
 pub mod Verified
+pub mod Audited

@@ -1,5 +1,5 @@
 -- What the verifier says of a case: its verdict on the proof, or why there is none.
-use Rattle.std.specs.Prelude.{◌≡◌, ◌≢◌, ℕ, List, length, drop, Some}
+use Rattle.std.specs.Prelude.{◌≡◌, ◌≢◌, ℕ, List, [], length, drop, Some, unwrap_or}
 use Rattle.field_ext.specs.Field.{F}
 use Rattle.circuit_core.specs.Parts.{Parts}
 use Rattle.circuit_core.specs.Sound.{exponents}
@@ -26,6 +26,23 @@ pub record IsClaim (c : Content) (parts : Parts) (outputs : List F) : Type 0 whe
   pub compiled : IsCompiled c.program parts
   pub counted : length c.inputs ≡ parts.inputs
   pub outputs_are : c.outputs ≡ Some outputs
+
+-- The case's proof spells these messages, which are of this form and of the circuit's shape, and the case has as many outputs as the
+-- circuit.
+pub record HasProof (form : ProofForm) (c : Content) (parts : Parts) (outputs : List F)
+    (messages : Messages) : Type 0 where
+  pub claim : IsClaim c parts outputs
+  pub as_many : length outputs ≡ parts.outputs
+  pub of_shape : HaveShape form (drop 1 (exponents parts)) messages.layers
+  pub spelled : c.proof ≡ Some (spelling form messages)
+
+-- The case's proof, as one of this form, has been read: as these messages, for this circuit.
+abbrev pub IsReadAs : ProofForm → Content → Parts → Messages → Type 0
+IsReadAs form c parts messages = (outputs : List F) × HasProof form c parts outputs messages
+
+-- the form that the fourth byte of the case's proof names
+abbrev pub proof_form : Content → ProofForm
+proof_form c = form_of (unwrap_or c.proof [])
 
 -- the answer to these messages, with the challenges of the case's own transcript
 abbrev pub transcript_verdict : ProofForm → Content → Parts → List F → Messages → Verdict
@@ -73,23 +90,24 @@ pub record IsOutputMiscounted (c : Content) (have need : ℕ) : Type 0 where
   pub circuit_has : need ≡ parts.outputs
   pub differ : have ≢ need
 
--- The case's proof is no spelling of messages of the circuit's shape; this is its first trouble in the form that its
--- fourth byte names.
-pub record IsBadProof (c : Content) (bad : BadProof) : Type 0 where
+-- The case's proof is no spelling of messages of this form and of the circuit's shape; this is its first trouble.
+pub record IsBadProof (form : ProofForm) (c : Content) (bad : BadProof) : Type 0 where
   pub parts : Parts
   pub outputs : List F
   pub claim : IsClaim c parts outputs
   pub as_many : length outputs ≡ parts.outputs
   pub proof : List ℕ
   pub proof_is : c.proof ≡ Some proof
-  pub form : ProofForm
-  pub form_is : form ≡ form_of proof
   pub trouble : TroubleIs form (exponents parts) proof bad
 
--- A call refuses a case as the definitions do, or memory ran out.
+-- A call that reads the case's proof as one of this form refuses it as the definitions do, or memory ran out.
+abbrev pub RefusesProof : ProofForm → Content → Refused → Type 0
+RefusesProof form c (Program bad) = IsCircuitRefusal c.program bad
+RefusesProof form c (Input have need) = IsCircuitMiscounted c have need
+RefusesProof form c (Output have need) = IsOutputMiscounted c have need
+RefusesProof form c (Proof bad) = IsBadProof form c bad
+RefusesProof form c Memory = Unit {0}
+
+-- The verifier reads the proof in the form that its fourth byte names.
 abbrev pub RefusesVerify : Content → Refused → Type 0
-RefusesVerify c (Program bad) = IsCircuitRefusal c.program bad
-RefusesVerify c (Input have need) = IsCircuitMiscounted c have need
-RefusesVerify c (Output have need) = IsOutputMiscounted c have need
-RefusesVerify c (Proof bad) = IsBadProof c bad
-RefusesVerify c Memory = Unit {0}
+RefusesVerify c refused = RefusesProof (proof_form c) c refused

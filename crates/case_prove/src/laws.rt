@@ -1,6 +1,6 @@
 //! Laws of programs and their meanings, and of proved cases. Each is a function that does nothing and ensures the law.
 
-ghost use Rattle.std.specs.Prelude.{◌≡◌, ◌<◌, ℕ, List, ◌++◌, length, Ok};
+ghost use Rattle.std.specs.Prelude.{◌≡◌, ◌<◌, ◌↔◌, ℕ, List, ◌++◌, IsSome, IsTrue, length, Ok};
 ghost use Rattle.field_ext.specs.Field.{F};
 ghost use Rattle.arr_ast.specs.ProgramTree.{ProgramTree};
 ghost use Rattle.arr_compile.specs.Programs.{IsRead};
@@ -10,9 +10,13 @@ ghost use Rattle.arr_lex.specs.Lexing.{tokens_from};
 ghost use Rattle.arr_parse.specs.Unplaced.{unplaced};
 ghost use Rattle.gkr_layers.specs.declared.verdict.Verdict.TheVariants.{Accepted};
 ghost use Rattle.proof_wire.specs.declared.form.ProofForm.{ProofForm};
+ghost use Rattle.proof_wire.specs.declared.form.ProofForm.TheVariants.{Line};
+ghost use Rattle.audit_core.specs.Audit.{names_nothing};
+ghost use Rattle.audit_core.specs.declared.report.Audit.{Audit};
 ghost use Rattle.case_text.specs.Content.{Content, Fits};
 ghost use Rattle.case_text.specs.Spelling.{Spells, lower_case_text};
 ghost use Rattle.case_text.specs.declared.form.Form.TheVariants.{Full};
+ghost use Rattle.case_prove.specs.Audited.{IsAudited};
 ghost use Rattle.case_prove.specs.Blank.{IsWhiteSpace};
 ghost use Rattle.case_prove.specs.Proved.{IsProved};
 ghost use Rattle.case_prove.specs.Sound.{HasExceptionalChallenge, HasMeaning};
@@ -21,8 +25,9 @@ ghost use Rattle.case_prove.specs.Verified.{IsVerdictOn};
 use arr_compile::laws::{circuit_computes, circuit_is_sound, one_circuit, one_tree};
 use arr_lex::laws::{same_anywhere, white_space_moves};
 use arr_parse::laws::one_tree_of_words;
+use audit_core::laws::honesty_is_unnamed;
 use gkr_layers::laws::{honest_is_accepted, honest_is_unique};
-use proof_wire::laws::one_length;
+use proof_wire::laws::{one_length, one_reading};
 
 /// Programs that differ in no more than the places of their parts and the lengths of their texts mean the same.
 pub fn places_play_no_part()
@@ -113,4 +118,46 @@ pub fn sound()
     circuit_computes();
     circuit_is_sound();
     gkr_layers::laws::sound();
+}
+
+/// A case has one audit.
+pub fn audit_is_one()
+    ensures { (c : Content) (audit other : Audit) → IsAudited c audit → IsAudited c other
+        → audit ≡ other }
+{
+    one_circuit();
+    one_reading();
+    audit_core::laws::one_audit();
+}
+
+/// An audit begins with the verifier's answer.
+pub fn audit_has_the_verdict()
+    ensures { (c : Content) (audit : Audit) → IsAudited c audit → IsVerdictOn c audit.verdict }
+{}
+
+/// An audit says that the outputs are the same exactly where they are the program's meaning on the inputs.
+pub fn audit_tells_the_meaning()
+    ensures { (c : Content) (audit : Audit) → IsAudited c audit
+        → IsTrue audit.same ↔ HasMeaning c }
+{
+    one_tree();
+    circuit_computes();
+}
+
+/// Where a case is accepted whose outputs aren't its program's meaning on its inputs, the audit names an exceptional challenge.
+pub fn accepted_falsehood_is_named()
+    ensures { (c : Content) (audit : Audit) → IsAudited c audit → audit.verdict ≡ Accepted
+        → ¬ HasMeaning c → IsSome audit.challenge }
+{
+    circuit_computes();
+    audit_core::laws::accepted_falsehood_is_named();
+}
+
+/// The audit of what the prover gives, by lines, names nothing.
+pub fn proved_is_unnamed()
+    ensures { (c proved : Content) → IsProved Line c proved → IsAudited proved names_nothing }
+{
+    one_tree();
+    circuit_computes();
+    honesty_is_unnamed();
 }

@@ -1,17 +1,16 @@
 //! The verdict on the proof of a case.
 
-ghost use Rattle.std.specs.Prelude.{◌≡◌, length, IsSome, IfOk, IfErr};
-ghost use Rattle.arr_compile.specs.Circuits.{IsCompiled};
-ghost use Rattle.case_prove.specs.Verified.{IsVerdictOn, RefusesVerify};
+ghost use Rattle.std.specs.Prelude.{◌≡◌, IsSome, IfOk, IfErr};
+ghost use Rattle.case_prove.specs.Verified.{IsReadAs, IsVerdictOn, RefusesVerify, proof_form};
 
-use crate::refused::{Refused, program_refused};
+use crate::read_proof::read_proof;
+use crate::refused::Refused;
 use crate::started::transcript_of;
-use arr_compile::compile;
 use case_text::Case;
 use circuit_core::Circuit;
 use gkr_verify::{Verdict, check_as};
-use proof_wire::{ProofForm, ProofRefused, decode_as};
-use std::alloc::Global;
+use proof_wire::{Messages, ProofForm};
+use std::alloc::{AllocError, Global};
 use transcript_fs::Statement;
 use transcript_fs::laws::always_has;
 
@@ -26,54 +25,52 @@ pub fn verify_case(alloc: Global, case: &Case) -> Result<Verdict, Refused>
     ensures verdict { IfOk result (λ verdict. IsVerdictOn case.now verdict) }
     ensures refused { IfErr result (λ refused. RefusesVerify case.now refused) }
 {
-    let compiled = match compile(alloc, case.program()) {
-        Ok(compiled) => compiled,
-        Err(refused) => return Err(program_refused(refused)),
+    let form = proof_form(case);
+    let read = match read_proof(alloc, case, form) {
+        Ok(read) => read,
+        Err(refused) => return Err(refused),
     };
-    let have = case.inputs().len() as u64;
-    let need = u64::from(compiled.circuit.inputs());
-    if have != need {
-        return Err(Refused::Input { have, need });
+    match check_claim(alloc, case, form, &read.circuit, &read.messages) {
+        Ok(verdict) => Ok(verdict),
+        Err(_) => Err(Refused::Memory),
     }
-    check_claim(alloc, case, &compiled.circuit)
 }
 
-/// The verdict on the proof of a case whose program is laid out as this circuit.
-fn check_claim(alloc: Global, case: &Case, circuit: &Circuit) -> Result<Verdict, Refused>
-    requires compiled { IsCompiled case.now.program circuit.now.parts }
-    requires counted { length case.now.inputs ≡ circuit.now.parts.inputs }
-    requires outputs { IsSome case.now.outputs }
-    requires proof { IsSome case.now.proof }
-    ensures verdict { IfOk result (λ verdict. IsVerdictOn case.now verdict) }
-    ensures refused { IfErr result (λ refused. RefusesVerify case.now refused) }
+/// The form that the fourth byte of the case's proof names.
+fn proof_form(case: &Case) -> ProofForm
+    requires { IsSome case.now.proof }
+    ensures { result ≡ proof_form case.now }
 {
-    let (Some(outputs), Some(proof)) = (case.outputs(), case.proof()) else {
+    let Some(proof) = case.proof() else {
         unreachable!()
     };
-    let had = outputs.len() as u64;
-    let need = u64::from(circuit.outputs());
-    if had != need {
-        return Err(Refused::Output { have: had, need });
-    }
-    let form = ProofForm::of(proof);
-    let messages = match decode_as(alloc, form, proof, circuit.shape()) {
-        Ok(messages) => messages,
-        Err(ProofRefused::Bad(bad)) => return Err(Refused::Proof(bad)),
-        Err(ProofRefused::Memory) => return Err(Refused::Memory),
+    ProofForm::of(proof)
+}
+
+/// The verdict on the proof of a case that was read as these messages for this circuit.
+fn check_claim(
+    alloc: Global,
+    case: &Case,
+    form: ProofForm,
+    circuit: &Circuit,
+    messages: &Messages,
+) -> Result<Verdict, AllocError>
+    requires { IsReadAs form case.now circuit.now.parts messages.now }
+    ensures { IfOk result (λ verdict. IsVerdictOn case.now verdict) }
+{
+    let Some(outputs) = case.outputs() else {
+        unreachable!()
     };
     always_has();
     let statement = Statement::of(case.program(), case.inputs(), outputs);
     let mut challenges = transcript_of(form, &statement);
-    match check_as(
+    check_as(
         alloc,
         form,
         circuit,
         case.inputs(),
         outputs,
-        &messages,
+        messages,
         &mut challenges,
-    ) {
-        Ok(verdict) => Ok(verdict),
-        Err(_) => Err(Refused::Memory),
-    }
+    )
 }

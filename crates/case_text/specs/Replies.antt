@@ -1,5 +1,5 @@
 -- The lines of each reply.
-use Rattle.std.specs.Prelude.{ℕ, ◌+◌, ◌-◌, List, [], ◌∷◌, ◌++◌, length, codes}
+use Rattle.std.specs.Prelude.{ℕ, ◌+◌, ◌-◌, Bool, true, false, List, [], ◌∷◌, ◌++◌, Option, Some, None, length, codes}
 use Rattle.std.specs.List.{concat}
 use Rattle.arr_ast.specs.declared.refusal.ProgramKind.{ProgramKind}
 use Rattle.arr_ast.specs.declared.refusal.ProgramKind.TheVariants as programs
@@ -10,6 +10,11 @@ use Rattle.case_text.specs.declared.refusal.DueKind.{DueKind}
 use Rattle.case_text.specs.declared.refusal.DueKind.TheVariants as kinds
 use Rattle.case_text.specs.declared.demo.DemoSummary.{DemoSummary}
 use Rattle.case_text.specs.declared.sizes.LayerSize.{LayerSize}
+use Rattle.case_text.specs.declared.verdict.VerdictLine.{VerdictLine}
+use Rattle.case_text.specs.declared.verdict.VerdictLine.TheVariants as verdicts
+use Rattle.case_text.specs.declared.verdict.MessagePlace.{MessagePlace}
+use Rattle.case_text.specs.declared.verdict.MessagePlace.TheVariants.{Round, Line}
+use Rattle.case_text.specs.declared.verdict.AuditLines.{AuditLines}
 use Rattle.case_text.specs.Sizes.{Sizes}
 use Rattle.case_text.specs.Served.{Served, proved_count}
 use Rattle.case_text.specs.Histories.{History, withdrawn_count}
@@ -146,6 +151,39 @@ history_text h =
     ∷ history_summary_text (length h.jobs) (proved_count h.jobs) (withdrawn_count h.lines)
     ∷ line_text (codes "history ") (length h.lines) ∷ history_lines h.lines ∷ [])
 
+-- the line on a proof
+abbrev pub verdict_text : VerdictLine → List ℕ
+verdict_text verdicts.Accepted = codes "accepted" ++ 10 ∷ []
+verdict_text (verdicts.Sum layer round had claim) =
+    failed_round_text (codes "rejected sum ") layer round had claim
+verdict_text (verdicts.End layer had want) =
+    failed_layer_text (codes "rejected end ") layer had want
+verdict_text (verdicts.Input had want) = failed_text (codes "rejected input ") had want
+
+-- whether the outputs are those that the program means
+abbrev pub meaning_text : Bool → List ℕ
+meaning_text true = codes "meaning same" ++ 10 ∷ []
+meaning_text false = codes "meaning differs" ++ 10 ∷ []
+
+-- the first message that isn't the true one, by its layer and its round, or as the layer's last, on its line
+abbrev pub message_text : Option MessagePlace → List ℕ
+message_text None = codes "message none" ++ 10 ∷ []
+message_text (Some (Round layer round)) = pair_text (codes "message ") layer round
+message_text (Some (Line layer)) =
+    concat (codes "message " ∷ number layer 32 ∷ codes "line" ∷ (10 ∷ []) ∷ [])
+
+-- the first exceptional challenge, by its number and its value
+abbrev pub challenge_text : Option (ℕ × K) → List ℕ
+challenge_text None = codes "challenge none" ++ 10 ∷ []
+challenge_text (Some named) =
+    concat (codes "challenge " ∷ number named.0 32 ∷ number named.1.re.value 44 ∷ number
+    named.1.im.value 10 ∷ [])
+
+-- the four lines of an audit
+abbrev pub audit_text : AuditLines → List ℕ
+audit_text a = concat (verdict_text a.verdict ∷ meaning_text a.same ∷ message_text a.message
+    ∷ challenge_text a.challenge ∷ [])
+
 abbrev pub reply_text : Reply → List ℕ
 reply_text (replies.Outputs values) = codes "output " ++ counted_text values
 reply_text replies.Usage = codes "refused usage" ++ 10 ∷ []
@@ -164,9 +202,5 @@ reply_text (replies.Proved c) = lower_case_text c
 reply_text (replies.Demo summary) = demo_text summary
 reply_text (replies.Served jobs) = served_text jobs
 reply_text (replies.History history) = history_text history
-reply_text replies.Accepted = codes "accepted" ++ 10 ∷ []
-reply_text (replies.RejectedSum layer round had claim) =
-    failed_round_text (codes "rejected sum ") layer round had claim
-reply_text (replies.RejectedEnd layer had want) =
-    failed_layer_text (codes "rejected end ") layer had want
-reply_text (replies.RejectedInput had want) = failed_text (codes "rejected input ") had want
+reply_text (replies.Verdict verdict) = verdict_text verdict
+reply_text (replies.Audit audit) = audit_text audit

@@ -31,6 +31,7 @@ pub use reply::{Reply, write_reply};
 pub mod laws;
 mod reading;
 mod reply;
+mod verdict;
 mod writing;
 
 pub use refusal::{BadCase, CaseRefused, DueKind};
@@ -38,4 +39,5 @@ pub use rule::Rule;
 pub use served::{ServedJob, ServedJobs, write_served};
 pub use sizes::{CircuitSizes, LayerSize};
 pub use stop::{ReadError, Stop, stop_at};
+pub use verdict::{AuditLines, MessagePlace, VerdictLine};
 pub use writing::write_case;

@@ -1,7 +1,7 @@
 //! What the program answers.
 
 ghost use Rattle.std.specs.Prelude.{◌≡◌, ◌-◌, ◌++◌, IfOk, OnOk, length};
-ghost use Rattle.case_text.specs.Replies.{reply_text, sizes_text, layer_lines, line_text, pair_text, totals_text, sides_text, failed_text, failed_layer_text, failed_round_text, bad_proof_text, digest_text, generated_text, proved_text, demo_text, kind_name, program_kind_name};
+ghost use Rattle.case_text.specs.Replies.{reply_text, sizes_text, layer_lines, line_text, pair_text, totals_text, bad_proof_text, digest_text, generated_text, proved_text, demo_text, kind_name, program_kind_name};
 
 use crate::case::Case;
 use crate::demo::DemoSummary;
@@ -10,14 +10,14 @@ use crate::outputs::Outputs;
 use crate::refusal::{BadCase, DueKind};
 use crate::served::{ServedJobs, write_served};
 use crate::sizes::{CircuitSizes, LayerSize};
+use crate::verdict::{AuditLines, VerdictLine, put_audit, put_verdict};
 use crate::writing::{hex_text, put_counted, put_number, write_case};
 use arr_ast::ProgramKind;
-use field_ext::Ext;
 use proof_wire::BadProof;
 use std::alloc::{AllocError, Global};
 
 /// What the program answers: one line; for a circuit a line each of its height, its layers and its sizes; the text of a case
-/// that was proved; or the lines of a demo.
+/// that was proved; or the lines of an audit or of a demo.
 #[derive(Debug, Drop)]
 pub enum Reply {
     /// The outputs of a program.
@@ -29,29 +29,15 @@ pub enum Reply {
     /// The bytes are no case.
     Case(BadCase),
     /// The program is refused for this, at this byte of its text.
-    Program {
-        kind: ProgramKind,
-        at: usize,
-    },
+    Program { kind: ProgramKind, at: usize },
     /// The program's circuit would have this many layers above the input, which are too many.
-    Deep {
-        levels: usize,
-    },
+    Deep { levels: usize },
     /// The program's circuit would have so many positions at this height, which are too many.
-    Wide {
-        height: usize,
-        width: usize,
-    },
+    Wide { height: usize, width: usize },
     /// The number of inputs isn't the program's.
-    InputCount {
-        have: u64,
-        need: u64,
-    },
+    InputCount { have: u64, need: u64 },
     /// The number of outputs isn't the program's.
-    OutputCount {
-        have: u64,
-        need: u64,
-    },
+    OutputCount { have: u64, need: u64 },
     /// The bytes of the proof are none of the circuit's shape.
     Proof(BadProof),
     /// The sizes of the program's circuit.
@@ -64,26 +50,10 @@ pub enum Reply {
     Served(ServedJobs),
     /// The replies to the jobs of a script, and the history of its table.
     History(ServedHistory),
-    /// The proof is accepted.
-    Accepted,
-    /// A round's message at 0 plus that at 1 isn't the claim before it. Layers count from 0, rounds from 1.
-    RejectedSum {
-        layer: usize,
-        round: usize,
-        had: Ext,
-        claim: Ext,
-    },
-    /// The claim after a layer's rounds isn't what the wiring makes of its line's message.
-    RejectedEnd {
-        layer: usize,
-        had: Ext,
-        want: Ext,
-    },
-    /// The last claim isn't the value of the inputs' extension.
-    RejectedInput {
-        had: Ext,
-        want: Ext,
-    },
+    /// The verdict on a proof.
+    Verdict(VerdictLine),
+    /// What an audit says of a proof.
+    Audit(AuditLines),
 }
 
 /// How the kind is told.
@@ -188,62 +158,6 @@ pub(crate) fn put_pair(
     put_number(out, second, b'\n')
 }
 
-/// The two sides of an equation, each by its real and its imaginary part.
-#[tactic(auto, unfolding(crate::specs::Replies::sides_text))]
-fn put_sides(out: &mut Vec<u8>, had: Ext, want: Ext) -> Result<(), AllocError>
-    ensures { OnOk result (out.new.items ≡ out.old.items ++ sides_text had want) }
-{
-    put_number(out, u64::from(had.re().value()), b',')?;
-    put_number(out, u64::from(had.im().value()), b' ')?;
-    put_number(out, u64::from(want.re().value()), b',')?;
-    put_number(out, u64::from(want.im().value()), b'\n')
-}
-
-/// A word and the two sides of an equation.
-#[tactic(auto, unfolding(crate::specs::Replies::failed_text))]
-fn put_failed(out: &mut Vec<u8>, word: &[u8], had: Ext, want: Ext) -> Result<(), AllocError>
-    ensures { OnOk result (out.new.items ≡ out.old.items ++ failed_text word.now had want) }
-{
-    out.extend_from_slice(word)?;
-    put_sides(out, had, want)
-}
-
-/// A word, a layer, and the two sides of an equation.
-#[tactic(auto, unfolding(crate::specs::Replies::failed_layer_text))]
-fn put_failed_layer(
-    out: &mut Vec<u8>,
-    word: &[u8],
-    layer: u64,
-    had: Ext,
-    want: Ext,
-) -> Result<(), AllocError>
-    ensures { OnOk result (out.new.items ≡ out.old.items ++ failed_layer_text word.now layer had
-        want) }
-{
-    out.extend_from_slice(word)?;
-    put_number(out, layer, b' ')?;
-    put_sides(out, had, want)
-}
-
-/// A word, a layer, a round, and the two sides of an equation.
-#[tactic(auto, unfolding(crate::specs::Replies::failed_round_text))]
-fn put_failed_round(
-    out: &mut Vec<u8>,
-    word: &[u8],
-    layer: u64,
-    round: u64,
-    had: Ext,
-    want: Ext,
-) -> Result<(), AllocError>
-    ensures { OnOk result (out.new.items ≡ out.old.items ++ failed_round_text word.now layer round
-        had want) }
-{
-    out.extend_from_slice(word)?;
-    put_number(out, layer, b' ')?;
-    put_number(out, round, b' ')?;
-    put_sides(out, had, want)
-}
-
 /// What is wrong with the bytes of a proof.
 fn put_bad_proof(out: &mut Vec<u8>, bad: BadProof) -> Result<(), AllocError>
     ensures { OnOk result (out.new.items ≡ out.old.items ++ bad_proof_text bad) }
@@ -296,7 +210,7 @@ fn put_demo(alloc: Global, out: &mut Vec<u8>, demo: &DemoSummary) -> Result<(), 
 }
 
 /// The lines of a reply, each with its LF, in ASCII. The error comes where memory runs out.
-#[tactic(auto, unfolding(crate::specs::Replies::line_text, crate::specs::Replies::pair_text, crate::specs::Replies::failed_text, crate::specs::Replies::failed_layer_text, crate::specs::Replies::failed_round_text))]
+#[tactic(auto, unfolding(crate::specs::Replies::line_text, crate::specs::Replies::pair_text))]
 pub fn write_reply(alloc: Global, reply: &Reply) -> Result<Vec<u8>, AllocError>
     ensures { IfOk result (λ text. text.items ≡ reply_text reply.now) }
 {
@@ -343,26 +257,8 @@ pub fn write_reply(alloc: Global, reply: &Reply) -> Result<Vec<u8>, AllocError>
         Reply::Demo(demo) => put_demo(alloc, &mut out, demo)?,
         Reply::Served(jobs) => return write_served(alloc, jobs.as_slice()),
         Reply::History(history) => return write_history(alloc, history),
-        Reply::Accepted => out.extend_from_slice(b"accepted\n")?,
-        Reply::RejectedSum {
-            layer,
-            round,
-            had,
-            claim,
-        } => put_failed_round(
-            &mut out,
-            b"rejected sum ",
-            *layer as u64,
-            *round as u64,
-            *had,
-            *claim,
-        )?,
-        Reply::RejectedEnd { layer, had, want } => {
-            put_failed_layer(&mut out, b"rejected end ", *layer as u64, *had, *want)?;
-        }
-        Reply::RejectedInput { had, want } => {
-            put_failed(&mut out, b"rejected input ", *had, *want)?;
-        }
+        Reply::Verdict(verdict) => put_verdict(&mut out, *verdict)?,
+        Reply::Audit(audit) => put_audit(&mut out, *audit)?,
         Reply::InputCount { have, need } => {
             put_pair(&mut out, b"refused count input ", *have, *need)?;
         }

@@ -2,6 +2,7 @@
 
 ghost use Rattle.std.specs.Prelude.{◌<◌};
 
+mod audits;
 mod evaluates;
 mod lays_out;
 mod proves;

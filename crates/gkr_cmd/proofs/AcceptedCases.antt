@@ -6,32 +6,37 @@ use Rattle.case_text.specs.Reading.{reading}
 use Rattle.case_text.specs.declared.refusal.BadCase.{BadCase}
 use Rattle.case_text.specs.declared.reply.Reply.{Reply}
 use Rattle.case_text.specs.declared.reply.Reply.TheVariants as replies
-use Rattle.arr_compile.specs.declared.refused.BadProgram.TheVariants.{At, Deep, Wide}
 use Rattle.case_prove.specs.Sound.{HasExceptionalChallenge, HasMeaning}
-use Rattle.case_prove.specs.Verified.{HasAcceptedProof, IsVerdictOn}
+use Rattle.case_prove.specs.Verified.{HasAcceptedProof, IsVerdictOn, proof_form}
+use Rattle.case_text.specs.declared.verdict.VerdictLine.TheVariants as told
+use Rattle.gkr_layers.specs.declared.verdict.Verdict.{Verdict}
 use Rattle.gkr_layers.specs.declared.verdict.Verdict.TheVariants as verdicts
 use Rattle.gkr_cmd.specs.declared.status.Status.TheVariants.{Done}
 use Rattle.gkr_words.specs.declared.words.Command.{Command}
 use Rattle.gkr_words.specs.declared.words.CaseCommand.TheVariants.{Verify}
 use Rattle.gkr_words.specs.declared.words.Command.TheVariants.{OfCase}
 use Rattle.gkr_cmd.specs.Replies.{IsCommandReply, IsOfCase, IsVerifyAnswer, status_of}
+use Rattle.gkr_cmd.specs.Told.{verdict_line}
 use Rattle.case_prove.proofs.AcceptedProofs.{meets, verdict_on}
 use Rattle.gkr_cmd.proofs.OneReply.{Found, found, long, no_case, of_case}
-use Rattle.gkr_cmd.proofs.VerifyAnswers.{Answer, answer, refused, miscounted, outputs_miscounted, bad_proof, verdict}
+use Rattle.gkr_cmd.proofs.ProofRefusals.{refusal_undone}
+use Rattle.gkr_cmd.proofs.VerifyAnswers.{Answer, answer, no_verdict, verdict}
 
-by_answer : (c : Content) {reply : Reply} → Answer c reply → status_of reply ≡ Done → (reply ≡ replies.Accepted) × IsVerdictOn c verdicts.Accepted
-by_answer c (refused (At at kind) is) e = absurd cc
-by_answer c (refused (Deep levels) is) e = absurd cc
-by_answer c (refused (Wide height width) is) e = absurd cc
-by_answer c (miscounted have need is) e = absurd cc
-by_answer c (outputs_miscounted have need is) e = absurd cc
-by_answer c (bad_proof bad is) e = absurd cc
-by_answer c (verdict verdicts.Accepted is) e = (refl, is)
-by_answer c (verdict (verdicts.Sum layer round had claim) is) e = absurd cc
-by_answer c (verdict (verdicts.End layer had want) is) e = absurd cc
-by_answer c (verdict (verdicts.Input had want) is) e = absurd cc
+-- the reply of one that is accepted
+abbrev pub accepted_reply : Reply
+accepted_reply = replies.Verdict told.Accepted
 
-by_input : (input : List ℕ) {reply : Reply} → Found Full IsVerifyAnswer input reply → status_of reply ≡ Done → (reply ≡ replies.Accepted) × IsOfCase Full input HasAcceptedProof
+by_verdict : (c : Content) (verdict : Verdict) → IsVerdictOn c verdict → status_of (replies.Verdict (verdict_line verdict)) ≡ Done → (replies.Verdict (verdict_line verdict) ≡ accepted_reply) × IsVerdictOn c verdicts.Accepted
+by_verdict c verdicts.Accepted is e = (refl, is)
+by_verdict c (verdicts.Sum layer round had claim) is e = absurd cc
+by_verdict c (verdicts.End layer had want) is e = absurd cc
+by_verdict c (verdicts.Input had want) is e = absurd cc
+
+by_answer : (c : Content) {reply : Reply} → Answer c reply → status_of reply ≡ Done → (reply ≡ accepted_reply) × IsVerdictOn c verdicts.Accepted
+by_answer c (no_verdict is) e = absurd (refusal_undone (proof_form c) c is e)
+by_answer c (verdict v is) e = by_verdict c v is e
+
+by_input : (input : List ℕ) {reply : Reply} → Found Full IsVerifyAnswer input reply → status_of reply ≡ Done → (reply ≡ accepted_reply) × IsOfCase Full input HasAcceptedProof
 by_input input (long limit is) e = absurd cc
 by_input input (no_case bad is) e = absurd cc
 by_input input {reply} (of_case c within read is) e =
@@ -39,7 +44,7 @@ by_input input {reply} (of_case c within read is) e =
 
 -- the reply of `verify` with status 0
 pub accepted_of : (command : Option Command) (input : List ℕ) (reply : Reply) → command ≡ Some (OfCase Verify) → IsCommandReply command input reply → status_of reply ≡ Done →
-    (reply ≡ replies.Accepted) × IsOfCase Full input HasAcceptedProof
+    (reply ≡ accepted_reply) × IsOfCase Full input HasAcceptedProof
 accepted_of command input reply is replied done =
     by_input input (found Full IsVerifyAnswer input reply (subst (λ c. IsCommandReply c input reply) is replied)) done
 

@@ -49,10 +49,8 @@ answer c (replies.Served jobs) is = absurd is
 answer c (replies.History history) is = absurd is
 answer c (replies.OutputCount have need) is = absurd is
 answer c (replies.Proof bad) is = absurd is
-answer c replies.Accepted is = absurd is
-answer c (replies.RejectedSum layer round had claim) is = absurd is
-answer c (replies.RejectedEnd layer had want) is = absurd is
-answer c (replies.RejectedInput had want) is = absurd is
+answer c (replies.Verdict line) is = absurd is
+answer c (replies.Audit lines) is = absurd is
 
 pub same_counts : IsOne → (c : Content) (have have' need need' : ℕ) → IsCircuitMiscounted c have need → IsCircuitMiscounted c have' need' → replies.InputCount have need ≡ replies.InputCount have' need'
 same_counts one c have have' need need' is is' =

@@ -66,10 +66,8 @@ answer number (replies.Served jobs) is = absurd is
 answer number (replies.History history) is = absurd is
 answer number (replies.OutputCount have need) is = absurd is
 answer number (replies.Proof bad) is = absurd is
-answer number replies.Accepted is = absurd is
-answer number (replies.RejectedSum layer round had claim) is = absurd is
-answer number (replies.RejectedEnd layer had want) is = absurd is
-answer number (replies.RejectedInput had want) is = absurd is
+answer number (replies.Verdict line) is = absurd is
+answer number (replies.Audit lines) is = absurd is
 
 one_answer : IsOne → IsOneProved → (number : ℕ) {a b : Reply} → Answer number a → Answer number b → a ≡ b
 one_answer one proofs number (told s is) (told t is') = ap replies.Demo (same_summary one proofs number s t is is')

@@ -13,15 +13,16 @@ use Rattle.gkr_cmd.specs.declared.reply_error.ReplyError.TheVariants as errors
 use Rattle.gkr_cmd.specs.declared.status.Status.{Status}
 use Rattle.gkr_cmd.specs.declared.status.Status.TheVariants as statuses
 use Rattle.gkr_words.specs.declared.words.Command.{Command}
-use Rattle.gkr_words.specs.declared.words.CaseCommand.TheVariants.{Eval, Circuit, Prove, Verify}
+use Rattle.gkr_words.specs.declared.words.CaseCommand.TheVariants.{Eval, Circuit, Prove, Verify, Audit}
 use Rattle.gkr_words.specs.Commands.{ReadsCase, command_of, input_limit, read_room}
 use Rattle.gkr_cmd.specs.Headline.{HasCauses, HasOneReply, Headline, KeepsPromises, Run}
 use Rattle.gkr_cmd.specs.Reached.{IsReadUpTo, ReadsWithin}
 use Rattle.gkr_cmd.specs.Replies.{IsCommandReply, IsReply, status_of}
-use Rattle.gkr_cmd.specs.Runs.{HasCircuit, IsEvaluable, IsInput, IsReplied, WritesReplyFront}
+use Rattle.gkr_cmd.specs.Runs.{HasCircuit, HasLineProof, IsEvaluable, IsInput, IsReplied, WritesReplyFront}
 use Rattle.gkr_cmd.specs.Finished.{Finishes, WritesSome}
 use Rattle.gkr_cmd.specs.RunLaws.{RunLaws}
 use Rattle.gkr_cmd.proofs.AcceptedCases.{accepted_of, sound_of}
+use Rattle.gkr_cmd.proofs.AuditAnswers.{audited_of, line_proof_of, writes_audit}
 use Rattle.gkr_cmd.proofs.ProvedCases.{accepted_text, proved_of}
 use Rattle.gkr_cmd.proofs.Replied.{demo_done_of, done_of, history_reply_of, input_of, no_more, script_reply_of, whole_front}
 use Rattle.gkr_cmd.proofs.HistoryReplies.{tells}
@@ -142,6 +143,16 @@ headline_of laws run whole =
           let some = whole (done_replies run.ended done) in
           let w = some.wrote in
           sound_of laws.sound input content (accepted_of command input some.reply asks.named (w.made.is_reply input (input_of Verify command left input asks.named asks.told)) (sym w.status ∙ done)).1 read wrong;
+      audited = λ input asks replies.
+          let w = (whole replies).wrote in (
+            λ done. line_proof_of input (whole replies).reply (audited_of command input (whole replies).reply asks.named (w.made.is_reply input (input_of Audit command left input asks.named asks.told)) (sym w.status ∙ done)),
+            λ case. w.status ∙ done_of Full Audit HasLineProof laws.audited command input (whole replies).reply asks.named (w.made.is_reply input (input_of Audit command left input asks.named asks.told)) case,
+          );
+      audit_text = λ input content asks read done.
+          let some = whole (done_replies run.ended done) in
+          let w = some.wrote in
+          writes_audit laws input content some.reply run.before.written run.after.written
+          (audited_of command input some.reply asks.named (w.made.is_reply input (input_of Audit command left input asks.named asks.told)) (sym w.status ∙ done)) read w.written;
       proved = λ input workers form asks case replies.
           let w = (whole replies).wrote in
           w.status ∙ done_of Plain (Prove workers form) HasCircuit (laws.provable form) command input (whole replies).reply asks.named (w.made.is_reply input (input_of (Prove workers form) command left input asks.named asks.told)) case;

@@ -1,4 +1,5 @@
 mod AcceptedCases
+mod AuditAnswers
 mod CircuitAnswers
 mod DemoAnswers
 mod DemoNodes
@@ -8,6 +9,7 @@ mod Ends
 mod EvalAnswers
 mod Headlines
 mod OneReply
+mod ProofRefusals
 mod ProveAnswers
 mod ProvedCases
 mod InputReads

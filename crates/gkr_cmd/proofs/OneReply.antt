@@ -12,10 +12,10 @@ use Rattle.gkr_cmd.specs.declared.status.Status.TheVariants.{Done}
 use Rattle.gkr_words.specs.declared.words.Command.{Command}
 use Rattle.gkr_words.specs.declared.words.Command.TheVariants.{OfCase, Demo, Serve, ServeHistory}
 use Rattle.gkr_words.specs.declared.words.CaseCommand.{CaseCommand}
-use Rattle.gkr_words.specs.declared.words.CaseCommand.TheVariants.{Eval, Circuit, Prove, Verify}
+use Rattle.gkr_words.specs.declared.words.CaseCommand.TheVariants.{Eval, Circuit, Prove, Verify, Audit}
 use Rattle.gkr_words.specs.Commands.{PrintsHistory, case_limit, command_of}
 use Rattle.gkr_cmd.proofs.ScriptReplies.{one_script}
-use Rattle.gkr_cmd.specs.Replies.{IsWithinLimit, IsOfCase, IsNoCase, IsTooLong, IsCaseReply, IsAnswer, IsEvalAnswer, IsCircuitAnswer, IsDemoAnswer, IsVerifyAnswer, form_of, IsCommandReply, IsReply, status_of}
+use Rattle.gkr_cmd.specs.Replies.{IsWithinLimit, IsOfCase, IsNoCase, IsTooLong, IsCaseReply, IsAnswer, IsAuditAnswer, IsEvalAnswer, IsCircuitAnswer, IsDemoAnswer, IsVerifyAnswer, form_of, IsCommandReply, IsReply, status_of}
 use Rattle.case_prove.specs.Answers.{IsProveAnswer}
 
 -- a case has at most one answer
@@ -44,10 +44,8 @@ found form answers input (replies.Served jobs) is = of_case is.content is.within
 found form answers input (replies.History history) is = of_case is.content is.within is.read is.holds
 found form answers input (replies.OutputCount have need) is = of_case is.content is.within is.read is.holds
 found form answers input (replies.Proof bad) is = of_case is.content is.within is.read is.holds
-found form answers input replies.Accepted is = of_case is.content is.within is.read is.holds
-found form answers input (replies.RejectedSum layer round had claim) is = of_case is.content is.within is.read is.holds
-found form answers input (replies.RejectedEnd layer had want) is = of_case is.content is.within is.read is.holds
-found form answers input (replies.RejectedInput had want) is = of_case is.content is.within is.read is.holds
+found form answers input (replies.Verdict line) is = of_case is.content is.within is.read is.holds
+found form answers input (replies.Audit lines) is = of_case is.content is.within is.read is.holds
 
 same_case : (r : Result Content BadCase) (c d : Content) → r ≡ Ok c → r ≡ Ok d → c ≡ d
 same_case r c d is is' = cc
@@ -80,6 +78,7 @@ pub record OneEach : Type 0 where
   pub circuit : OneAnswer IsCircuitAnswer
   pub prove : (form : ProofForm) → OneAnswer (IsProveAnswer form)
   pub verify : OneAnswer IsVerifyAnswer
+  pub audit : OneAnswer IsAuditAnswer
   pub demo : (number : ℕ) (a b : Reply) → IsDemoAnswer number a → IsDemoAnswer number b → a ≡ b
 
 one_of_each : OneEach → (command : CaseCommand) → OneAnswer (IsAnswer command)
@@ -87,6 +86,7 @@ one_of_each one Eval = one.eval
 one_of_each one Circuit = one.circuit
 one_of_each one (Prove workers form) = one.prove form
 one_of_each one Verify = one.verify
+one_of_each one Audit = one.audit
 
 one_of_command : OneEach → (command : Option Command) (input : List ℕ) (a b : Reply) → ¬ PrintsHistory command → IsCommandReply command input a → IsCommandReply command input b → a ≡ b
 one_of_command one None input a b told is is' = is ∙ sym is'

@@ -48,10 +48,8 @@ answer form c (replies.Served jobs) is = absurd is
 answer form c (replies.History history) is = absurd is
 answer form c (replies.OutputCount have need) is = absurd is
 answer form c (replies.Proof bad) is = absurd is
-answer form c replies.Accepted is = absurd is
-answer form c (replies.RejectedSum layer round had claim) is = absurd is
-answer form c (replies.RejectedEnd layer had want) is = absurd is
-answer form c (replies.RejectedInput had want) is = absurd is
+answer form c (replies.Verdict line) is = absurd is
+answer form c (replies.Audit lines) is = absurd is
 
 -- the inputs of a case that is proved are counted
 not_miscounted : (form : ProofForm) → IsOne → IsOneProved → (c p : Content) (have need : ℕ) → IsProved form c p → IsCircuitMiscounted c have need → ⊥

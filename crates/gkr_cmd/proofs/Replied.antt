@@ -8,10 +8,14 @@ use Rattle.case_prove.specs.declared.refused.Refused.{Refused}
 use Rattle.case_prove.specs.declared.refused.Refused.TheVariants as refusals
 use Rattle.case_prove.specs.Circuits.{RefusesCircuit}
 use Rattle.case_prove.specs.Evaluated.{Refuses}
+use Rattle.audit_core.specs.declared.report.Audit.{Audit as AuditFound}
+use Rattle.case_prove.specs.Audited.{IsAudited, RefusesAudit}
 use Rattle.case_prove.specs.Verified.{IsVerdictOn, RefusesVerify}
 use Rattle.case_text.specs.Forms.{Allows}
 use Rattle.gkr_layers.specs.declared.verdict.Verdict.{Verdict}
-use Rattle.gkr_layers.specs.declared.verdict.Verdict.TheVariants as verdicts
+use Rattle.case_text.specs.declared.verdict.AuditLines.{AuditLines}
+use Rattle.case_text.specs.declared.verdict.VerdictLine.{VerdictLine}
+use Rattle.case_text.specs.declared.verdict.VerdictLine.TheVariants as told
 use Rattle.proof_wire.specs.declared.form.ProofForm.{ProofForm}
 use Rattle.case_text.specs.Content.{Content}
 use Rattle.case_text.specs.Reading.{reading}
@@ -25,10 +29,11 @@ use Rattle.gkr_cmd.specs.declared.status.Status.TheVariants as statuses
 use Rattle.gkr_words.specs.declared.words.Command.{Command}
 use Rattle.gkr_words.specs.declared.words.Command.TheVariants.{OfCase, Demo, Serve, ServeHistory}
 use Rattle.gkr_words.specs.declared.words.CaseCommand.{CaseCommand}
-use Rattle.gkr_words.specs.declared.words.CaseCommand.TheVariants.{Eval, Circuit, Prove, Verify}
+use Rattle.gkr_words.specs.declared.words.CaseCommand.TheVariants.{Eval, Circuit, Prove, Verify, Audit}
 use Rattle.io_edge.specs.Written.{Grows}
 use Rattle.gkr_cmd.specs.Reached.{ReadsUpTo, WritesFront}
-use Rattle.gkr_cmd.specs.Replies.{IsWithinLimit, IsTooLong, IsCommandReply, IsHistoryReply, IsScriptReply, IsCaseReply, IsAnswer, IsCircuitAnswer, IsDemoAnswer, IsEvalAnswer, IsVerifyAnswer, IsOfCase, form_of, refused_reply, verdict_reply, status_of}
+use Rattle.gkr_cmd.specs.Replies.{IsWithinLimit, IsTooLong, IsCommandReply, IsHistoryReply, IsScriptReply, IsCaseReply, IsAnswer, IsAuditAnswer, IsCircuitAnswer, IsDemoAnswer, IsEvalAnswer, IsVerifyAnswer, IsOfCase, form_of, status_of}
+use Rattle.gkr_cmd.specs.Told.{audit_lines, refused_reply, verdict_line}
 use Rattle.gkr_words.specs.Commands.{IsService, case_limit, input_limit, script_limit}
 use Rattle.case_prove.specs.Answers.{IsProveAnswer}
 use Rattle.gkr_cmd.specs.Runs.{IsInput, IsReplied, WritesNoMore, WritesReplyFront}
@@ -100,10 +105,8 @@ script_named input (replies.Served served) is = λ e. cc
 script_named input (replies.History history) is = absurd is
 script_named input (replies.OutputCount have need) is = absurd is
 script_named input (replies.Proof bad) is = absurd is
-script_named input replies.Accepted is = absurd is
-script_named input (replies.RejectedSum layer round had claim) is = absurd is
-script_named input (replies.RejectedEnd layer had want) is = absurd is
-script_named input (replies.RejectedInput had want) is = absurd is
+script_named input (replies.Verdict line) is = absurd is
+script_named input (replies.Audit lines) is = absurd is
 
 -- the reply of `serve --history` doesn't refuse the words
 history_named : (input : List ℕ) (reply : Reply) → IsHistoryReply input reply → status_of reply ≢ statuses.Usage
@@ -122,10 +125,8 @@ history_named input (replies.Served served) is = absurd is
 history_named input (replies.History history) is = λ e. cc
 history_named input (replies.OutputCount have need) is = absurd is
 history_named input (replies.Proof bad) is = absurd is
-history_named input replies.Accepted is = absurd is
-history_named input (replies.RejectedSum layer round had claim) is = absurd is
-history_named input (replies.RejectedEnd layer had want) is = absurd is
-history_named input (replies.RejectedInput had want) is = absurd is
+history_named input (replies.Verdict line) is = absurd is
+history_named input (replies.Audit lines) is = absurd is
 
 -- nor does that of either
 pub service_named : (command : Option Command) (input : List ℕ) (result : Result Reply ReplyError) → IsService command → IfOk result (λ reply. IsCommandReply command input reply) → IfOk result (λ reply. status_of reply ≢ statuses.Usage)
@@ -192,10 +193,11 @@ replied (replies.Served jobs) = tt
 replied (replies.History history) = tt
 replied (replies.OutputCount have need) = tt
 replied (replies.Proof bad) = tt
-replied replies.Accepted = tt
-replied (replies.RejectedSum layer round had claim) = tt
-replied (replies.RejectedEnd layer had want) = tt
-replied (replies.RejectedInput had want) = tt
+replied (replies.Verdict told.Accepted) = tt
+replied (replies.Verdict (told.Sum layer round had claim)) = tt
+replied (replies.Verdict (told.End layer had want)) = tt
+replied (replies.Verdict (told.Input had want)) = tt
+replied (replies.Audit lines) = tt
 
 -- a reply to an input doesn't refuse the words
 pub named : (form : Form) (answers : Content → Reply → Type 0) (input : List ℕ) (reply : Reply) → IsCaseReply form answers input reply → status_of reply ≢ statuses.Usage
@@ -214,10 +216,11 @@ named form answers input (replies.Served jobs) is = λ e. cc
 named form answers input (replies.History history) is = λ e. cc
 named form answers input (replies.OutputCount have need) is = λ e. cc
 named form answers input (replies.Proof bad) is = λ e. cc
-named form answers input replies.Accepted is = λ e. cc
-named form answers input (replies.RejectedSum layer round had claim) is = λ e. cc
-named form answers input (replies.RejectedEnd layer had want) is = λ e. cc
-named form answers input (replies.RejectedInput had want) is = λ e. cc
+named form answers input (replies.Verdict told.Accepted) is = λ e. cc
+named form answers input (replies.Verdict (told.Sum layer round had claim)) is = λ e. cc
+named form answers input (replies.Verdict (told.End layer had want)) is = λ e. cc
+named form answers input (replies.Verdict (told.Input had want)) is = λ e. cc
+named form answers input (replies.Audit lines) is = λ e. cc
 
 -- what is made of a refusal of `eval` is its answer
 pub eval_refused : (refused : Refused) (c : Content) → Refuses c refused → IfOk (refused_reply refused) (λ reply. IsEvalAnswer c reply)
@@ -266,10 +269,8 @@ demo_named number (replies.Served jobs) is = absurd is
 demo_named number (replies.History history) is = absurd is
 demo_named number (replies.OutputCount have need) is = absurd is
 demo_named number (replies.Proof bad) is = absurd is
-demo_named number replies.Accepted is = absurd is
-demo_named number (replies.RejectedSum layer round had claim) is = absurd is
-demo_named number (replies.RejectedEnd layer had want) is = absurd is
-demo_named number (replies.RejectedInput had want) is = absurd is
+demo_named number (replies.Verdict line) is = absurd is
+demo_named number (replies.Audit lines) is = absurd is
 
 -- what is made of a refusal of `verify` is its answer
 pub verify_refused : (refused : Refused) (c : Content) → RefusesVerify c refused → IfOk (refused_reply refused) (λ reply. IsVerifyAnswer c reply)
@@ -282,11 +283,22 @@ verify_refused (refusals.Proof bad) c is = is
 verify_refused refusals.Memory c is = tt
 
 -- what is made of a verdict is the answer of `verify`
-pub verdict_replied : (verdict : Verdict) (c : Content) → IsVerdictOn c verdict → IsVerifyAnswer c (verdict_reply verdict)
-verdict_replied verdicts.Accepted c is = is
-verdict_replied (verdicts.Sum layer round had claim) c is = is
-verdict_replied (verdicts.End layer had want) c is = is
-verdict_replied (verdicts.Input had want) c is = is
+pub verdict_replied : (verdict : Verdict) (line : VerdictLine) (c : Content) → IsVerdictOn c verdict → line ≡ verdict_line verdict → IsVerifyAnswer c (replies.Verdict line)
+verdict_replied verdict line c is same = (verdict, is, same)
+
+-- what is made of a refusal of `audit` is its answer
+pub audit_refused : (refused : Refused) (c : Content) → RefusesAudit c refused → IfOk (refused_reply refused) (λ reply. IsAuditAnswer c reply)
+audit_refused (refusals.Program (At at kind)) c is = is
+audit_refused (refusals.Program (Deep levels)) c is = is
+audit_refused (refusals.Program (Wide height width)) c is = is
+audit_refused (refusals.Input have need) c is = is
+audit_refused (refusals.Output have need) c is = is
+audit_refused (refusals.Proof bad) c is = is
+audit_refused refusals.Memory c is = tt
+
+-- what is made of an audit is the answer of `audit`
+pub audit_replied : (audit : AuditFound) (lines : AuditLines) (c : Content) → IsAudited c audit → lines ≡ audit_lines audit → IsAuditAnswer c (replies.Audit lines)
+audit_replied audit lines c is same = (audit, is, same)
 
 -- no command says of a case what is said of words or of an input
 abbrev IsOfACase : Reply → Type 0
@@ -301,14 +313,17 @@ answers_a_case Eval c replies.Usage is = absurd is
 answers_a_case Circuit c replies.Usage is = absurd is
 answers_a_case (Prove workers form) c replies.Usage is = absurd is
 answers_a_case Verify c replies.Usage is = absurd is
+answers_a_case Audit c replies.Usage is = absurd is
 answers_a_case Eval c (replies.TooLong limit) is = absurd is
 answers_a_case Circuit c (replies.TooLong limit) is = absurd is
 answers_a_case (Prove workers form) c (replies.TooLong limit) is = absurd is
 answers_a_case Verify c (replies.TooLong limit) is = absurd is
+answers_a_case Audit c (replies.TooLong limit) is = absurd is
 answers_a_case Eval c (replies.Case bad) is = absurd is
 answers_a_case Circuit c (replies.Case bad) is = absurd is
 answers_a_case (Prove workers form) c (replies.Case bad) is = absurd is
 answers_a_case Verify c (replies.Case bad) is = absurd is
+answers_a_case Audit c (replies.Case bad) is = absurd is
 answers_a_case command c (replies.Program kind at) is = tt
 answers_a_case command c (replies.Deep levels) is = tt
 answers_a_case command c (replies.Wide height width) is = tt
@@ -320,10 +335,8 @@ answers_a_case command c (replies.Served jobs) is = tt
 answers_a_case command c (replies.History history) is = tt
 answers_a_case command c (replies.OutputCount have need) is = tt
 answers_a_case command c (replies.Proof bad) is = tt
-answers_a_case command c replies.Accepted is = tt
-answers_a_case command c (replies.RejectedSum layer round had claim) is = tt
-answers_a_case command c (replies.RejectedEnd layer had want) is = tt
-answers_a_case command c (replies.RejectedInput had want) is = tt
+answers_a_case command c (replies.Verdict line) is = tt
+answers_a_case command c (replies.Audit lines) is = tt
 
 of_case : (form : Form) (answers : Content → Reply → Type 0) (input : List ℕ) (reply : Reply) → IsOfACase reply → IsOfCase form input (λ c. answers c reply) → IsCaseReply form answers input reply
 of_case form answers input (replies.Outputs values) of is = is
@@ -341,10 +354,8 @@ of_case form answers input (replies.Served jobs) of is = is
 of_case form answers input (replies.History history) of is = is
 of_case form answers input (replies.OutputCount have need) of is = is
 of_case form answers input (replies.Proof bad) of is = is
-of_case form answers input replies.Accepted of is = is
-of_case form answers input (replies.RejectedSum layer round had claim) of is = is
-of_case form answers input (replies.RejectedEnd layer had want) of is = is
-of_case form answers input (replies.RejectedInput had want) of is = is
+of_case form answers input (replies.Verdict line) of is = is
+of_case form answers input (replies.Audit lines) of is = is
 
 -- what a command says of the case that the input spells is its reply to the input
 pub answered : (command : CaseCommand) (input : List ℕ) (c : Content) (result : Result Reply ReplyError) → IsWithinLimit input → reading (form_of command) input ≡ Ok c

@@ -38,10 +38,8 @@ found input (replies.Proved proved) is = absurd is
 found input (replies.Demo summary) is = absurd is
 found input (replies.OutputCount have need) is = absurd is
 found input (replies.Proof bad) is = absurd is
-found input replies.Accepted is = absurd is
-found input (replies.RejectedSum layer round had claim) is = absurd is
-found input (replies.RejectedEnd layer had want) is = absurd is
-found input (replies.RejectedInput had want) is = absurd is
+found input (replies.Verdict line) is = absurd is
+found input (replies.Audit lines) is = absurd is
 
 same_script : (r : Result (List ScriptJob) BadCase) (a b : List ScriptJob) → r ≡ Ok a → r ≡ Ok b → a ≡ b
 same_script r a b is is' = cc

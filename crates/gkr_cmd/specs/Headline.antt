@@ -7,14 +7,14 @@ use Rattle.case_prove.specs.Sound.{HasExceptionalChallenge, HasMeaning}
 use Rattle.proof_wire.specs.declared.form.ProofForm.{ProofForm}
 use Rattle.case_text.specs.Content.{Content}
 use Rattle.case_text.specs.Reading.{reading}
-use Rattle.case_text.specs.Replies.{reply_text}
+use Rattle.case_text.specs.Replies.{verdict_text}
 use Rattle.case_text.specs.declared.form.Form.TheVariants.{Plain, Full}
-use Rattle.case_text.specs.declared.reply.Reply.TheVariants as replies
+use Rattle.case_text.specs.declared.verdict.VerdictLine.TheVariants.{Accepted}
 use Rattle.gkr_cmd.specs.declared.status.Status.{Status}
 use Rattle.gkr_cmd.specs.declared.status.Status.TheVariants as statuses
 use Rattle.gkr_words.specs.declared.words.Command.{Command}
 use Rattle.gkr_words.specs.declared.words.Command.TheVariants.{OfCase, Demo, Serve, ServeHistory}
-use Rattle.gkr_words.specs.declared.words.CaseCommand.TheVariants.{Eval, Circuit, Prove, Verify}
+use Rattle.gkr_words.specs.declared.words.CaseCommand.TheVariants.{Eval, Circuit, Prove, Verify, Audit}
 use Rattle.script_text.specs.declared.script.MarkedJob.{MarkedJob}
 use Rattle.script_text.specs.declared.script.ScriptJob.{ScriptJob}
 use Rattle.script_text.specs.Scripts.{history_script_reading, script_reading}
@@ -22,9 +22,9 @@ use Rattle.gkr_words.specs.Commands.{ReadsCase, command_of, input_limit, read_ro
 use Rattle.gkr_cmd.specs.Reached.{IsReadUpTo, ReadsWithin}
 use Rattle.gkr_cmd.specs.Replies.{IsOfCase}
 use Rattle.case_prove.specs.Verified.{HasAcceptedProof}
-use Rattle.gkr_cmd.specs.Runs.{EndsWithReply, HasCircuit, IsEvaluable, IsInput}
-use Rattle.gkr_cmd.specs.Runs.{IsReplied, WritesHistory, WritesHonestProof, WritesNoMore}
-use Rattle.gkr_cmd.specs.Runs.{WritesReplies}
+use Rattle.gkr_cmd.specs.Runs.{EndsWithReply, HasCircuit, HasLineProof, IsEvaluable, IsInput}
+use Rattle.gkr_cmd.specs.Runs.{IsReplied, WritesAudit, WritesHistory, WritesHonestProof}
+use Rattle.gkr_cmd.specs.Runs.{WritesNoMore, WritesReplies}
 
 -- What the source and the sink of a run tell at one moment: the bytes that are left, the calls that
 -- read and the bytes that were written, where they tell them, and how often each has failed.
@@ -57,7 +57,7 @@ pub record Headline (run : Run) : Type 0 where
       → (run.ended ≡ statuses.Done) ↔ IsOfCase Full input HasAcceptedProof
   -- It then writes that they are accepted.
   pub accepted_text : (input : List ℕ) → Asks run (OfCase Verify) input → run.ended ≡ statuses.Done
-      → Grows run.before.written run.after.written (reply_text replies.Accepted)
+      → Grows run.before.written run.after.written (verdict_text Accepted)
   -- What `prove` writes, with any number of workers, is the case with its program's meaning as
   -- outputs and the one honest proof of them, by lines or by pairs as the words ask; and that text
   -- is accepted.
@@ -70,6 +70,15 @@ pub record Headline (run : Run) : Type 0 where
   pub sound : (input : List ℕ) (content : Content) → Asks run (OfCase Verify) input
       → reading Full input ≡ Ok content → run.ended ≡ statuses.Done → ¬ HasMeaning content
       → (n : ℕ) × HasExceptionalChallenge content n
+  -- `audit` answers exactly the cases with a proof by lines, whatever the verdict on it is.
+  pub audited : (input : List ℕ) → Asks run (OfCase Audit) input → IsReplied run.ended
+      → (run.ended ≡ statuses.Done) ↔ IsOfCase Full input HasLineProof
+  -- It then writes which message is the first that isn't the true one, and which challenge is the
+  -- first exceptional one: for an accepted case whose outputs aren't its program's meaning on its
+  -- inputs it always names a challenge, and for one that was proved it names nothing.
+  pub audit_text : (input : List ℕ) (content : Content) → Asks run (OfCase Audit) input
+      → reading Full input ≡ Ok content → run.ended ≡ statuses.Done
+      → WritesAudit content run.before.written run.after.written
   -- A case whose program has a circuit with as many inputs is proved.
   pub proved : (input : List ℕ) (workers : ℕ) (form : ProofForm)
       → Asks run (OfCase (Prove workers form)) input

@@ -1,11 +1,9 @@
 -- The reply to words and the bytes of the input, as a table: when each reply is the one.
 use Rattle.std.specs.Prelude.{◌≡◌, ◌<◌, ◌≤◌, ℕ, List, length, Option, Some, None, Result, Ok, Err}
 use Rattle.arr_compile.specs.Programs.{IsRefusedAs}
-use Rattle.arr_compile.specs.declared.refused.BadProgram.TheVariants.{At, Deep, Wide}
-use Rattle.case_prove.specs.declared.refused.Refused.{Refused}
-use Rattle.case_prove.specs.declared.refused.Refused.TheVariants as refusals
-use Rattle.gkr_cmd.specs.declared.reply_error.ReplyError.{ReplyError}
-use Rattle.gkr_cmd.specs.declared.reply_error.ReplyError.TheVariants as errors
+use Rattle.audit_core.specs.declared.report.Audit.{Audit}
+use Rattle.proof_wire.specs.declared.form.ProofForm.{ProofForm}
+use Rattle.proof_wire.specs.declared.form.ProofForm.TheVariants.{Line}
 use Rattle.case_text.specs.declared.form.Form.{Form}
 use Rattle.case_text.specs.declared.form.Form.TheVariants.{Plain, Full}
 use Rattle.case_text.specs.Content.{Content}
@@ -17,9 +15,13 @@ use Rattle.arr_compile.specs.Circuits.{IsTooLarge}
 use Rattle.layer_compile.specs.declared.refused.LayerRefused.TheVariants as layout
 use Rattle.case_prove.specs.Circuits.{IsLaidOut, IsCircuitMiscounted}
 use Rattle.case_prove.specs.Evaluated.{IsEvaluated, IsMiscounted}
-use Rattle.case_prove.specs.Verified.{IsVerdictOn, IsOutputMiscounted, IsBadProof}
+use Rattle.case_prove.specs.Audited.{IsAudited}
+use Rattle.case_prove.specs.Verified.{IsVerdictOn, IsOutputMiscounted, IsBadProof, proof_form}
+use Rattle.case_text.specs.declared.verdict.AuditLines.{AuditLines}
+use Rattle.case_text.specs.declared.verdict.VerdictLine.{VerdictLine}
+use Rattle.case_text.specs.declared.verdict.VerdictLine.TheVariants as told
 use Rattle.gkr_layers.specs.declared.verdict.Verdict.{Verdict}
-use Rattle.gkr_layers.specs.declared.verdict.Verdict.TheVariants as verdicts
+use Rattle.gkr_cmd.specs.Told.{audit_lines, verdict_line}
 use Rattle.gkr_cmd.specs.declared.status.Status.{Status}
 use Rattle.gkr_cmd.specs.declared.status.Status.TheVariants as statuses
 use Rattle.gkr_words.specs.declared.words.CaseCommand.{CaseCommand}
@@ -73,20 +75,33 @@ IsCircuitAnswer c (replies.InputCount have need) = IsCircuitMiscounted c have ne
 IsCircuitAnswer c (replies.Circuit sizes) = IsLaidOut c sizes
 IsCircuitAnswer c reply = ⊥
 
--- when a reply is what `verify` says of a case
+-- when a reply is the refusal of a case whose proof is read as one of this form
+abbrev pub IsProofRefusal : ProofForm → Content → Reply → Type 0
+IsProofRefusal form c (replies.Program kind at) = IsRefusedAs c.program at kind
+IsProofRefusal form c (replies.Deep levels) = IsTooLarge c.program (layout.Deep levels)
+IsProofRefusal form c (replies.Wide height width) = IsTooLarge c.program (layout.Wide height width)
+IsProofRefusal form c (replies.InputCount have need) = IsCircuitMiscounted c have need
+IsProofRefusal form c (replies.OutputCount have need) = IsOutputMiscounted c have need
+IsProofRefusal form c (replies.Proof bad) = IsBadProof form c bad
+IsProofRefusal form c reply = ⊥
+
+-- The line is the one on a proof with the verdict on the case's.
+abbrev pub IsVerdictLine : Content → VerdictLine → Type 0
+IsVerdictLine c line = (verdict : Verdict) × IsVerdictOn c verdict × (line ≡ verdict_line verdict)
+
+-- when a reply is what `verify` says of a case, whose proof it reads in the form that its fourth byte names
 abbrev pub IsVerifyAnswer : Content → Reply → Type 0
-IsVerifyAnswer c (replies.Program kind at) = IsRefusedAs c.program at kind
-IsVerifyAnswer c (replies.Deep levels) = IsTooLarge c.program (layout.Deep levels)
-IsVerifyAnswer c (replies.Wide height width) = IsTooLarge c.program (layout.Wide height width)
-IsVerifyAnswer c (replies.InputCount have need) = IsCircuitMiscounted c have need
-IsVerifyAnswer c (replies.OutputCount have need) = IsOutputMiscounted c have need
-IsVerifyAnswer c (replies.Proof bad) = IsBadProof c bad
-IsVerifyAnswer c replies.Accepted = IsVerdictOn c verdicts.Accepted
-IsVerifyAnswer c (replies.RejectedSum layer round had claim) = IsVerdictOn c
-    (verdicts.Sum layer round had claim)
-IsVerifyAnswer c (replies.RejectedEnd layer had want) = IsVerdictOn c (verdicts.End layer had want)
-IsVerifyAnswer c (replies.RejectedInput had want) = IsVerdictOn c (verdicts.Input had want)
-IsVerifyAnswer c reply = ⊥
+IsVerifyAnswer c (replies.Verdict line) = IsVerdictLine c line
+IsVerifyAnswer c reply = IsProofRefusal (proof_form c) c reply
+
+-- The lines are those of the audit of the case.
+abbrev pub AreAuditLines : Content → AuditLines → Type 0
+AreAuditLines c lines = (audit : Audit) × IsAudited c audit × (lines ≡ audit_lines audit)
+
+-- when a reply is what `audit` says of a case, whose proof it reads as one by lines
+abbrev pub IsAuditAnswer : Content → Reply → Type 0
+IsAuditAnswer c (replies.Audit lines) = AreAuditLines c lines
+IsAuditAnswer c reply = IsProofRefusal Line c reply
 
 -- when a reply is the one of a command that reads a case of this form, and says this of it
 abbrev pub IsCaseReply : Form → (Content → Reply → Type 0) → List ℕ → Reply → Type 0
@@ -101,6 +116,7 @@ form_of commands.Eval = Plain
 form_of commands.Circuit = Plain
 form_of (commands.Prove workers form) = Plain
 form_of commands.Verify = Full
+form_of commands.Audit = Full
 
 -- when a reply is what a command says of a case
 abbrev pub IsAnswer : CaseCommand → Content → Reply → Type 0
@@ -108,6 +124,7 @@ IsAnswer commands.Eval = IsEvalAnswer
 IsAnswer commands.Circuit = IsCircuitAnswer
 IsAnswer (commands.Prove workers form) = IsProveAnswer form
 IsAnswer commands.Verify = IsVerifyAnswer
+IsAnswer commands.Audit = IsAuditAnswer
 
 -- when a reply is the one of `demo`, whose case is always proved and accepted
 abbrev pub IsDemoAnswer : ℕ → Reply → Type 0
@@ -167,6 +184,13 @@ IsCommandReply (Some (ServeHistory workers provers clients)) input reply =
 abbrev pub IsReply : List (List ℕ) → List ℕ → Reply → Type 0
 IsReply words input reply = IsCommandReply (command_of words) input reply
 
+-- the status that tells a verdict
+abbrev pub verdict_status : VerdictLine → Status
+verdict_status told.Accepted = statuses.Done
+verdict_status (told.Sum layer round had claim) = statuses.Rejected
+verdict_status (told.End layer had want) = statuses.Rejected
+verdict_status (told.Input had want) = statuses.Rejected
+
 abbrev pub status_of : Reply → Status
 status_of (replies.Outputs values) = statuses.Done
 status_of replies.Usage = statuses.Usage
@@ -183,10 +207,8 @@ status_of (replies.Proved proved) = statuses.Done
 status_of (replies.Demo summary) = statuses.Done
 status_of (replies.Served jobs) = statuses.Done
 status_of (replies.History history) = statuses.Done
-status_of replies.Accepted = statuses.Done
-status_of (replies.RejectedSum layer round had claim) = statuses.Rejected
-status_of (replies.RejectedEnd layer had want) = statuses.Rejected
-status_of (replies.RejectedInput had want) = statuses.Rejected
+status_of (replies.Verdict line) = verdict_status line
+status_of (replies.Audit audit) = statuses.Done
 
 -- the number that the program ends with
 abbrev pub code_of : Status → ℕ
@@ -201,20 +223,3 @@ code_of statuses.ReadFault = 7
 code_of statuses.WriteFault = 8
 code_of statuses.Memory = 9
 code_of statuses.TooLong = 10
-
--- the reply to a case that is refused, where memory didn't run out
-abbrev pub refused_reply : Refused → Result Reply ReplyError
-refused_reply (refusals.Program (At at kind)) = Ok (replies.Program kind at)
-refused_reply (refusals.Program (Deep levels)) = Ok (replies.Deep levels)
-refused_reply (refusals.Program (Wide height width)) = Ok (replies.Wide height width)
-refused_reply (refusals.Input have need) = Ok (replies.InputCount have need)
-refused_reply (refusals.Output have need) = Ok (replies.OutputCount have need)
-refused_reply (refusals.Proof bad) = Ok (replies.Proof bad)
-refused_reply refusals.Memory = Err errors.Memory
-
--- the reply to a case with a verdict
-abbrev pub verdict_reply : Verdict → Reply
-verdict_reply verdicts.Accepted = replies.Accepted
-verdict_reply (verdicts.Sum layer round had claim) = replies.RejectedSum layer round had claim
-verdict_reply (verdicts.End layer had want) = replies.RejectedEnd layer had want
-verdict_reply (verdicts.Input had want) = replies.RejectedInput had want

@@ -1,10 +1,14 @@
 -- The laws that the promises of a run stand on, together. No public contract cites this.
-use Rattle.std.specs.Prelude.{◌≡◌, ◌<◌, ◌↔◌, ℕ, List, Ok, length}
+use Rattle.std.specs.Prelude.{◌≡◌, ◌<◌, ◌↔◌, ℕ, List, Ok, IsSome, IsTrue, length}
+use Rattle.audit_core.specs.Audit.{names_nothing}
+use Rattle.audit_core.specs.declared.report.Audit.{Audit}
+use Rattle.case_prove.specs.Audited.{IsAudited}
 use Rattle.case_prove.specs.Answers.{IsProveAnswer}
 use Rattle.case_prove.specs.Proved.{IsProved}
 use Rattle.case_prove.specs.Sound.{HasExceptionalChallenge, HasMeaning}
 use Rattle.case_prove.specs.Verified.{HasAcceptedProof, IsVerdictOn}
 use Rattle.proof_wire.specs.declared.form.ProofForm.{ProofForm}
+use Rattle.proof_wire.specs.declared.form.ProofForm.TheVariants.{Line}
 use Rattle.case_text.specs.Content.{Content, Fits}
 use Rattle.case_text.specs.Reading.{reading}
 use Rattle.case_text.specs.Spelling.{Spells, lower_case_text}
@@ -13,9 +17,10 @@ use Rattle.case_text.specs.declared.form.Form.TheVariants.{Full, Plain}
 use Rattle.case_text.specs.declared.reply.Reply.{Reply}
 use Rattle.gkr_layers.specs.declared.verdict.Verdict.TheVariants as verdicts
 use Rattle.gkr_cmd.specs.declared.status.Status.TheVariants as statuses
-use Rattle.gkr_cmd.specs.Replies.{IsCaseReply, IsCircuitAnswer, IsDemoAnswer, IsEvalAnswer, IsOfCase}
+use Rattle.gkr_cmd.specs.Replies.{IsAuditAnswer, IsCaseReply, IsCircuitAnswer, IsDemoAnswer}
+use Rattle.gkr_cmd.specs.Replies.{IsEvalAnswer, IsOfCase}
 use Rattle.gkr_cmd.specs.Replies.{IsVerifyAnswer, status_of}
-use Rattle.gkr_cmd.specs.Runs.{HasCircuit, IsEvaluable}
+use Rattle.gkr_cmd.specs.Runs.{HasCircuit, HasLineProof, IsEvaluable}
 
 pub record RunLaws : Type 0 where
   pub evaluable : (input : List ℕ) (reply : Reply) → IsCaseReply Plain IsEvalAnswer input reply
@@ -29,6 +34,18 @@ pub record RunLaws : Type 0 where
       → status_of reply ≡ statuses.Done
   pub accepted : (input : List ℕ) (reply : Reply) → IsCaseReply Full IsVerifyAnswer input reply
       → IsOfCase Full input HasAcceptedProof → status_of reply ≡ statuses.Done
+  pub audited : (input : List ℕ) (reply : Reply) → IsCaseReply Full IsAuditAnswer input reply
+      → IsOfCase Full input HasLineProof → status_of reply ≡ statuses.Done
+  pub one_audit : (c : Content) (audit other : Audit) → IsAudited c audit → IsAudited c other
+      → audit ≡ other
+  pub audit_verdict : (c : Content) (audit : Audit) → IsAudited c audit
+      → IsVerdictOn c audit.verdict
+  pub audit_meaning : (c : Content) (audit : Audit) → IsAudited c audit
+      → IsTrue audit.same ↔ HasMeaning c
+  pub audit_named : (c : Content) (audit : Audit) → IsAudited c audit
+      → audit.verdict ≡ verdicts.Accepted → ¬ HasMeaning c → IsSome audit.challenge
+  pub audit_unnamed : (c proved : Content) → IsProved Line c proved
+      → IsAudited proved names_nothing
   pub sound : (c : Content) → IsVerdictOn c verdicts.Accepted → ¬ HasMeaning c
       → (n : ℕ) × HasExceptionalChallenge c n
   pub proved_accepted : (form : ProofForm) (c p : Content) → IsProved form c p

@@ -1,17 +1,25 @@
 -- What a run does with its reply.
-use Rattle.std.specs.Prelude.{◌≡◌, ℕ, List, [], Some, None, ⊤, Option, length}
+use Rattle.std.specs.Prelude.{◌≡◌, ◌↔◌, ℕ, List, [], Some, None, ⊤, Option, IsSome, IsTrue, length}
 use Rattle.io_edge.specs.Written.{Grows}
 use Rattle.arr_ast.specs.ProgramTree.{ProgramTree}
 use Rattle.arr_check.specs.Program.{input_count}
 use Rattle.arr_compile.specs.Programs.{IsAccepted}
 use Rattle.arr_compile.specs.Circuits.{IsCompiled}
+use Rattle.audit_core.specs.Audit.{names_nothing}
+use Rattle.audit_core.specs.declared.report.Audit.{Audit}
 use Rattle.circuit_core.specs.Parts.{Parts}
+use Rattle.field_ext.specs.Field.{F}
+use Rattle.gkr_layers.specs.declared.verdict.Verdict.TheVariants.{Accepted}
+use Rattle.case_prove.specs.Audited.{IsAudited}
 use Rattle.case_prove.specs.Proved.{IsProved}
-use Rattle.case_prove.specs.Verified.{HasAcceptedProof}
+use Rattle.case_prove.specs.Sound.{HasMeaning}
+use Rattle.case_prove.specs.Verified.{HasAcceptedProof, HasProof, IsVerdictOn}
 use Rattle.proof_wire.specs.declared.form.ProofForm.{ProofForm}
+use Rattle.proof_wire.specs.declared.form.ProofForm.TheVariants.{Line}
+use Rattle.proof_wire.specs.declared.messages.Messages.{Messages}
 use Rattle.case_text.specs.Content.{Content}
 use Rattle.case_text.specs.Histories.{History}
-use Rattle.case_text.specs.Replies.{history_text, reply_text, served_text}
+use Rattle.case_text.specs.Replies.{audit_text, history_text, reply_text, served_text}
 use Rattle.case_text.specs.Served.{Served}
 use Rattle.script_text.specs.declared.script.MarkedJob.{MarkedJob}
 use Rattle.script_text.specs.declared.script.ScriptJob.{ScriptJob}
@@ -24,6 +32,7 @@ use Rattle.gkr_words.specs.declared.words.Command.TheVariants.{OfCase, Demo, Ser
 use Rattle.gkr_cmd.specs.declared.status.Status.{Status}
 use Rattle.gkr_cmd.specs.declared.status.Status.TheVariants as statuses
 use Rattle.gkr_cmd.specs.Replies.{IsOfCase, IsReply, status_of}
+use Rattle.gkr_cmd.specs.Told.{audit_lines}
 use Rattle.gkr_cmd.specs.Reached.{WritesFront}
 
 -- What a command reads is told by the source. `demo`, and words that are no command, read nothing,
@@ -76,6 +85,26 @@ pub record HasCircuit (c : Content) : Type 0 where
   pub parts : Parts
   pub compiled : IsCompiled c.program parts
   pub counted : length c.inputs ≡ parts.inputs
+
+-- A case with as many inputs and outputs as its program's circuit, and with a proof that spells messages by lines, of the circuit's
+-- shape.
+pub record HasLineProof (c : Content) : Type 0 where
+  pub parts : Parts
+  pub outputs : List F
+  pub messages : Messages
+  pub proof : HasProof Line c parts outputs messages
+
+-- The run wrote the lines of the case's audit. It begins with the verifier's answer, and tells whether the outputs are the program's
+-- meaning on the inputs. For an accepted case whose outputs aren't, it names an exceptional challenge; for a case that was proved,
+-- all is well and it names nothing.
+pub record WritesAudit (c : Content) (before after : Option (List ℕ)) : Type 0 where
+  pub audit : Audit
+  pub is_audited : IsAudited c audit
+  pub written : Grows before after (audit_text (audit_lines audit))
+  pub verdict : IsVerdictOn c audit.verdict
+  pub meaning : IsTrue audit.same ↔ HasMeaning c
+  pub named : audit.verdict ≡ Accepted → ¬ HasMeaning c → IsSome audit.challenge
+  pub unnamed : (plain : Content) → IsProved Line plain c → audit ≡ names_nothing
 
 -- The run wrote the text of this case with its program's meaning on its inputs as outputs and the
 -- one honest proof of this form of them, and that text is one of an accepted case.

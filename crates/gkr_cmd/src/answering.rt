@@ -5,14 +5,13 @@ ghost use Rattle.case_text.specs.Forms.{Allows};
 ghost use Rattle.case_text.specs.declared.form.Form.TheVariants.{Full};
 ghost use Rattle.phase_run.specs.Work.{IsWorkerCount};
 ghost use Rattle.gkr_words.specs.Commands.{HasWorkers};
-ghost use Rattle.gkr_cmd.specs.Replies.{form_of, IsAnswer, IsCaseReply, IsCircuitAnswer, IsEvalAnswer, IsVerifyAnswer, IsWithinLimit, refused_reply, verdict_reply};
+ghost use Rattle.gkr_cmd.specs.Replies.{form_of, IsAnswer, IsAuditAnswer, IsCaseReply, IsCircuitAnswer, IsEvalAnswer, IsVerifyAnswer, IsWithinLimit};
 ghost use Rattle.case_prove.specs.Answers.{IsProveAnswer};
 
 use crate::reply_error::ReplyError;
-use arr_compile::BadProgram;
-use case_prove::{Refused, circuit_case, eval_case, prove_case, verify_case};
+use crate::told::{audit_lines, refused_reply, verdict_line};
+use case_prove::{audit_case, circuit_case, eval_case, prove_case, verify_case};
 use case_text::{Case, CaseRefused, Form, Outputs, Reply, read_case};
-use gkr_verify::Verdict;
 use gkr_words::{CaseCommand, Command};
 use io_edge::Gate;
 use proof_wire::ProofForm;
@@ -49,7 +48,7 @@ fn form_of(command: CaseCommand) -> Form
 {
     match command {
         CaseCommand::Eval | CaseCommand::Circuit | CaseCommand::Prove { .. } => Form::Plain,
-        CaseCommand::Verify => Form::Full,
+        CaseCommand::Verify | CaseCommand::Audit => Form::Full,
     }
 }
 
@@ -72,6 +71,7 @@ fn answer_case<R: Threads + Sync, G: Gate>(
         CaseCommand::Circuit => lay_out(alloc, case),
         CaseCommand::Prove { workers, form } => prove(rt, alloc, case, form, workers, gate),
         CaseCommand::Verify => verify(alloc, case),
+        CaseCommand::Audit => audit(rt, alloc, case),
     }
 }
 
@@ -128,44 +128,21 @@ fn verify(alloc: Global, case: &Case) -> Result<Reply, ReplyError>
     ensures fault { result ≢ Err ReplyError.ReadFault }
 {
     match verify_case(alloc, case) {
-        Ok(verdict) => Ok(verdict_reply(verdict)),
+        Ok(verdict) => Ok(Reply::Verdict(verdict_line(verdict))),
         Err(refused) => refused_reply(refused),
     }
 }
 
-/// The reply to a case with a verdict.
-fn verdict_reply(verdict: Verdict) -> Reply
-    ensures { result ≡ verdict_reply verdict }
+/// What `audit` says of a case.
+#[tactic(auto, using(crate::proofs::Replied::audit_replied, crate::proofs::Replied::audit_refused, crate::proofs::Replied::full_has))]
+fn audit<R: Threads + Sync>(rt: &R, alloc: Global, case: &Case) -> Result<Reply, ReplyError>
+    requires outputs { Allows Full case.now.outputs }
+    requires proof { Allows Full case.now.proof }
+    ensures reply { IfOk result (λ reply. IsAuditAnswer case.now reply) }
+    ensures fault { result ≢ Err ReplyError.ReadFault }
 {
-    match verdict {
-        Verdict::Accepted => Reply::Accepted,
-        Verdict::Sum {
-            layer,
-            round,
-            had,
-            claim,
-        } => Reply::RejectedSum {
-            layer,
-            round,
-            had,
-            claim,
-        },
-        Verdict::End { layer, had, want } => Reply::RejectedEnd { layer, had, want },
-        Verdict::Input { had, want } => Reply::RejectedInput { had, want },
-    }
-}
-
-/// The reply to a case that is refused.
-fn refused_reply(refused: Refused) -> Result<Reply, ReplyError>
-    ensures { result ≡ refused_reply refused }
-{
-    match refused {
-        Refused::Program(BadProgram::At { at, kind }) => Ok(Reply::Program { kind, at }),
-        Refused::Program(BadProgram::Deep { levels }) => Ok(Reply::Deep { levels }),
-        Refused::Program(BadProgram::Wide { height, width }) => Ok(Reply::Wide { height, width }),
-        Refused::Input { have, need } => Ok(Reply::InputCount { have, need }),
-        Refused::Output { have, need } => Ok(Reply::OutputCount { have, need }),
-        Refused::Proof(bad) => Ok(Reply::Proof(bad)),
-        Refused::Memory => Err(ReplyError::Memory),
+    match audit_case(rt, alloc, case) {
+        Ok(audit) => Ok(Reply::Audit(audit_lines(audit))),
+        Err(refused) => refused_reply(refused),
     }
 }

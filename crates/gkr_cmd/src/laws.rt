@@ -4,11 +4,11 @@ ghost use Rattle.std.specs.Prelude.{◌≡◌, ◌≢◌, ◌<◌, ◌≤◌, �
 ghost use Rattle.case_text.specs.declared.form.Form.TheVariants.{Full, Plain};
 ghost use Rattle.case_text.specs.declared.reply.Reply.{Reply};
 ghost use Rattle.gkr_cmd.specs.declared.status.Status.TheVariants.{Done};
-ghost use Rattle.gkr_cmd.specs.Replies.{IsCaseReply, IsCircuitAnswer, IsDemoAnswer, IsEvalAnswer, IsVerifyAnswer, IsOfCase, IsReply, status_of};
+ghost use Rattle.gkr_cmd.specs.Replies.{IsAuditAnswer, IsCaseReply, IsCircuitAnswer, IsDemoAnswer, IsEvalAnswer, IsVerifyAnswer, IsOfCase, IsReply, status_of};
 ghost use Rattle.proof_wire.specs.declared.form.ProofForm.{ProofForm};
 ghost use Rattle.case_prove.specs.Answers.{IsProveAnswer};
 ghost use Rattle.case_prove.specs.Verified.{HasAcceptedProof};
-ghost use Rattle.gkr_cmd.specs.Runs.{HasCircuit, IsEvaluable};
+ghost use Rattle.gkr_cmd.specs.Runs.{HasCircuit, HasLineProof, IsEvaluable};
 ghost use Rattle.gkr_cmd.specs.Demo.{demo_case};
 ghost use Rattle.gkr_words.specs.Commands.{PrintsHistory, command_of};
 
@@ -17,7 +17,7 @@ use arr_compile::laws::{
     one_refusal, one_tree,
 };
 use arr_lower::laws::nodes_in_order;
-use case_prove::laws::proved_is_one;
+use case_prove::laws::{audit_is_one, proved_is_one};
 use proof_wire::laws::{no_trouble, one_form, one_reading, one_trouble};
 
 /// Words and an input have at most one reply, but where the words ask for a history, which the schedule chooses.
@@ -38,6 +38,7 @@ pub fn one_reply()
     no_trouble();
     circuit_computes();
     proved_is_one();
+    audit_is_one();
 }
 
 /// The reply to a case with an accepted program and as many inputs as it needs is its outputs.
@@ -88,6 +89,20 @@ pub fn demo_has_circuit()
 pub fn accepted_is_done()
     ensures { (input : List ℕ) (reply : Reply) → IsCaseReply Full IsVerifyAnswer input reply
         → IsOfCase Full input HasAcceptedProof → status_of reply ≡ Done }
+{
+    one_circuit();
+    one_circuit_refusal();
+    compiled_or_refused();
+    one_form();
+    one_reading();
+    one_trouble();
+    no_trouble();
+}
+
+/// The reply of `audit` to a case with a proof by lines is its audit, whatever the verdict.
+pub fn audited_is_done()
+    ensures { (input : List ℕ) (reply : Reply) → IsCaseReply Full IsAuditAnswer input reply
+        → IsOfCase Full input HasLineProof → status_of reply ≡ Done }
 {
     one_circuit();
     one_circuit_refusal();

@@ -22,6 +22,7 @@ mod replying;
 mod run;
 mod serving;
 mod status;
+mod told;
 
 pub use program::{NoWords, run_program};
 pub use run::{gkr_run, run_alone};

@@ -6,13 +6,17 @@ ghost use Rattle.gkr_cmd.specs.Headline.{KeepsPromises};
 ghost use Rattle.gkr_cmd.specs.RunLaws.{RunLaws};
 
 use crate::laws::{
-    accepted_is_done, demo_is_done, evaluable_is_done, laid_out_is_done, provable_is_done,
+    accepted_is_done, audited_is_done, demo_is_done, evaluable_is_done, laid_out_is_done,
+    provable_is_done,
 };
 use crate::output::finish;
 use crate::replying::reply_alone;
 use crate::serving::reply_service;
 use crate::status::Status;
-use case_prove::laws::{proved_is_accepted, proved_is_full, proved_is_short, sound};
+use case_prove::laws::{
+    accepted_falsehood_is_named, audit_has_the_verdict, audit_is_one, audit_tells_the_meaning,
+    proved_is_accepted, proved_is_full, proved_is_short, proved_is_unnamed, sound,
+};
 use case_text::laws::read_exactly;
 use gkr_words::{Command, named_command};
 use io_edge::{Gate, Sink, Source};
@@ -30,6 +34,12 @@ fn run_laws()
     provable_is_done();
     demo_is_done();
     accepted_is_done();
+    audited_is_done();
+    audit_is_one();
+    audit_has_the_verdict();
+    audit_tells_the_meaning();
+    accepted_falsehood_is_named();
+    proved_is_unnamed();
     sound();
     proved_is_accepted();
     proved_is_full();

@@ -3,7 +3,7 @@
 ghost use Rattle.std.specs.Prelude.{◌≡◌};
 ghost use Rattle.gkr_cmd.specs.Replies.{status_of, code_of};
 
-use case_text::Reply;
+use case_text::{Reply, VerdictLine};
 
 /// The status that a run ends with.
 #[derive(Clone, Copy, Debug, PartialEq, Eq)]
@@ -44,10 +44,9 @@ impl Status {
             | Reply::Demo(_)
             | Reply::Served(_)
             | Reply::History(_)
-            | Reply::Accepted => Status::Done,
-            Reply::RejectedSum { .. } | Reply::RejectedEnd { .. } | Reply::RejectedInput { .. } => {
-                Status::Rejected
-            }
+            | Reply::Audit(_)
+            | Reply::Verdict(VerdictLine::Accepted) => Status::Done,
+            Reply::Verdict(_) => Status::Rejected,
             Reply::Usage => Status::Usage,
             Reply::TooLong(_) => Status::TooLong,
             Reply::Case(_) => Status::BadCase,

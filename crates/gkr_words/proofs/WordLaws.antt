@@ -18,7 +18,7 @@ use Rattle.clap.specs.Words.{fault_of, subcommand_of}
 use Rattle.clap.proofs.OnLiterals.{clap_on_literals}
 use Rattle.proof_wire.specs.declared.form.ProofForm.TheVariants.{Line, Pair}
 use Rattle.gkr_words.specs.declared.words.Command.TheVariants.{OfCase, Demo, Serve, ServeHistory}
-use Rattle.gkr_words.specs.declared.words.CaseCommand.TheVariants.{Eval, Circuit, Prove, Verify}
+use Rattle.gkr_words.specs.declared.words.CaseCommand.TheVariants.{Eval, Circuit, Prove, Verify, Audit}
 use Rattle.gkr_words.specs.Commands.{command_line, command_of, command_of_rows, command_unless, demo_of, if_worker_count, number_of, prove_of, workers_of}
 use Rattle.gkr_words.proofs.Numbers.{number_taken}
 use Rattle.gkr_words.proofs.WordsRead.{command_taken}
@@ -109,6 +109,10 @@ verify_is : IsNameOf (codes "verify") (leaf (codes "verify"))
 unfolding clap_on_literals
 verify_is = record { stops = refl; passes = refl; found = refl; named = refl }
 
+audit_is : IsNameOf (codes "audit") (leaf (codes "audit"))
+unfolding clap_on_literals
+audit_is = record { stops = refl; passes = refl; found = refl; named = refl }
+
 demo_is : IsNameOf (codes "demo") (leaf (codes "demo"))
 unfolding clap_on_literals
 demo_is = record { stops = refl; passes = refl; found = refl; named = refl }
@@ -136,6 +140,10 @@ circuit_words program = by_leaf (codes "circuit") (leaf (codes "circuit")) circu
 pub verify_words : (program : Text) → command_of (program ∷ codes "verify" ∷ []) ≡ Some (OfCase Verify)
 unfolding clap_on_literals
 verify_words program = by_leaf (codes "verify") (leaf (codes "verify")) verify_is program [] refl
+
+pub audit_words : (program : Text) → command_of (program ∷ codes "audit" ∷ []) ≡ Some (OfCase Audit)
+unfolding clap_on_literals
+audit_words program = by_leaf (codes "audit") (leaf (codes "audit")) audit_is program [] refl
 
 pub prove_words : (program : Text) → command_of (program ∷ codes "prove" ∷ []) ≡ Some (OfCase (Prove 1 Line))
 unfolding clap_on_literals
@@ -431,17 +439,17 @@ is_other name word other = elim (cases_Bool (bytes_eq name word)) [
   | inr differs ↦ differs
 ]
 
-pub other_words : (program word : Text) (ws : List Text) → word ≢ codes "eval" → word ≢ codes "circuit" → word ≢ codes "prove" → word ≢ codes "verify" → word ≢ codes "demo" → word ≢ codes "serve"
+pub other_words : (program word : Text) (ws : List Text) → word ≢ codes "eval" → word ≢ codes "circuit" → word ≢ codes "prove" → word ≢ codes "verify" → word ≢ codes "audit" → word ≢ codes "demo" → word ≢ codes "serve"
     → command_of (program ∷ word ∷ ws) ≡ None
 unfolding command_of
-other_words program word ws a b c d e f =
+other_words program word ws a b c d e f g =
     let none : subcommand_met (names_of line) idle word ≡ None =
-    names_by word (is_other (codes "eval") word a) (is_other (codes "circuit") word b) (is_other (codes "prove") word c) (is_other (codes "verify") word d) (is_other (codes "demo") word e) (is_other (codes "serve") word f) in
+    names_by word (is_other (codes "eval") word a) (is_other (codes "circuit") word b) (is_other (codes "prove") word c) (is_other (codes "verify") word d) (is_other (codes "audit") word e) (is_other (codes "demo") word f) (is_other (codes "serve") word g) in
     unless_fails (fault_of command_line (program ∷ word ∷ ws)) (subcommand_of command_line (program ∷ word ∷ ws)) (by_dashes word ws (bytes_eq word (45 ∷ 45 ∷ [])) refl none)
   where
     names_by : (word : Text) → bytes_eq (codes "eval") word ≡ false → bytes_eq (codes "circuit") word ≡ false → bytes_eq (codes "prove") word ≡ false → bytes_eq (codes "verify") word ≡ false
-        → bytes_eq (codes "demo") word ≡ false → bytes_eq (codes "serve") word ≡ false → subcommand_met (names_of line) idle word ≡ None
-    names_by word a b c d e f = rw (a, b, c, d, e, f) refl
+        → bytes_eq (codes "audit") word ≡ false → bytes_eq (codes "demo") word ≡ false → bytes_eq (codes "serve") word ≡ false → subcommand_met (names_of line) idle word ≡ None
+    names_by word a b c d e f g = rw (a, b, c, d, e, f, g) refl
 
 pub no_words : command_of [] ≡ None
 unfolding command_of clap_on_literals

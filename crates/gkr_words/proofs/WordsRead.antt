@@ -103,7 +103,8 @@ named_workers name number workers provers clients proof history =
     (case_if (bytes_eq name (codes "eval")) _ _ tt
     (case_if (bytes_eq name (codes "circuit")) _ _ tt
     (case_if (bytes_eq name (codes "prove")) _ _ (prove_workers (workers_of workers) (form_named proof) (workers_in workers))
-    (case_if (bytes_eq name (codes "verify")) _ _ tt tt)))))
+    (case_if (bytes_eq name (codes "verify")) _ _ tt
+    (case_if (bytes_eq name (codes "audit")) _ _ tt tt))))))
 
 unless_workers : (kinds : Kinds) (entered : Option (Text × List Row)) → IfSome (command_unless kinds entered) HasWorkers
 unless_workers [] None = tt

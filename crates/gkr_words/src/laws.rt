@@ -24,6 +24,8 @@ pub fn words_alone()
         ≡ Some (Command.OfCase (CaseCommand.Prove 1 ProofForm.Line)) }
     ensures verify { (program : List ℕ)
         → command_of (program ∷ codes "verify" ∷ []) ≡ Some (Command.OfCase CaseCommand.Verify) }
+    ensures audit { (program : List ℕ)
+        → command_of (program ∷ codes "audit" ∷ []) ≡ Some (Command.OfCase CaseCommand.Audit) }
     ensures serve { (program : List ℕ)
         → command_of (program ∷ codes "serve" ∷ []) ≡ Some (Command.Serve 1 1 1) }
     ensures history { (program : List ℕ)
@@ -67,6 +69,6 @@ pub fn other_words()
     ensures own_name { (program : List ℕ) → command_of (program ∷ []) ≡ None }
     ensures other { (program word : List ℕ) (rest : List (List ℕ)) → word ≢ codes "eval"
         → word ≢ codes "circuit" → word ≢ codes "prove" → word ≢ codes "verify"
-        → word ≢ codes "demo" → word ≢ codes "serve"
+        → word ≢ codes "audit" → word ≢ codes "demo" → word ≢ codes "serve"
         → command_of (program ∷ word ∷ rest) ≡ None }
 {}

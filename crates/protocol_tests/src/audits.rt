@@ -34,7 +34,15 @@ fn audited<R: Threads + Sync + Abort + AllocGlobal>(
     assert!(rt; circuit.outputs() == 1);
     let values = layer_values(rt, rt.alloc(), circuit, inputs)?;
     let outputs = [Fp::reduce(output)];
-    let audit = audit(rt, rt.alloc(), circuit, &values, &outputs, &messages, &mut given)?;
+    let audit = audit(
+        rt,
+        rt.alloc(),
+        circuit,
+        &values,
+        &outputs,
+        &messages,
+        &mut given,
+    )?;
     assert!(rt; !given.has(1));
     Ok(audit)
 }
@@ -69,10 +77,34 @@ fn audits_a_copy(rt: HostRuntime) -> Result<(), Fail> {
     let other_line = [0, -5, 15, 120, -80, -40, 5, 15];
     for (output, messages, challenges, accepted, same, message, challenge) in [
         (5, truth, [2, 3, 4, 6], true, true, None, None),
-        (0, false_round, [2, 3, 4, 6], true, false, round(0, 1), at(1, 3)),
-        (0, false_line, [2, 3, 4, 1], true, false, round(0, 1), at(3, 1)),
+        (
+            0,
+            false_round,
+            [2, 3, 4, 6],
+            true,
+            false,
+            round(0, 1),
+            at(1, 3),
+        ),
+        (
+            0,
+            false_line,
+            [2, 3, 4, 1],
+            true,
+            false,
+            round(0, 1),
+            at(3, 1),
+        ),
         // At another challenge the false round doesn't pass.
-        (0, false_round, [2, 5, 4, 6], false, false, round(0, 1), None),
+        (
+            0,
+            false_round,
+            [2, 5, 4, 6],
+            false,
+            false,
+            round(0, 1),
+            None,
+        ),
         // The true messages of another claim: nothing but the outputs is false.
         (6, truth, [2, 3, 4, 6], false, false, None, None),
         (5, zeros, [2, 3, 4, 6], false, true, round(0, 1), None),

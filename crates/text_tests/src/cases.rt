@@ -2,8 +2,8 @@
 
 use arr_ast::ProgramKind;
 use case_text::{
-    BadCase, CaseRefused, DueKind, Form, Outputs, Reply, ServedJob, read_case, write_case,
-    write_reply, write_served,
+    AuditLines, BadCase, CaseRefused, DueKind, Form, MessagePlace, Outputs, Reply, ServedJob,
+    VerdictLine, read_case, write_case, write_reply, write_served,
 };
 use field_ext::{Ext, Fp};
 use proof_wire::BadProof;
@@ -144,24 +144,24 @@ fn tells_verdicts_and_counts(rt: HostRuntime) -> Result<(), Fail> {
     let alloc = rt.alloc();
     let number = |n: u64| Ext::embed(Fp::reduce(n));
     let values = Outputs::new(vec![in alloc; Fp::reduce(5), Fp::reduce(2147483646)]?);
-    let sum = Reply::RejectedSum {
+    let sum = Reply::Verdict(VerdictLine::Sum {
         layer: 0,
         round: 1,
         had: number(2),
         claim: Ext::of(Fp::reduce(3), Fp::reduce(4)),
-    };
-    let end = Reply::RejectedEnd {
+    });
+    let end = Reply::Verdict(VerdictLine::End {
         layer: 0,
         had: number(1),
         want: number(0),
-    };
-    let input = Reply::RejectedInput {
+    });
+    let input = Reply::Verdict(VerdictLine::Input {
         had: number(0),
         want: number(5),
-    };
+    });
     let rows = vec![in alloc;
         (Reply::Outputs(values), "output 2 5 2147483646\n"),
-        (Reply::Accepted, "accepted\n"),
+        (Reply::Verdict(VerdictLine::Accepted), "accepted\n"),
         (sum, "rejected sum 0 1 2,0 3,4\n"),
         (end, "rejected end 0 1,0 0,0\n"),
         (input, "rejected input 0,0 5,0\n"),
@@ -188,6 +188,48 @@ fn tells_verdicts_and_counts(rt: HostRuntime) -> Result<(), Fail> {
         (
             Reply::Proof(BadProof::Long { extra: 1 }),
             "refused proof long 1\n",
+        ),
+    ]?;
+    tells(&rt, &rows)
+}
+
+#[test]
+fn tells_audits(rt: HostRuntime) -> Result<(), Fail> {
+    let alloc = rt.alloc();
+    let value = Ext::of(Fp::reduce(3), Fp::reduce(4));
+    let nothing = AuditLines {
+        verdict: VerdictLine::Accepted,
+        same: true,
+        message: None,
+        challenge: None,
+    };
+    let round = AuditLines {
+        verdict: VerdictLine::Accepted,
+        same: false,
+        message: Some(MessagePlace::Round { layer: 0, round: 1 }),
+        challenge: Some((1, value)),
+    };
+    let line = AuditLines {
+        verdict: VerdictLine::Input {
+            had: Ext::zero(),
+            want: value,
+        },
+        same: true,
+        message: Some(MessagePlace::Line(12)),
+        challenge: None,
+    };
+    let rows = vec![in alloc;
+        (
+            Reply::Audit(nothing),
+            "accepted\nmeaning same\nmessage none\nchallenge none\n",
+        ),
+        (
+            Reply::Audit(round),
+            "accepted\nmeaning differs\nmessage 0 1\nchallenge 1 3,4\n",
+        ),
+        (
+            Reply::Audit(line),
+            "rejected input 0,0 3,4\nmeaning same\nmessage 12 line\nchallenge none\n",
         ),
     ]?;
     tells(&rt, &rows)

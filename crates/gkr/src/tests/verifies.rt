@@ -5,16 +5,16 @@ use sha2::{Digest, Sha256};
 
 /// A case with outputs and a proof.
 #[derive(Clone, Copy)]
-struct Claim<'a> {
-    program: &'a [u8],
-    inputs: &'a [u8],
-    outputs: &'a [u8],
-    proof: &'a [u8],
+pub(crate) struct Claim<'a> {
+    pub(crate) program: &'a [u8],
+    pub(crate) inputs: &'a [u8],
+    pub(crate) outputs: &'a [u8],
+    pub(crate) proof: &'a [u8],
 }
 
 impl<'a> Claim<'a> {
     /// The text of the case.
-    fn text(&self, alloc: Global) -> Result<Vec<u8>, AllocError> {
+    pub(crate) fn text(&self, alloc: Global) -> Result<Vec<u8>, AllocError> {
         let mut text = claimed(
             alloc,
             self.program,
@@ -31,7 +31,7 @@ impl<'a> Claim<'a> {
 }
 
 /// A front, and so many zeros.
-fn with_zeros(alloc: Global, front: &[u8], count: usize) -> Result<Vec<u8>, AllocError> {
+pub(crate) fn with_zeros(alloc: Global, front: &[u8], count: usize) -> Result<Vec<u8>, AllocError> {
     let mut proof = Vec::from_slice(alloc, front)?;
     for _ in 0..count {
         proof.push(0)?;
@@ -40,7 +40,7 @@ fn with_zeros(alloc: Global, front: &[u8], count: usize) -> Result<Vec<u8>, Allo
 }
 
 /// A proof of so many zeros.
-fn zeros(alloc: Global, count: usize) -> Result<Vec<u8>, AllocError> {
+pub(crate) fn zeros(alloc: Global, count: usize) -> Result<Vec<u8>, AllocError> {
     with_zeros(alloc, b"GKR1", count)
 }
 
@@ -187,7 +187,7 @@ fn tells_the_form_by_the_fourth_byte(rt: HostRuntime) -> Result<(), Fail> {
 }
 
 /// The first challenge of the transcript of `input a; output a;` on 0 with the output 1, by SHA-256 alone.
-fn first_challenge() -> (u64, u64) {
+pub(crate) fn first_challenge() -> (u64, u64) {
     let mut hasher = Sha256::new();
     hasher.update(b"gkr-transcript-1\n".as_slice());
     hasher.update(b"\x12\0\0\0input a; output a;".as_slice());

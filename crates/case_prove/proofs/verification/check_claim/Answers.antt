@@ -1,18 +1,33 @@
-use Rattle.std.proofs.Common.{rules, ◌∙◌, Some, ap, sym}
+-- The verdict is the one with the challenges of the case's own transcript.
+use Rattle.std.proofs.Common.{◌∙◌, List, sym}
+use Rattle.std.proofs.lemmas.Result.{IfOk-weaker}
+use Rattle.field_ext.specs.Field.{F}
+use Rattle.circuit_core.specs.Parts.{Parts}
+use Rattle.case_text.specs.Content.{Content}
+use Rattle.case_prove.specs.Verified.{HasProof}
+use Rattle.case_prove.proofs.ReadProofs.{with_outputs}
 use Rattle.case_prove.proofs.Statements.{of_statement}
 use Rattle.case_prove.proofs.verification.check_claim.Goals as goal
 
-pub returns-in-Ok-check_as-clause-verdict : goal.returns-in-Ok-check_as-clause-verdict
-returns-in-Ok-check_as-clause-verdict c = record {
-  parts = c.args.circuit.now.parts;
-  outputs = c.in-Some-Some.outputs.now;
-  claim = record { compiled = c.requires.compiled; counted = c.requires.counted; outputs_are = sym c.in-Some-Some.ensures };
-  as_many = search rules;
-  form = c.of-form.result;
-  messages = c.in-Ok.messages;
-  of_shape = search rules;
-  spelled = sym c.in-Some-Some.ensures' ∙ ap Some (sym c.in-Ok.ensures.found);
-  verdict_is =
-      of_statement c.of-form.result c.args.case.now c.args.circuit.now.parts c.in-Some-Some.outputs.now c.in-Ok.messages c.in-Ok-check_as.verdict _ _ _ _ _ c.inputs-2.ensures.inputs (c.of-statement.ensures.text ∙ c.program.ensures.program)
-      (c.of-statement.ensures.inputs ∙ c.inputs.ensures.inputs) c.of-statement.ensures.outputs c.transcript_of-challenges.ensures c.in-Ok-check_as.ensures.verdict;
-}
+pub returns : goal.returns
+returns c =
+    let case : Content = c.args.case.now in
+    let parts : Parts = c.args.circuit.now.parts in
+    let messages = c.args.messages.now in
+    let outputs : List F = c.in-Some.outputs.now in
+    let has : HasProof c.args.form c.args.case.now c.args.circuit.now.parts c.in-Some.outputs.now c.args.messages.now = with_outputs c.args.form case parts messages outputs c.requires (sym c.in-Some.ensures) in
+    IfOk-weaker c.check_as.result _ _
+    (λ verdict is. record {
+      parts = parts;
+      outputs = outputs;
+      claim = has.claim;
+      as_many = has.as_many;
+      form = c.args.form;
+      messages = messages;
+      of_shape = has.of_shape;
+      spelled = has.spelled;
+      verdict_is =
+          of_statement c.args.form case parts outputs messages verdict _ _ _ _ _ c.inputs-2.ensures.inputs (c.of-statement.ensures.text ∙ c.program.ensures.program) (c.of-statement.ensures.inputs ∙ c.inputs.ensures.inputs)
+          c.of-statement.ensures.outputs c.transcript_of-challenges.ensures is;
+    })
+    c.check_as.ensures.verdict

@@ -1,6 +1,7 @@
 use Rattle.proof_wire.specs.declared.form.ProofForm.TheVariants.{Line}
 use Rattle.gkr_cmd.proofs.CircuitAnswers.{IsOne}
-use Rattle.gkr_cmd.proofs.VerifyAnswers.{IsOneProof, accepted_alone, accepted_or_memory}
+use Rattle.gkr_cmd.proofs.ProofRefusals.{IsOneProof}
+use Rattle.gkr_cmd.proofs.VerifyAnswers.{accepted_alone, accepted_or_memory}
 use Rattle.gkr_cmd.proofs.demo.accept.Goals as goal
 
 pub unreachable-requires : goal.unreachable-requires

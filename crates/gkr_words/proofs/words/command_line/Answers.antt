@@ -37,5 +37,6 @@ returns c =
     let two = c.in_ok-subcommand-2.ensures.shape c.new-5.ensures.local ∙ ap₂ with_subcommand one (ap (λ (a : App). a.top) c.new-5.ensures.app) in
     let three = c.in_ok-subcommand-3.ensures.shape prove_local ∙ ap₂ with_subcommand two (ap (λ (a : App). a.top) prove_is) in
     let four = c.in_ok-subcommand-4.ensures.shape c.new-6.ensures.local ∙ ap₂ with_subcommand three (ap (λ (a : App). a.top) c.new-6.ensures.app) in
-    let five = c.in_ok-subcommand-5.ensures.shape demo_local ∙ ap₂ with_subcommand four (ap (λ (a : App). a.top) demo_is) in
-    IfOk-weaker c.subcommand-6.result _ _ (λ line added. added.shape c.in_ok-serve.ensures.local ∙ ap₂ with_subcommand five (ap (λ (a : App). a.top) c.in_ok-serve.ensures.line)) c.subcommand-6.ensures
+    let five = c.in_ok-subcommand-5.ensures.shape c.new-7.ensures.local ∙ ap₂ with_subcommand four (ap (λ (a : App). a.top) c.new-7.ensures.app) in
+    let six = c.in_ok-subcommand-6.ensures.shape demo_local ∙ ap₂ with_subcommand five (ap (λ (a : App). a.top) demo_is) in
+    IfOk-weaker c.subcommand-7.result _ _ (λ line added. added.shape c.in_ok-serve.ensures.local ∙ ap₂ with_subcommand six (ap (λ (a : App). a.top) c.in_ok-serve.ensures.line)) c.subcommand-7.ensures

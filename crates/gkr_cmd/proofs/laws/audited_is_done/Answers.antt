@@ -1,0 +1,12 @@
+use Rattle.case_text.specs.declared.form.Form.TheVariants.{Full}
+use Rattle.gkr_cmd.specs.Replies.{IsAuditAnswer}
+use Rattle.gkr_cmd.specs.Runs.{HasLineProof}
+use Rattle.gkr_cmd.proofs.AuditAnswers.{audit_done}
+use Rattle.gkr_cmd.proofs.OneReply.{done}
+use Rattle.gkr_cmd.proofs.laws.audited_is_done.Goals as goal
+
+pub returns : goal.returns
+returns c =
+    done Full IsAuditAnswer HasLineProof
+    (λ content reply has. audit_done (record { circuit = c.one_circuit.ensures; refusal = c.one_circuit_refusal.ensures; either = c.compiled_or_refused.ensures })
+    (record { form = c.one_form.ensures; reading = c.one_reading.ensures; trouble = c.one_trouble.ensures; none = c.no_trouble.ensures }) content reply has)
