@@ -4,6 +4,7 @@
     scripts/reference.py prove     reads a case without outputs and proof from standard input, and writes it with them
     scripts/reference.py prove --proof pair     the same with a proof by pairs
     scripts/reference.py verify    reads a case with outputs and a proof, and writes the verdict
+    scripts/reference.py audit     reads one with a proof by lines, and writes what an audit finds
     scripts/reference.py vector    reads such a case, and writes its statement's bytes, sizes and first challenges
 
 It is written for reading and not for speed, in Python's standard library alone, shares nothing with gkr but the documents, and is
@@ -553,6 +554,49 @@ def verify(program, inputs, outputs, proof):
     return answer(verdict or "accepted")
 
 
+# The auditor, who recomputes what the honest prover says at the same challenges.
+
+
+def audit(program, inputs, outputs, proof):
+    """Returns the four lines."""
+    verdict, circuit, transcript = verify(program, inputs, outputs, proof)
+    if proof[3:4] == b"P":
+        raise ValueError("proof")
+    tables = circuit.tables(inputs)
+    numbers = [tuple(int.from_bytes(proof[at + half : at + half + 4], "little") for half in (0, 4)) for at in range(4, len(proof), 8)]
+    k = circuit.exponents[0]
+    point, behind = transcript.drawn[:k], transcript.drawn[k:]
+    claimed, differs, exceptional = padded([0] + outputs, circuit.widths[0]), [], []
+    difference = [sub(x, y) for x, y in zip(claimed, tables[0])]
+    for number, x in enumerate(point):
+        before, difference = difference, folded(difference, x)
+        if any(one != ZERO for one in before) and all(one == ZERO for one in difference):
+            exceptional.append((number, x))
+    place = [(point, ONE)]
+    for layer, (gates, below, k) in enumerate(zip(circuit.gates, tables[1:], circuit.exponents[1:])):
+        weights = [eq_over(place, at) for at in range(len(gates))]
+        drawn, behind = behind[: 2 * k + 1], behind[2 * k + 1 :]
+        left, right, t = drawn[:k], drawn[k : 2 * k], drawn[2 * k]
+        for done in range(2 * k + 1):
+            truth = line_message(below, left, right) if done == 2 * k else round_message(gates, weights, below, k, drawn[:done], done)
+            message, numbers = numbers[: len(truth)], numbers[len(truth) :]
+            if message != truth:
+                differs.append(f"{layer} line" if done == 2 * k else f"{layer} {done + 1}")
+                if value_at(message, drawn[done]) == value_at(truth, drawn[done]):
+                    exceptional.append((len(transcript.drawn) - len(behind) - 2 * k - 1 + done, drawn[done]))
+        place = place_below(left, right, t, False)
+    first = exceptional[0] if exceptional else None
+    return "".join(
+        line + "\n"
+        for line in (
+            verdict,
+            "meaning same" if claimed == tables[0] else "meaning differs",
+            "message " + (differs[0] if differs else "none"),
+            f"challenge {first[0]} {printed(first[1])}" if first else "challenge none",
+        )
+    )
+
+
 # Cases.
 
 
@@ -601,7 +645,7 @@ def vector(case):
 
 def main(words):
     by_pairs = words == ["prove", "--proof", "pair"]
-    if words not in (["prove"], ["verify"], ["vector"]) and not by_pairs:
+    if words not in (["prove"], ["verify"], ["audit"], ["vector"]) and not by_pairs:
         print(__doc__.strip(), file=sys.stderr)
         return 2
     case = sys.stdin.buffer.read()
@@ -612,6 +656,8 @@ def main(words):
         verdict, _, _ = verify(*parts_of(case))
         print(verdict)
         return 0 if verdict == "accepted" else 1
+    elif words == ["audit"]:
+        sys.stdout.write(audit(*parts_of(case)))
     else:
         sys.stdout.write(vector(case))
     return 0
