@@ -1,5 +1,5 @@
 -- The audit of honest messages of the circuit's own outputs names nothing
-use Rattle.std.proofs.Common.{◌≡◌, ℕ, ◌+◌, List, None, length, take, drop, map, refl, sym, ap, arith}
+use Rattle.std.proofs.Common.{◌≡◌, ℕ, List, None, length, take, drop, map, refl, sym, ap, arith}
 use Rattle.field_ext.specs.Field.{F, K, k_ops}
 use Rattle.circuit_core.specs.Parts.{leaf_value, padded_values, input_table}
 use Rattle.circuit_core.specs.Sound.{SoundCircuit, exponent_at, exponents}
@@ -12,7 +12,7 @@ use Rattle.proof_wire.specs.Lists.{all_messages, HaveShape}
 use Rattle.gkr_layers.specs.Places.Place.{At}
 use Rattle.gkr_layers.specs.Sumcheck.{difference}
 use Rattle.gkr_layers.specs.Layers.{layers_of, lower_exponents, challenges_of}
-use Rattle.gkr_layers.specs.Acceptance.{CircuitClaim, claim_in, true_table}
+use Rattle.gkr_layers.specs.Acceptance.{CircuitClaim, claim_in}
 use Rattle.gkr_layers.specs.Honest.{AreHonest, AreHonestMessages}
 use Rattle.gkr_layers.proofs.Circuits.{over-embed}
 use Rattle.gkr_layers.proofs.Honest.{honest_proof}

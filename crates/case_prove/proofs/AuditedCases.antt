@@ -1,5 +1,5 @@
 -- A case has one audit, which tells whether the outputs are the meaning and names a challenge of each accepted falsehood, and nothing of what is proved.
-use Rattle.std.proofs.Common.{◌≡◌, ◌↔◌, ℕ, List, Some, IsTrue, IsSome, length, drop, refl, sym, ap, ◌∙◌, subst}
+use Rattle.std.proofs.Common.{◌≡◌, ◌↔◌, ℕ, List, IsTrue, IsSome, length, drop, refl, sym, subst}
 use Rattle.field_ext.specs.Field.{F, K}
 use Rattle.circuit_core.specs.Parts.{Parts}
 use Rattle.circuit_core.specs.Sound.{SoundCircuit, exponent_at, exponents}

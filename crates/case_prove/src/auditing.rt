@@ -1,6 +1,6 @@
 //! The audit of the proof of a case.
 
-ghost use Rattle.std.specs.Prelude.{◌≡◌, IsSome, IfOk, IfErr};
+ghost use Rattle.std.specs.Prelude.{IsSome, IfOk, IfErr};
 ghost use Rattle.proof_wire.specs.declared.form.ProofForm.TheVariants.{Line};
 ghost use Rattle.case_prove.specs.Audited.{IsAudited, RefusesAudit};
 ghost use Rattle.case_prove.specs.Verified.{IsReadAs};

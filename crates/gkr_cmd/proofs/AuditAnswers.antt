@@ -1,5 +1,5 @@
 -- A case has at most one answer of `audit`, and that to a case with a proof by lines is its audit.
-use Rattle.std.proofs.Common.{◌≡◌, ◌↔◌, ℕ, List, subst, Option, Some, Result, Ok, refl, sym, ap}
+use Rattle.std.proofs.Common.{◌≡◌, ℕ, List, subst, Option, Some, Result, Ok, refl, sym, ap}
 use Rattle.io_edge.specs.Written.{Grows}
 use Rattle.proof_wire.specs.declared.form.ProofForm.TheVariants.{Line}
 use Rattle.audit_core.specs.declared.report.Audit.{Audit}

@@ -1,5 +1,5 @@
 -- A case whose proof is read as one of a form has at most one refusal, and none where the proof spells messages.
-use Rattle.std.proofs.Common.{◌≡◌, ℕ, List, length, drop, subst, Option, Some, refl, sym, ap, ◌∙◌}
+use Rattle.std.proofs.Common.{◌≡◌, ℕ, List, length, drop, Option, Some, refl, sym, ap, ◌∙◌}
 use Rattle.field_ext.specs.Field.{F}
 use Rattle.circuit_core.specs.Parts.{Parts}
 use Rattle.circuit_core.specs.Sound.{exponents}

@@ -1,5 +1,5 @@
 -- A case has at most one answer of `verify`, and that to a case whose proof meets every equation is that it is accepted.
-use Rattle.std.proofs.Common.{◌≡◌, ℕ, List, [], length, drop, subst, Some, sym, ap, ◌∙◌}
+use Rattle.std.proofs.Common.{◌≡◌, ℕ, List, [], drop, subst, sym, ap, ◌∙◌}
 use Rattle.std.specs.Prelude.{Option, unwrap_or}
 use Rattle.field_ext.specs.Field.{F}
 use Rattle.circuit_core.specs.Parts.{Parts}

@@ -1,5 +1,5 @@
 -- The reply to words and the bytes of the input, as a table: when each reply is the one.
-use Rattle.std.specs.Prelude.{◌≡◌, ◌<◌, ◌≤◌, ℕ, List, length, Option, Some, None, Result, Ok, Err}
+use Rattle.std.specs.Prelude.{◌≡◌, ◌<◌, ◌≤◌, ℕ, List, length, Option, Some, None, Ok, Err}
 use Rattle.arr_compile.specs.Programs.{IsRefusedAs}
 use Rattle.audit_core.specs.declared.report.Audit.{Audit}
 use Rattle.proof_wire.specs.declared.form.ProofForm.{ProofForm}
