@@ -202,7 +202,7 @@ pub fn program(rt: &HostRuntime, kind: &str, text: &[u8]) -> io::Result<()> {
 }
 
 /// Layers of `2^k` random gates over `2^k` positions.
-fn tangled(alloc: Global, k: u32) -> Result<Option<Circuit>, AllocError> {
+pub(crate) fn tangled(alloc: Global, k: u32) -> Result<Option<Circuit>, AllocError> {
     let mut random = Random { seed: 1 };
     let zero = CircuitGate {
         kind: Kind::Add,

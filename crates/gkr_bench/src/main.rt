@@ -10,10 +10,12 @@
 //! beside plain loops that prove as many rounds. `gkr_bench workers K`: all rounds of such a layer with one, two, three and
 //! four workers in turn. `gkr_bench checked LEVELS`: the verifier on the circuit of `carried`, with the wiring polynomials by
 //! runs of gates, what it would take by walks over the gates, and proofs by pairs. `gkr_bench random K`: the same on eight
-//! layers of `2^K` random gates. `gkr_bench runs 1 < CASE`: the runs of each layer of a case's circuit. `gkr_bench turns N`: so
-//! many turns of the lock of the job table, where no other thread waits.
+//! layers of `2^K` random gates. `gkr_bench audit K`: a proof of such a circuit, and an audit of it. `gkr_bench runs 1 <
+//! CASE`: the runs of each layer of a case's circuit. `gkr_bench turns N`: so many turns of the lock of the job table, where
+//! no other thread waits.
 #![tactic(auto)]
 
+mod audits;
 mod checking;
 mod circuits;
 mod measure;
@@ -27,7 +29,7 @@ mod workers;
 use std::{env, io};
 
 const USAGE: &str =
-    "gkr_bench matmul N | steps N | names KIB | copies N | copied N | transposes N | letters N | fold K | case KIB | proof N | wide ROWS | carried LEVELS | layer K | workers K | checked LEVELS | random K | runs N | turns N";
+    "gkr_bench matmul N | steps N | names KIB | copies N | copied N | transposes N | letters N | fold K | case KIB | proof N | wide ROWS | carried LEVELS | layer K | workers K | checked LEVELS | random K | audit K | runs N | turns N";
 
 fn main(rt: HostRuntime) -> io::Result<()> {
     let alloc = rt.alloc();
@@ -67,6 +69,9 @@ fn main(rt: HostRuntime) -> io::Result<()> {
             }
             if kind.as_str() == "random" {
                 return checking::random(&rt, size);
+            }
+            if kind.as_str() == "audit" {
+                return audits::random(&rt, &rt, size);
             }
             if kind.as_str() == "runs" {
                 return checking::runs(&rt);
