@@ -1,0 +1,9 @@
+pub mod Counts
+pub mod Lengths
+pub mod Reading
+pub mod Apart
+pub mod Cuts
+pub mod Troubles
+pub mod OneTrouble
+pub mod Either
+pub mod Shortened

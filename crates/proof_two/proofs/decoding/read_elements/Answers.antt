@@ -1,0 +1,16 @@
+use Rattle.std.proofs.Common.{◌+◌, [], ◌∷◌, length, length-append, sym, ◌∙◌, ap, subst, refl}
+use Rattle.proof_wire.specs.Trouble.{InRange, element_at}
+use Rattle.proof_two.specs.Trouble.{IsFrontTwo}
+use Rattle.proof_two.proofs.Reading.{front_more}
+use Rattle.proof_two.proofs.decoding.read_elements.Goals as goal
+
+pub loop-i-preserved : goal.loop-i-preserved
+loop-i-preserved c =
+    let bytes = c.args.bytes.now in
+    let read = c.loop-i.read.items in
+    let element = c.in-Some.element in
+    let many = c.loop-i.invariant.0 in
+    let grown = c.in_ok-push-in-Some.ensures.items in (
+      ap length grown ∙ length-append read (element ∷ []) ∙ ap (λ n. n + 1) many,
+      subst (λ es. IsFrontTwo es bytes) (sym grown) (front_more read element bytes (subst (InRange bytes) (sym many) (c.in-Some.ensures.some.0 refl)) (c.in-Some.ensures.value ∙ ap (element_at bytes) (sym many)) c.loop-i.invariant.1),
+    )

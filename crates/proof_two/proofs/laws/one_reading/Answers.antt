@@ -1,0 +1,5 @@
+use Rattle.proof_two.proofs.Either.{any_reading}
+use Rattle.proof_two.proofs.laws.one_reading.Goals as goal
+
+pub returns : goal.returns
+returns c = any_reading
