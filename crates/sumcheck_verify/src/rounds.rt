@@ -1,9 +1,9 @@
 // The rounds of a sumcheck.
 
-ghost use Rattle.std.specs.Prelude.{◌≡◌, true, false, IfOk, IfErr};
-ghost use Rattle.field_ext.specs.Field.{k_ops, add_k, zero_k, one_k, same_k};
+ghost use Rattle.std.specs.Prelude.{◌≡◌, true, false, [], ◌∷◌, IfOk, IfErr};
+ghost use Rattle.field_ext.specs.Field.{K, k_ops, add_k, zero_k, one_k, same_k};
 ghost use Rattle.field_ext.specs.Polynomial.{value_at};
-ghost use Rattle.sumcheck_verify.specs.Sumcheck.{counted};
+ghost use Rattle.sumcheck_verify.specs.Sumcheck.{counted, middle_for};
 
 use field_ext::Ext;
 use poly_roots::{sum01, value_at};
@@ -80,18 +80,47 @@ impl Rounds {
         ensures unchanged { IfErr result (λ fault. self.new ≡ self.old) }
     {
         let had = sum01(&message);
-        let round = self.taken.saturating_add(1);
         if !had.equals(self.claim) {
             return Err(SumFault {
-                round,
+                round: self.taken.saturating_add(1),
                 had,
                 claim: self.claim,
             });
         }
+        self.keep(message);
+        Ok(())
+    }
+
+    /// Takes the next round's message by its coefficients of 1 and of X squared, and answers that of X: the one with which the
+    /// value at 0 plus the value at 1 is the claim. So there is no fault.
+    #[tactic(auto, using(crate::proofs::Middle::middle_adds, crate::proofs::Middle::middle_alone))]
+    pub fn take_two(&mut self, c0: Ext, c2: Ext) -> Ext
+        requires { self.old.waiting ≡ false }
+        ensures middle { result ≡ middle_for k_ops self.old.claim c0 c2 }
+        ensures holds { add_k (value_at k_ops (c0 ∷ result ∷ c2 ∷ []) zero_k)
+            (value_at k_ops (c0 ∷ result ∷ c2 ∷ []) one_k) ≡ self.old.claim }
+        ensures alone { (c1 : K) → add_k (value_at k_ops (c0 ∷ c1 ∷ c2 ∷ []) zero_k)
+            (value_at k_ops (c0 ∷ c1 ∷ c2 ∷ []) one_k) ≡ self.old.claim → c1 ≡ result }
+        ensures message { self.new.message ≡ c0 ∷ result ∷ c2 ∷ [] }
+        ensures kept { self.new.claim ≡ self.old.claim }
+        ensures waiting { self.new.waiting ≡ true }
+        ensures taken { self.new.taken ≡ counted self.old.taken }
+    {
+        let c1 = self.claim - c0 - c0 - c2;
+        self.keep([c0, c1, c2]);
+        c1
+    }
+
+    /// Keeps a message for its challenge.
+    fn keep(&mut self, message: [Ext; 3])
+        ensures message { self.new.message ≡ message }
+        ensures kept { self.new.claim ≡ self.old.claim }
+        ensures waiting { self.new.waiting ≡ true }
+        ensures taken { self.new.taken ≡ counted self.old.taken }
+    {
         self.message = message;
         self.waiting = true;
-        self.taken = round;
-        Ok(())
+        self.taken = self.taken.saturating_add(1);
     }
 
     /// Binds the round's coordinate to its challenge: the claim becomes the message's value there.
