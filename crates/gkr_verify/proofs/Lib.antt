@@ -5,3 +5,6 @@ pub mod LayerSteps
 pub mod InputSteps
 pub mod TableSteps
 pub mod BothSteps
+pub mod FillSteps
+pub mod Filled
+pub mod SumSteps

@@ -9,18 +9,29 @@
 //! ```text
 //! let verdict = check(alloc, &circuit, &inputs, &outputs, &messages, &mut challenges)?;
 //! ```
+//!
+//! A proof of version 2 leaves out a coefficient of each round, the one that the claim tells. [`fill`] puts it back, and
+//! [`check_two`] is [`check`] of the messages so filled; [`first_sum`] says whether messages are those that would be filled
+//! in, by the first round that does not add to its claim.
 #![tactic(auto)]
 
 mod blocks;
 mod both;
 mod end;
 mod extension;
+mod filling;
+pub mod laws;
 mod layer;
 mod layers;
 mod rounds;
+mod short;
 mod standing;
+mod sums;
 mod tables;
 mod verifier;
 
+pub use filling::fill;
 pub use gkr_layers::{Verdict, bound_sum, challenge_count};
+pub use short::check_two;
+pub use sums::{LayerSum, first_sum};
 pub use verifier::{check, check_as, check_pair};

@@ -1,0 +1,5 @@
+use Rattle.gkr_verify.proofs.Filled.{filled-hold}
+use Rattle.gkr_verify.proofs.laws.filled_sums_hold.Goals as goal
+
+pub returns : goal.returns
+returns c = filled-hold

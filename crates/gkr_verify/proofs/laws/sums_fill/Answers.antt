@@ -1,0 +1,5 @@
+use Rattle.gkr_verify.proofs.Filled.{sums-fill}
+use Rattle.gkr_verify.proofs.laws.sums_fill.Goals as goal
+
+pub returns : goal.returns
+returns c = sums-fill
