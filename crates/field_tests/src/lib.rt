@@ -16,4 +16,6 @@ mod polynomials;
 #[cfg(test)]
 mod proof_bytes;
 #[cfg(test)]
+mod short_proofs;
+#[cfg(test)]
 mod tables;

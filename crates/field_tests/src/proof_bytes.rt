@@ -2,6 +2,7 @@
 
 use crate::numbers::number;
 use circuit_core::Shape;
+use field_ext::Ext;
 use proof_wire::{
     BadProof, LayerMessages, Listed, Messages, ProofForm, ProofRefused, Round, decode, encode,
     proof_len,
@@ -10,7 +11,7 @@ use std::alloc::{AllocError, Global};
 use std::test::Fail;
 
 /// Two rounds and a line over one coordinate.
-const PROOF: [u8; 68] = *b"GKR1\
+pub(crate) const PROOF: [u8; 68] = *b"GKR1\
 \0\0\0\0\0\0\0\0\xfa\xff\xff\x7f\0\0\0\0\x0f\0\0\0\0\0\0\0\
 \x78\0\0\0\0\0\0\0\xaf\xff\xff\x7f\0\0\0\0\xd7\xff\xff\x7f\0\0\0\0\
 \x0f\0\0\0\0\0\0\0\x05\0\0\0\0\0\0\0";
@@ -23,10 +24,19 @@ fn zeros() -> [u8; 68] {
 }
 
 /// The rounds (0, -5, 15) and (120, -80, -40), and the line (15, 5).
-fn messages(alloc: Global) -> Result<Messages, AllocError> {
+pub(crate) fn messages(alloc: Global) -> Result<Messages, AllocError> {
+    messages_with(alloc, number(2_147_483_642), number(2_147_483_567))
+}
+
+/// The same with these middle coefficients.
+pub(crate) fn messages_with(
+    alloc: Global,
+    first: Ext,
+    second: Ext,
+) -> Result<Messages, AllocError> {
     let rounds = [
-        Round::of([number(0), number(2_147_483_642), number(15)]),
-        Round::of([number(120), number(2_147_483_567), number(2_147_483_607)]),
+        Round::of([number(0), first, number(15)]),
+        Round::of([number(120), second, number(2_147_483_607)]),
     ];
     let mut layers = Vec::new(alloc);
     layers.push(LayerMessages {
@@ -52,7 +62,7 @@ fn tells_forms_by_the_fourth_byte(rt: HostRuntime) {
     }
 }
 
-fn one_and_one(alloc: Global) -> Result<Shape, AllocError> {
+pub(crate) fn one_and_one(alloc: Global) -> Result<Shape, AllocError> {
     Ok(Shape::of(Vec::from_slice(alloc, &[1, 1])?))
 }
 

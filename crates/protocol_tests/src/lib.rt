@@ -12,6 +12,8 @@ mod pairs;
 #[cfg(test)]
 mod proofs;
 #[cfg(test)]
+mod shortened;
+#[cfg(test)]
 mod spelled;
 #[cfg(test)]
 mod verdicts;

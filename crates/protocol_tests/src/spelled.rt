@@ -14,6 +14,20 @@ pub(crate) fn bytes_of(
         ProofForm::Line => b"GKR1",
         ProofForm::Pair => b"GKRP",
     };
+    bytes_behind(alloc, magic, coefficients)
+}
+
+/// The bytes of a proof of version 2 with these coefficients.
+pub(crate) fn short_bytes(alloc: Global, coefficients: &[i32]) -> Result<Vec<u8>, AllocError> {
+    bytes_behind(alloc, b"GKR2", coefficients)
+}
+
+/// These coefficients behind the bytes that tell the kind of proof.
+fn bytes_behind(
+    alloc: Global,
+    magic: &[u8; 4],
+    coefficients: &[i32],
+) -> Result<Vec<u8>, AllocError> {
     let mut bytes = Vec::from_slice(alloc, magic)?;
     for n in coefficients {
         bytes.extend_from_slice(&number(*n).to_bytes())?;
