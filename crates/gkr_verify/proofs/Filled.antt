@@ -1,17 +1,17 @@
 -- Messages that are filled in: their shape, their sum equations, and that messages whose sums hold are filled in from what is left of them
-use Rattle.std.proofs.Common.{◌≡◌, ℕ, zero, suc, ◌+◌, ◌^◌, ◌<◌, List, [], ◌∷◌, ◌++◌, map, length, drop, take, get_or, Bool, true, false, if◌then◌else◌, refl, sym, ◌∙◌, ap, ap₂, subst, arith}
+use Rattle.std.proofs.Common.{◌≡◌, ℕ, suc, List, [], ◌∷◌, ◌++◌, map, drop, take, Bool, true, false, if◌then◌else◌, refl, sym, ◌∙◌, ap}
 use Rattle.std.proofs.lemmas.List.{length-map}
-use Rattle.field_ext.specs.Field.{F, K, k_ops, add_k, zero_k, one_k, same_k}
+use Rattle.field_ext.specs.Field.{F, K, k_ops, same_k}
 use Rattle.field_ext.specs.Polynomial.{value_at}
-use Rattle.circuit_core.specs.Parts.{Parts, input_table}
+use Rattle.circuit_core.specs.Parts.{Parts}
 use Rattle.circuit_core.specs.Sound.{exponent_at, exponents}
-use Rattle.transcript_fs.specs.Source.{Source, point_draws, state_after_point, draws, state_after, all_draws}
+use Rattle.transcript_fs.specs.Source.{Source, point_draws, state_after_point, draws, all_draws}
 use Rattle.proof_wire.specs.declared.messages.Round.{Round}
 use Rattle.proof_wire.specs.declared.messages.LayerMessages.{LayerMessages}
 use Rattle.proof_wire.specs.declared.messages.Messages.{Messages}
 use Rattle.proof_wire.specs.declared.form.ProofForm.TheVariants.{Line}
 use Rattle.proof_wire.specs.Spelling.{coefficients_of}
-use Rattle.proof_wire.specs.Lists.{round_messages, messages_of, all_messages, HasShape, HaveShape}
+use Rattle.proof_wire.specs.Lists.{round_messages, all_messages, HaveShape}
 use Rattle.proof_two.specs.declared.pairs.RoundPair.{RoundPair}
 use Rattle.proof_two.specs.declared.pairs.LayerPairs.{LayerPairs}
 use Rattle.proof_two.specs.declared.pairs.Pairs.{Pairs}
@@ -23,8 +23,8 @@ use Rattle.gkr_layers.specs.declared.verdict.Verdict.TheVariants.{Accepted, Sum,
 use Rattle.gkr_layers.specs.Places.{Place, value_over, weighted_summand_from}
 use Rattle.gkr_layers.specs.Places.Place.{At}
 use Rattle.gkr_layers.specs.Forms.{said_left, said_right, place_between}
-use Rattle.gkr_layers.specs.Layers.{GateLayer, layers_of, lower_exponents}
-use Rattle.gkr_layers.specs.Equations.{Equation, sum_equation, end_equation, sum_equations, claim_after, equations, first_failure, answer}
+use Rattle.gkr_layers.specs.Layers.{GateLayer, lower_exponents}
+use Rattle.gkr_layers.specs.Equations.{Equation, end_equation, sum_equations, claim_after, equations, first_failure}
 use Rattle.gkr_layers.specs.Acceptance.{CircuitClaim, claim_of, verdict_of}
 use Rattle.gkr_layers.proofs.Accepted.{differ, equal, same_self}
 use Rattle.gkr_layers.proofs.Answers.{answer-verdict, answer_from-verdict}

@@ -1,4 +1,4 @@
-use Rattle.std.proofs.Common.{◌≡◌, ◌^◌, List, ℕ, length, map, ◌∙◌, ap, arith}
+use Rattle.std.proofs.Common.{◌^◌, ℕ, map, ◌∙◌, ap, arith}
 use Rattle.field_ext.specs.Field.{k_ops, embed_k}
 use Rattle.field_ext.specs.Multilinear.{extension_at}
 use Rattle.circuit_core.specs.Parts.{padded_values}

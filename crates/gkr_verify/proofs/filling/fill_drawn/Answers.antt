@@ -1,4 +1,4 @@
-use Rattle.std.proofs.Common.{◌≡◌, ℕ, List, IsTrue, drop, length, sym, ◌∙◌, ap, subst}
+use Rattle.std.proofs.Common.{ℕ, List, IsTrue, drop, length, sym, ◌∙◌, subst}
 use Rattle.field_ext.specs.Field.{K}
 use Rattle.circuit_core.specs.Sound.{exponent_at, exponents}
 use Rattle.transcript_fs.specs.Source.{Source}

@@ -3,7 +3,7 @@ use Rattle.field_ext.specs.Field.{K}
 use Rattle.transcript_fs.specs.Source.{Source, draws, state_after}
 use Rattle.proof_wire.specs.declared.messages.Round.{Round}
 use Rattle.proof_wire.specs.declared.messages.LayerMessages.{LayerMessages}
-use Rattle.proof_wire.specs.Lists.{round_messages, messages_of}
+use Rattle.proof_wire.specs.Lists.{round_messages}
 use Rattle.gkr_verify.specs.ShortProof.{filled_layer, filled_rounds, state_at_last}
 use Rattle.gkr_verify.proofs.FillSteps.{layer_drawn, layer_state, last_has, length-filled, rounds_have}
 use Rattle.gkr_verify.proofs.filling.fill_layer.Goals as goal

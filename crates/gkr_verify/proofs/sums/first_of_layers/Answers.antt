@@ -1,5 +1,4 @@
 use Rattle.std.proofs.Common.{◌+◌, ℕ, List, refl, sym, ◌∙◌}
-use Rattle.field_ext.specs.Field.{K}
 use Rattle.transcript_fs.specs.Source.{Source}
 use Rattle.gkr_layers.proofs.Accepted.{differ}
 use Rattle.gkr_verify.specs.Rounds.{sum_failure}
