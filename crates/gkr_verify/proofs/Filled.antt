@@ -179,6 +179,32 @@ module _ (source : Source) where
       ∙ not_end (same_k had want) (first_failure below) number had want
       (layers-no_sum (suc number) next (next_claim source s m) layers input (place_between k_ops Line (take k bound) (drop k bound) (source.draw last)) ms h.1 sums.1)
 
+  -- an end equation that holds leaves the answer to those behind it
+  end_held : (b : Bool) (x : Verdict) (number : ℕ) (had want : K) → (if b then x else End number had want) ≡ Accepted → x ≡ Accepted
+  end_held true x number had want e = e
+  end_held false x number had want e = absurd (differ refl e)
+
+  layers-accepted : (number : ℕ) (s : List ℕ) (claim : K) (layers : List GateLayer) (input : List K) (place : Place K) (ms : List LayerMessages) → HaveShape Line (lower_exponents layers) ms →
+      first_failure (equations Line number layers input place claim (all_messages ms) (draws source s (all_messages ms))) ≡ Accepted → first_failure (sums_from source number s claim ms) ≡ Accepted
+  layers-accepted number s claim [] input place [] h e = refl
+  layers-accepted number s claim [] input place (m ∷ ms) h e = absurd h
+  layers-accepted number s claim (layer ∷ layers) input place [] h e = absurd h
+  layers-accepted number s claim (layer ∷ layers) input place (m ∷ ms) h e =
+      let k = layer.k in
+      let qs = round_messages m.rounds in
+      let bound = draws source s qs in
+      let last = state_at_last source s m in
+      let next = source.after last in
+      let had = claim_after claim qs bound in
+      let want = weighted_summand_from k_ops layer.gates place (take k bound) (drop k bound) (said_left k_ops Line m.last) (said_right k_ops Line m.last) in
+      let below = equations Line (suc number) layers input (place_between k_ops Line (take k bound) (drop k bound) (source.draw last)) (next_claim source s m) (all_messages ms) (draws source next (all_messages ms)) in
+      let size = length-map m.rounds coefficients_of ∙ h.0.rounds in
+      let whole = ap first_failure (sym (layer_equations Line source s number k layer.gates layers input place claim qs m.last (all_messages ms) size)) ∙ e in
+      let sums = sums_split number 1 claim qs bound (end_equation number had want ∷ below) whole in
+      sums_front number 1 claim qs bound (sums_from source (suc number) next (next_claim source s m) ms) sums.0
+      ∙ layers-accepted (suc number) next (next_claim source s m) layers input (place_between k_ops Line (take k bound) (drop k bound) (source.draw last)) ms h.1
+      (end_held (same_k had want) (first_failure below) number had want sums.1)
+
 pub filled-hold : (p : Parts) (outputs : List F) (source : Source) (s : List ℕ) (pairs : Pairs) → first_failure (sums_of p outputs source s (filled p outputs source s pairs)) ≡ Accepted
 filled-hold p outputs source s pairs = layers-hold source 0 (state_after_point source s (exponent_at p 0)) (output_claim p outputs source s) pairs.layers
 
@@ -197,3 +223,14 @@ no_sum p inputs outputs source s messages shape h =
     let all = equations Line 0 stated.layers stated.input_table place (output_claim p outputs source s) qs (draws source behind qs) in
     ap is_sum (sym (answer_from-verdict stated source s qs) ∙ answer-verdict source behind all qs)
     ∙ layers-no_sum source 0 behind (output_claim p outputs source s) stated.layers stated.input_table place messages.layers (have_shape Line p messages shape) h
+
+pub accepted_sums : (p : Parts) (inputs outputs : List F) (source : Source) (s : List ℕ) (messages : Messages) → HaveShape Line (drop 1 (exponents p)) messages.layers →
+    verdict_of (claim_of p inputs outputs) (all_messages messages.layers) (all_draws source s (exponent_at p 0) (all_messages messages.layers)) ≡ Accepted → first_failure (sums_of p outputs source s messages) ≡ Accepted
+accepted_sums p inputs outputs source s messages shape h =
+    let stated : CircuitClaim = claim_of p inputs outputs in
+    let qs = all_messages messages.layers in
+    let behind = state_after_point source s (exponent_at p 0) in
+    let place : Place K = At (point_draws source s (exponent_at p 0)) in
+    let all = equations Line 0 stated.layers stated.input_table place (output_claim p outputs source s) qs (draws source behind qs) in
+    layers-accepted source 0 behind (output_claim p outputs source s) stated.layers stated.input_table place messages.layers (have_shape Line p messages shape)
+    (sym (answer-verdict source behind all qs) ∙ answer_from-verdict stated source s qs ∙ h)

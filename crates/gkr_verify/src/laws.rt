@@ -46,3 +46,13 @@ pub fn no_sum()
         let qs = all_messages messages.layers in
         is_sum (verdict_of stated qs (all_draws source s stated.k qs)) ≡ false }
 {}
+
+/// Where every equation of acceptance holds, every sum equation does.
+pub fn accepted_sums_hold()
+    ensures { (p : Parts) (inputs outputs : List F) (source : Source) (s : List ℕ)
+        (messages : Messages) → HaveShape Line (drop 1 (exponents p)) messages.layers →
+        let stated = claim_of p inputs outputs in
+        let qs = all_messages messages.layers in
+        verdict_of stated qs (all_draws source s stated.k qs) ≡ Accepted
+        → first_failure (sums_of p outputs source s messages) ≡ Accepted }
+{}

@@ -2,3 +2,4 @@ pub mod Spelling
 pub mod Lists
 pub mod Trouble
 pub mod Versions
+pub mod Kinds

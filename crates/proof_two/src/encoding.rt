@@ -1,11 +1,35 @@
 ghost use Rattle.std.specs.Prelude.{◌≡◌, ◌++◌, OnOk, IfOk};
 ghost use Rattle.std.specs.List.{flat_map};
 ghost use Rattle.field_ext.specs.Bytes.{bytes_of};
+ghost use Rattle.proof_two.specs.Kinds.{kind_spelling};
 ghost use Rattle.proof_two.specs.Spelling.{layer_elements, pair_of, spelling_two};
 
+use crate::kind::{ProofKind, ProofVersion};
 use crate::pairs::{LayerPairs, Pairs, RoundPair};
+use crate::shortening::shorten;
 use field_ext::Ext;
+use proof_wire::{Messages, encode_as};
 use std::alloc::{AllocError, Global};
+
+/// The bytes of messages as a proof of this kind: in version 2 those without middle coefficients. An error where no memory
+/// is left.
+pub fn encode_kind(
+    alloc: Global,
+    kind: ProofKind,
+    messages: &Messages,
+) -> Result<Vec<u8>, AllocError>
+    ensures { IfOk result (λ bytes. bytes.items ≡ kind_spelling kind messages.now) }
+{
+    match kind {
+        ProofKind::ByLines(ProofVersion::Two) => {
+            let pairs = shorten(alloc, messages)?;
+            encode_two(alloc, &pairs)
+        }
+        ProofKind::ByLines(ProofVersion::One) | ProofKind::ByPairs => {
+            encode_as(alloc, kind.form(), messages)
+        }
+    }
+}
 
 /// The bytes of a proof of version 2 of these messages. An error where no memory is left.
 pub fn encode_two(alloc: Global, pairs: &Pairs) -> Result<Vec<u8>, AllocError>

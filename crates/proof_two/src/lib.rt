@@ -16,6 +16,7 @@
 mod cutting;
 mod decoding;
 mod encoding;
+mod kind;
 pub mod laws;
 mod length;
 mod pairs;
@@ -23,7 +24,8 @@ mod shortening;
 mod versions;
 
 pub use decoding::decode_two;
-pub use encoding::encode_two;
+pub use encoding::{encode_kind, encode_two};
+pub use kind::{ProofKind, ProofVersion};
 pub use length::proof_len_two;
 pub use pairs::{LayerPairs, Pairs, RoundPair};
 pub use shortening::shorten;

@@ -1,0 +1,5 @@
+use Rattle.gkr_verify.proofs.Filled.{accepted_sums}
+use Rattle.gkr_verify.proofs.laws.accepted_sums_hold.Goals as goal
+
+pub returns : goal.returns
+returns c = accepted_sums
