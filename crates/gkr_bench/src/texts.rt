@@ -4,7 +4,8 @@ use crate::measure::{microseconds, numbers};
 use case_text::{Case, Form, read_case, write_case};
 use circuit_core::Shape;
 use field_ext::{Ext, Fp};
-use proof_wire::{decode, encode};
+use proof_two::{AnyProof, ProofVersion, decode_any};
+use proof_wire::encode;
 use std::alloc::Global;
 use std::io;
 use std::time::Instant;
@@ -69,10 +70,15 @@ fn greatest_shape(alloc: Global) -> io::Result<Shape> {
     Ok(Shape::of(Vec::from_slice(alloc, &[16u32; 257])?))
 }
 
-/// Bytes that are a proof of the greatest shape: 256 layers of 32 messages of three elements, and of 17 elements.
-fn proof_bytes(alloc: Global) -> io::Result<Vec<u8>> {
-    let mut bytes = Vec::from_slice(alloc, b"GKR1")?;
-    for number in 0..256 * 113u64 {
+/// Bytes that are a proof of the greatest shape: 256 layers of 32 messages of three elements, in version 2 of two, and of 17
+/// elements.
+fn proof_bytes(alloc: Global, version: ProofVersion) -> io::Result<Vec<u8>> {
+    let (magic, elements) = match version {
+        ProofVersion::One => (b"GKR1", 256 * 113u64),
+        ProofVersion::Two => (b"GKR2", 256 * 81u64),
+    };
+    let mut bytes = Vec::from_slice(alloc, magic)?;
+    for number in 0..elements {
         let re = Fp::reduce(number.wrapping_mul(2_654_435_761));
         let im = Fp::reduce(number.wrapping_mul(40_503));
         bytes.extend_from_slice(&Ext::of(re, im).to_bytes())?;
@@ -80,25 +86,29 @@ fn proof_bytes(alloc: Global) -> io::Result<Vec<u8>> {
     Ok(bytes)
 }
 
-/// Prints how long reading and writing so many of the longest proofs took, the best of twenty.
+/// Prints how long reading and writing so many of the longest proofs took, and reading as many in version 2, each the best of
+/// twenty.
 pub fn proof(rt: &HostRuntime, times: u32) -> io::Result<()> {
     let alloc = rt.alloc();
     let shape = greatest_shape(alloc)?;
-    let bytes = proof_bytes(alloc)?;
-    let Ok(messages) = decode(alloc, &bytes, &shape) else {
+    let bytes = proof_bytes(alloc, ProofVersion::One)?;
+    let shorter = proof_bytes(alloc, ProofVersion::Two)?;
+    let Ok(AnyProof::One(messages)) = decode_any(alloc, &bytes, &shape) else {
         println!(rt; "proof: not read")?;
         return Ok(());
     };
-    let mut reading = u64::MAX;
+    let mut reading = [u64::MAX; 2];
     let mut writing = u64::MAX;
     for _ in 0..20u32 {
-        let begun = Instant::now(rt)?;
-        for _ in 0..times {
-            if decode(alloc, &bytes, &shape).is_err() {
-                return Ok(());
+        for (version, text) in [&bytes, &shorter].into_iter().enumerate() {
+            let begun = Instant::now(rt)?;
+            for _ in 0..times {
+                if decode_any(alloc, text, &shape).is_err() {
+                    return Ok(());
+                }
             }
+            reading[version] = reading[version].min(microseconds(begun.elapsed(rt)?));
         }
-        reading = reading.min(microseconds(begun.elapsed(rt)?));
         let begun = Instant::now(rt)?;
         for _ in 0..times {
             encode(alloc, &messages)?;
@@ -109,9 +119,15 @@ pub fn proof(rt: &HostRuntime, times: u32) -> io::Result<()> {
     println!(rt;
         "proof: {} bytes, read in {} us ({} MB/s), written in {} us ({} MB/s)",
         size,
-        reading,
-        rate(size, reading),
+        reading[0],
+        rate(size, reading[0]),
         writing,
         rate(size, writing)
+    )?;
+    println!(rt;
+        "proof: in version 2 {} bytes, read in {} us: {} hundredths of version 1",
+        (shorter.len() as u64).saturating_mul(u64::from(times)),
+        reading[1],
+        reading[1].saturating_mul(100) / reading[0].max(1)
     )
 }
