@@ -2,9 +2,11 @@
 """A second prover and verifier, by docs/formats.md and docs/language.md, for whoever writes a compatible one.
 
     scripts/reference.py prove     reads a case without outputs and proof from standard input, and writes it with them
+    scripts/reference.py prove --proof 2        the same with a proof of version 2
     scripts/reference.py prove --proof pair     the same with a proof by pairs
     scripts/reference.py verify    reads a case with outputs and a proof, and writes the verdict
     scripts/reference.py audit     reads one with a proof by lines, and writes what an audit finds
+    scripts/reference.py convert --to 2     reads one with a proof by lines, and writes it with that proof in version 2, or 1
     scripts/reference.py vector    reads such a case, and writes its statement's bytes, sizes and first challenges
 
 It is written for reading and not for speed, in Python's standard library alone, shares nothing with gkr but the documents, and is
@@ -429,8 +431,9 @@ def statement_of(program, inputs, outputs):
 # The prover.
 
 
-def prove(program, inputs, by_pairs=False):
-    """Returns the outputs and the proof's bytes."""
+def prove(program, inputs, kind="1"):
+    """Returns the outputs and the proof's bytes, by lines in version 1 or 2, or by pairs."""
+    by_pairs = kind == "pair"
     circuit = Circuit(program.decode())
     if len(inputs) != circuit.inputs:
         raise ValueError("inputs")
@@ -438,13 +441,13 @@ def prove(program, inputs, by_pairs=False):
     outputs = [x for x, _ in tables[0][1 : circuit.outputs + 1]]
     transcript = Transcript(program, inputs, outputs, by_pairs)
     place = [([transcript.challenge() for _ in range(circuit.exponents[0])], ONE)]
-    proof = b"GKRP" if by_pairs else b"GKR1"
+    proof = b"GKRP" if by_pairs else b"GKR" + kind.encode()
     for gates, below, k in zip(circuit.gates, tables[1:], circuit.exponents[1:]):
         weights = [eq_over(place, at) for at in range(len(gates))]
         drawn = []
         for done in range(2 * k):
             message = round_message(gates, weights, below, k, drawn, done)
-            proof += b"".join(bytes_of(one) for one in message)
+            proof += b"".join(bytes_of(one) for one in (shortened(message) if kind == "2" else message))
             transcript.absorb(message)
             drawn.append(transcript.challenge())
         left, right = drawn[:k], drawn[k:]
@@ -477,6 +480,17 @@ def round_message(gates, weights, below, k, drawn, done):
     return [values[0], sub(sub(values[1], values[0]), second), second]
 
 
+def shortened(message):
+    """What version 2 says of a round's coefficients."""
+    return message[::2]
+
+
+def filled(message, claim):
+    """A round's coefficients by what version 2 says of them, whose values at 0 and 1 add up to the claim."""
+    first, second = message
+    return [first, sub(sub(claim, add(first, first)), second), second]
+
+
 def line_message(below, left, right):
     """The coefficients of the table's extension at left + t (right - left), as a polynomial in t."""
     table = [[one] for one in below]
@@ -507,32 +521,34 @@ def printed(x):
 
 
 def verify(program, inputs, outputs, proof):
-    """Returns the verdict's line, the circuit and the transcript."""
+    """Returns the lines on the equations that fail, the circuit, the transcript and the messages, which version 2 has filled in."""
     circuit = Circuit(program.decode())
-    by_pairs = proof[3:4] == b"P"
+    by_pairs, short = proof[3:4] == b"P", proof[3:4] == b"2"
     transcript = Transcript(program, inputs, outputs, by_pairs)
     if len(inputs) != circuit.inputs or len(outputs) != circuit.outputs:
         raise ValueError("counts")
     last = lambda k: 2 if by_pairs else k + 1
-    length = 4 + sum(48 * k + 8 * last(k) for k in circuit.exponents[1:])
-    if proof[:4] not in (b"GKR1", b"GKRP") or len(proof) != length:
+    each = 2 if short else 3
+    length = 4 + sum(16 * each * k + 8 * last(k) for k in circuit.exponents[1:])
+    if proof[:4] not in (b"GKR1", b"GKR2", b"GKRP") or len(proof) != length:
         raise ValueError("proof")
     elements = [
         tuple(int.from_bytes(proof[at + half : at + half + 4], "little") for half in (0, 4)) for at in range(4, length, 8)
     ]
     if any(half >= P for one in elements for half in one):
         raise ValueError("proof")
-    answer = lambda text: (text, circuit, transcript)
     place = [([transcript.challenge() for _ in range(circuit.exponents[0])], ONE)]
     claim = value_over(padded([0] + outputs, circuit.widths[0]), place)
-    verdict = None
+    failing, messages = [], []
     for layer, (gates, k) in enumerate(zip(circuit.gates, circuit.exponents[1:])):
         drawn = []
         for number in range(2 * k):
-            message, elements = elements[:3], elements[3:]
+            message, elements = elements[:each], elements[each:]
+            message = filled(message, claim) if short else message
             had = add(value_at(message, ZERO), value_at(message, ONE))
-            if had != claim and not verdict:
-                verdict = f"rejected sum {layer} {number + 1} {printed(had)} {printed(claim)}"
+            if had != claim:
+                failing.append(f"rejected sum {layer} {number + 1} {printed(had)} {printed(claim)}")
+            messages.append(message)
             transcript.absorb(message)
             drawn.append(transcript.challenge())
             claim = value_at(message, drawn[-1])
@@ -543,15 +559,37 @@ def verify(program, inputs, outputs, proof):
         for at, (word, u, v) in enumerate(gates):
             factor = mul(eq_over(place, at), mul(eq(left, u), eq(right, v)))
             want = add(want, mul(factor, (add if word == "add" else mul)(low, high)))
-        if want != claim and not verdict:
-            verdict = f"rejected end {layer} {printed(claim)} {printed(want)}"
+        if want != claim:
+            failing.append(f"rejected end {layer} {printed(claim)} {printed(want)}")
+        messages.append(message)
         transcript.absorb(message)
         t = transcript.challenge()
         place, claim = place_below(left, right, t, by_pairs), value_at(message, t)
     want = value_over(circuit.input_table(inputs), place)
-    if want != claim and not verdict:
-        verdict = f"rejected input {printed(claim)} {printed(want)}"
-    return answer(verdict or "accepted")
+    if want != claim:
+        failing.append(f"rejected input {printed(claim)} {printed(want)}")
+    return failing, circuit, transcript, messages
+
+
+def verdict_of(failing):
+    return (failing + ["accepted"])[0]
+
+
+def convert(program, inputs, outputs, proof, version):
+    """Returns the proof in a version, or the line on the first sum that keeps it from version 2."""
+    failing, circuit, _, messages = verify(program, inputs, outputs, proof)
+    sums = [line for line in failing if line.startswith("rejected sum")]
+    if proof[3:4] == b"P":
+        raise ValueError("proof")
+    if version == "2" and sums:
+        return None, sums[0]
+    written, rest = b"GKR" + version.encode(), iter(messages)
+    for k in circuit.exponents[1:]:
+        for done in range(2 * k + 1):
+            message = next(rest)
+            said = shortened(message) if version == "2" and done < 2 * k else message
+            written += b"".join(bytes_of(one) for one in said)
+    return written, None
 
 
 # The auditor, who recomputes what the honest prover says at the same challenges.
@@ -559,11 +597,10 @@ def verify(program, inputs, outputs, proof):
 
 def audit(program, inputs, outputs, proof):
     """Returns the four lines."""
-    verdict, circuit, transcript = verify(program, inputs, outputs, proof)
+    failing, circuit, transcript, messages = verify(program, inputs, outputs, proof)
     if proof[3:4] == b"P":
         raise ValueError("proof")
     tables = circuit.tables(inputs)
-    numbers = [tuple(int.from_bytes(proof[at + half : at + half + 4], "little") for half in (0, 4)) for at in range(4, len(proof), 8)]
     k = circuit.exponents[0]
     point, behind = transcript.drawn[:k], transcript.drawn[k:]
     claimed, differs, exceptional = padded([0] + outputs, circuit.widths[0]), [], []
@@ -579,7 +616,7 @@ def audit(program, inputs, outputs, proof):
         left, right, t = drawn[:k], drawn[k : 2 * k], drawn[2 * k]
         for done in range(2 * k + 1):
             truth = line_message(below, left, right) if done == 2 * k else round_message(gates, weights, below, k, drawn[:done], done)
-            message, numbers = numbers[: len(truth)], numbers[len(truth) :]
+            message = messages.pop(0)
             if message != truth:
                 differs.append(f"{layer} line" if done == 2 * k else f"{layer} {done + 1}")
                 if value_at(message, drawn[done]) == value_at(truth, drawn[done]):
@@ -589,7 +626,7 @@ def audit(program, inputs, outputs, proof):
     return "".join(
         line + "\n"
         for line in (
-            verdict,
+            verdict_of(failing),
             "meaning same" if claimed == tables[0] else "meaning differs",
             "message " + (differs[0] if differs else "none"),
             f"challenge {first[0]} {printed(first[1])}" if first else "challenge none",
@@ -623,6 +660,13 @@ def case_of(program, inputs, outputs=None, proof=None):
     return text + b"end\n"
 
 
+def converted(case, version):
+    """Returns the status of `convert` and what it writes."""
+    program, inputs, outputs, proof = parts_of(case)
+    written, line = convert(program, inputs, outputs, proof, version)
+    return (1, line.encode() + b"\n") if line else (0, case_of(program, inputs, outputs, written))
+
+
 def without_claim(case):
     return case_of(*parts_of(case)[:2])
 
@@ -630,7 +674,7 @@ def without_claim(case):
 def vector(case):
     """The lines that examples/vectors/ has beside each case."""
     program, inputs, outputs, proof = parts_of(case)
-    verdict, circuit, transcript = verify(program, inputs, outputs, proof)
+    failing, circuit, transcript, _ = verify(program, inputs, outputs, proof)
     lines = [
         "statement " + statement_of(program, inputs, outputs).hex(),
         "start " + transcript.start.hex(),
@@ -639,21 +683,26 @@ def vector(case):
         f"challenges {len(transcript.drawn)}",
     ]
     lines += [f"challenge {number} {printed(one)}" for number, one in enumerate(transcript.drawn[:4])]
-    lines += [f"last challenge {printed(transcript.drawn[-1])}", "verdict " + verdict]
+    lines += [f"last challenge {printed(transcript.drawn[-1])}", "verdict " + verdict_of(failing)]
     return "".join(line + "\n" for line in lines)
 
 
 def main(words):
-    by_pairs = words == ["prove", "--proof", "pair"]
-    if words not in (["prove"], ["verify"], ["audit"], ["vector"]) and not by_pairs:
+    kind = words[2] if words[:2] == ["prove", "--proof"] and words[2:] in (["1"], ["2"], ["pair"]) else "1" if words == ["prove"] else None
+    version = words[2] if words[:2] == ["convert", "--to"] and words[2:] in (["1"], ["2"]) else None
+    if words not in (["verify"], ["audit"], ["vector"]) and not kind and not version:
         print(__doc__.strip(), file=sys.stderr)
         return 2
     case = sys.stdin.buffer.read()
     if words[0] == "prove":
         program, inputs, _, _ = parts_of(case)
-        sys.stdout.buffer.write(case_of(program, inputs, *prove(program, inputs, by_pairs)))
+        sys.stdout.buffer.write(case_of(program, inputs, *prove(program, inputs, kind)))
+    elif version:
+        status, text = converted(case, version)
+        sys.stdout.buffer.write(text)
+        return status
     elif words == ["verify"]:
-        verdict, _, _ = verify(*parts_of(case))
+        verdict = verdict_of(verify(*parts_of(case))[0])
         print(verdict)
         return 0 if verdict == "accepted" else 1
     elif words == ["audit"]:

@@ -8,7 +8,8 @@ use Rattle.transcript_fs.specs.Transcript.{transcript}
 use Rattle.proof_wire.specs.declared.form.ProofForm.{ProofForm}
 use Rattle.proof_wire.specs.declared.form.ProofForm.TheVariants.{Line}
 use Rattle.proof_wire.specs.declared.messages.Messages.{Messages}
-use Rattle.proof_wire.specs.Spelling.{spelling}
+use Rattle.proof_two.specs.declared.kind.ProofKind.TheVariants.{ByLines}
+use Rattle.proof_two.specs.declared.kind.ProofVersion.{ProofVersion}
 use Rattle.proof_wire.specs.Lists.{all_messages, HaveShape}
 use Rattle.gkr_layers.specs.declared.verdict.Verdict.TheVariants.{Accepted}
 use Rattle.gkr_layers.specs.Layers.{challenges_of}
@@ -22,7 +23,9 @@ use Rattle.case_prove.specs.Proved.{IsProved}
 use Rattle.case_prove.specs.Sound.{HasMeaning}
 use Rattle.case_prove.specs.Started.{start_of}
 use Rattle.case_prove.proofs.AcceptedOutputs.{meant}
-use Rattle.case_prove.proofs.ProvedCases.{OneCircuit}
+use Rattle.case_prove.specs.Verified.{Says}
+use Rattle.case_prove.proofs.OneSaying.{says_one}
+use Rattle.case_prove.proofs.ProvedCases.{HonestIsAccepted, OneCircuit, kind_says}
 use Rattle.case_prove.proofs.ReadProofs.{one_value}
 use Rattle.case_prove.proofs.ProvedOutputs.{OneTree, InputsAre, IsComputed, sound, meaning_there}
 
@@ -32,20 +35,17 @@ circuit_of c audit is = sound c.program is.parts is.proof.claim.compiled
 
 -- ---- one audit
 
-abbrev pub OneReading : Type 0
-OneReading = (form : ProofForm) (ks : List ℕ) (some others : Messages) → HaveShape form (drop 1 ks) some.layers → HaveShape form (drop 1 ks) others.layers → spelling form some ≡ spelling form others → some ≡ others
-
 abbrev pub OneAudit : Type 0
 OneAudit = (form : ProofForm) (circuit : SoundCircuit) (inputs outputs : List F) (qs : List (List K)) (rs : List K) (audit other : Audit) →
     IsAuditOf form circuit.parts inputs outputs qs rs audit → IsAuditOf form circuit.parts inputs outputs qs rs other → audit ≡ other
 
-pub one_audit : OneCircuit → OneReading → OneAudit → (c : Content) (a b : Audit) → IsAudited c a → IsAudited c b → a ≡ b
-one_audit circuit reading one c a b is is' =
+pub one_audit : OneCircuit → OneAudit → (c : Content) (a b : Audit) → IsAudited c a → IsAudited c b → a ≡ b
+one_audit circuit one c a b is is' =
     let parts : is'.parts ≡ is.parts = circuit c.program is'.parts is.parts is'.proof.claim.compiled is.proof.claim.compiled in
     let outputs : is'.outputs ≡ is.outputs = one_value c.outputs is'.outputs is.outputs is'.proof.claim.outputs_are is.proof.claim.outputs_are in
     let shape = subst (λ (p : Parts). HaveShape Line (drop 1 (exponents p)) is'.messages.layers) parts is'.proof.of_shape in
-    let bytes = one_value c.proof (spelling Line is'.messages) (spelling Line is.messages) is'.proof.spelled is.proof.spelled in
-    let messages : is'.messages ≡ is.messages = reading Line (exponents is.parts) is'.messages is.messages shape is.proof.of_shape bytes in
+    let says = coe 0 1 (i. Says Line c (parts i) (outputs i) is'.messages) is'.proof.spelled in
+    let messages : is'.messages ≡ is.messages = says_one Line c is.parts is.outputs is'.messages is.messages shape is.proof.of_shape says is.proof.spelled in
     one Line (circuit_of c a is) c.inputs is.outputs (all_messages is.messages.layers) (own_challenges c is.parts is.outputs is.messages) a b is.audit_is
     (coe 0 1 (i. IsAuditOf Line (parts i) c.inputs (outputs i) (all_messages (messages i).layers) (own_challenges c (parts i) (outputs i) (messages i)) b) is'.audit_is)
 
@@ -79,9 +79,10 @@ HonestyIsUnnamed = (form : ProofForm) (circuit : SoundCircuit) (inputs outputs :
     HaveShape form (drop 1 (exponents circuit.parts)) messages.layers → AreHonestMessages form circuit.parts inputs source s (all_messages messages.layers) →
     IsAuditOf form circuit.parts inputs outputs (all_messages messages.layers) (all_draws source s (exponent_at circuit.parts 0) (all_messages messages.layers)) names_nothing
 
-pub proved_unnamed : OneTree → InputsAre → IsComputed → HonestyIsUnnamed → (c proved : Content) → IsProved Line c proved → IsAudited proved names_nothing
-proved_unnamed one inputs_are computes law c proved is =
+pub proved_unnamed : OneTree → InputsAre → IsComputed → HonestIsAccepted Line → HonestyIsUnnamed → (version : ProofVersion) (c proved : Content) → IsProved (ByLines version) c proved → IsAudited proved names_nothing
+proved_unnamed one inputs_are computes honest law version c proved is =
     let there = meaning_there one inputs_are computes c is.parts is.compiled is.outputs is.evaluated in
+    let verdict = honest (sound c.program is.parts is.compiled) c.inputs is.outputs transcript (start_of Line c.program c.inputs is.outputs) is.messages there.as_many there.stand is.of_shape is.honest in
     subst (λ (q : Content). IsAudited q names_nothing) (sym is.proved_is) (record {
       parts = is.parts;
       outputs = is.outputs;
@@ -90,7 +91,7 @@ proved_unnamed one inputs_are computes law c proved is =
         claim = record { compiled = is.compiled; counted = there.counted; outputs_are = refl };
         as_many = there.as_many;
         of_shape = is.of_shape;
-        spelled = refl;
+        spelled = kind_says (ByLines version) c.program c.inputs is.outputs is.parts is.messages is.of_shape verdict;
       };
       audit_is = law Line (sound c.program is.parts is.compiled) c.inputs is.outputs transcript (start_of Line c.program c.inputs is.outputs) is.messages there.as_many there.stand is.of_shape is.honest;
     })

@@ -11,3 +11,6 @@ mod WhiteSpace
 pub mod AcceptedProofs
 mod AuditedCases
 mod ReadProofs
+pub mod OneSaying
+mod ConvertedCases
+mod ConvertedTexts

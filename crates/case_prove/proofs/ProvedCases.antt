@@ -1,5 +1,5 @@
 -- The verifier accepts what is proved, and there is one of it.
-use Rattle.std.proofs.Common.{◌≡◌, ℕ, List, [], ◌∷◌, ◌++◌, Some, length, take, drop, refl, sym, ap, ◌∙◌, subst}
+use Rattle.std.proofs.Common.{◌≡◌, inl, inr, ℕ, List, [], ◌∷◌, ◌++◌, Some, length, take, drop, refl, sym, ap, ◌∙◌, subst}
 use Rattle.std.specs.List.{flat_map}
 use Rattle.std.proofs.lemmas.List.{append-nil}
 use Rattle.std.proofs.lemmas.List.Concat.{flat_map-append}
@@ -22,11 +22,20 @@ use Rattle.gkr_layers.proofs.Shapes.{have_shape, length-all}
 use Rattle.gkr_layers.specs.Honest.{AreHonest, AreHonestMessages}
 use Rattle.gkr_layers.specs.Places.Place.{At}
 use Rattle.proof_wire.specs.declared.form.ProofForm.{ProofForm}
+use Rattle.proof_wire.specs.declared.form.ProofForm.TheVariants.{Line}
+use Rattle.proof_wire.proofs.Apart.{one_reading}
+use Rattle.proof_two.specs.declared.kind.ProofKind.{ProofKind}
+use Rattle.proof_two.specs.declared.kind.ProofKind.TheVariants.{ByLines, ByPairs}
+use Rattle.proof_two.specs.declared.kind.ProofVersion.TheVariants.{One, Two}
+use Rattle.proof_two.specs.Kinds.{form_in, kind_spelling}
+use Rattle.proof_two.specs.Lists.{shortened}
+use Rattle.proof_two.proofs.Shortened.{short_shape}
+use Rattle.gkr_verify.proofs.Filled.{accepted_sums, sums-fill}
 use Rattle.arr_compile.specs.Circuits.{IsCompiled}
 use Rattle.case_text.specs.Content.{Content}
 use Rattle.case_prove.specs.Proved.{IsProved}
 use Rattle.case_prove.specs.Started.{start_of}
-use Rattle.case_prove.specs.Verified.{IsVerdictOn}
+use Rattle.case_prove.specs.Verified.{IsVerdictOn, Says}
 use Rattle.case_prove.proofs.ProvedOutputs.{OneTree, InputsAre, IsComputed, sound, one_meaning, meaning_there}
 
 -- ---- acceptance
@@ -36,19 +45,32 @@ HonestIsAccepted form = (c : SoundCircuit) (inputs outputs : List F) (source : S
     outputs ≡ take (length outputs) (drop 1 (layer_values c.parts inputs 0)) → HaveShape form (drop 1 (exponents c.parts)) messages.layers → AreHonestMessages form c.parts inputs source s (all_messages messages.layers) →
     verdict_of (claim_in form c.parts inputs outputs) (all_messages messages.layers) (all_draws source s (exponent_at c.parts 0) (all_messages messages.layers)) ≡ Accepted
 
-pub accepted : (form : ProofForm) → OneTree → InputsAre → IsComputed → HonestIsAccepted form → (c p : Content) → IsProved form c p → IsVerdictOn p Accepted
-accepted form one inputs_are computes honest c p is =
+-- what is written of accepted messages says them
+pub kind_says : (kind : ProofKind) (program : List ℕ) (inputs outputs : List F) (p : Parts) (m : Messages) → HaveShape (form_in kind) (drop 1 (exponents p)) m.layers
+    → verdict_of (claim_in (form_in kind) p inputs outputs) (all_messages m.layers) (all_draws transcript (start_of (form_in kind) program inputs outputs) (exponent_at p 0) (all_messages m.layers)) ≡ Accepted
+    → Says (form_in kind) (record { program = program; inputs = inputs; outputs = Some outputs; proof = Some (kind_spelling kind m) }) p outputs m
+kind_says (ByLines One) program inputs outputs p m shape verdict = inl refl
+kind_says (ByLines Two) program inputs outputs p m shape verdict = inr (record {
+  pairs = shortened m;
+  pairs_shape = short_shape (drop 1 (exponents p)) m.layers shape;
+  pairs_spelled = refl;
+  filled_is = sym (sums-fill p outputs transcript (start_of Line program inputs outputs) m (accepted_sums p inputs outputs transcript (start_of Line program inputs outputs) m shape verdict));
+})
+kind_says ByPairs program inputs outputs p m shape verdict = refl
+
+pub accepted : (kind : ProofKind) → OneTree → InputsAre → IsComputed → HonestIsAccepted (form_in kind) → (c p : Content) → IsProved kind c p → IsVerdictOn p Accepted
+accepted kind one inputs_are computes honest c p is =
     let there = meaning_there one inputs_are computes c is.parts is.compiled is.outputs is.evaluated in
-    let verdict = honest (sound c.program is.parts is.compiled) c.inputs is.outputs transcript (start_of form c.program c.inputs is.outputs) is.messages there.as_many there.stand is.of_shape is.honest in
+    let verdict = honest (sound c.program is.parts is.compiled) c.inputs is.outputs transcript (start_of (form_in kind) c.program c.inputs is.outputs) is.messages there.as_many there.stand is.of_shape is.honest in
     subst (λ (q : Content). IsVerdictOn q Accepted) (sym is.proved_is) (record {
       parts = is.parts;
       outputs = is.outputs;
       claim = record { compiled = is.compiled; counted = there.counted; outputs_are = refl };
       as_many = there.as_many;
-      form = form;
+      form = form_in kind;
       messages = is.messages;
       of_shape = is.of_shape;
-      spelled = refl;
+      spelled = kind_says kind c.program c.inputs is.outputs is.parts is.messages is.of_shape verdict;
       verdict_is = sym verdict;
     })
 
@@ -96,14 +118,16 @@ one_proof form unique p inputs s a b shape shape' honest honest' =
     (unique (layers_of p) (input_table p inputs) (point_draws transcript s k) transcript (state_after_point transcript s k) (all_messages a.layers) (all_messages b.layers)
     (count form p a shape) (count form p b shape') honest honest')
 
-pub one_proved : (form : ProofForm) → OneTree → OneCircuit → HonestIsUnique form → (c p q : Content) → IsProved form c p → IsProved form c q → p ≡ q
-one_proved form one circuit unique c p q is is' =
+pub one_proved : (kind : ProofKind) → OneTree → OneCircuit → HonestIsUnique (form_in kind) → (c p q : Content) → IsProved kind c p → IsProved kind c q → p ≡ q
+one_proved kind one circuit unique c p q is is' =
+    let form : ProofForm = form_in kind in
     let parts : is.parts ≡ is'.parts = circuit c.program is.parts is'.parts is.compiled is'.compiled in
     let outputs : is.outputs ≡ is'.outputs = one_meaning one c is.outputs is'.outputs is.evaluated is'.evaluated in
-    let shape = subst (λ (p : Parts). HaveShape form (drop 1 (exponents p)) is.messages.layers) parts is.of_shape in
-    let honest = coe 0 1 (i. AreHonestMessages form (parts i) c.inputs transcript (start_of form c.program c.inputs (outputs i)) (all_messages is.messages.layers)) is.honest in
-    let proof : spelling form is.messages ≡ spelling form is'.messages = one_proof form unique is'.parts c.inputs (start_of form c.program c.inputs is'.outputs) is.messages is'.messages shape is'.of_shape honest is'.honest in
-    is.proved_is ∙ (λ i. record { program = c.program; inputs = c.inputs; outputs = Some (outputs i); proof = Some (proof i) }) ∙ sym is'.proved_is
+    let shape = subst (λ (p : Parts). HaveShape (form_in kind) (drop 1 (exponents p)) is.messages.layers) parts is.of_shape in
+    let honest = coe 0 1 (i. AreHonestMessages (form_in kind) (parts i) c.inputs transcript (start_of (form_in kind) c.program c.inputs (outputs i)) (all_messages is.messages.layers)) is.honest in
+    let bytes = one_proof form unique is'.parts c.inputs (start_of form c.program c.inputs is'.outputs) is.messages is'.messages shape is'.of_shape honest is'.honest in
+    let messages : is.messages ≡ is'.messages = one_reading form (exponents is'.parts) is.messages is'.messages shape is'.of_shape bytes in
+    is.proved_is ∙ (λ i. record { program = c.program; inputs = c.inputs; outputs = Some (outputs i); proof = Some (kind_spelling kind (messages i)) }) ∙ sym is'.proved_is
 
 -- cases of the same parts are the same
 pub same_content : (program program' : List ℕ) (inputs inputs' outputs : List F) (proof proof' : List ℕ) → program ≡ program' → inputs ≡ inputs' → proof ≡ proof' →

@@ -15,6 +15,17 @@ use Rattle.proof_wire.specs.declared.form.ProofForm.{ProofForm}
 use Rattle.proof_wire.specs.declared.form.ProofForm.TheVariants.{Line, Pair}
 use Rattle.proof_wire.specs.Forms.{last_degree}
 use Rattle.proof_wire.specs.Spelling.{coefficient_count, length_of}
+use Rattle.proof_wire.specs.declared.messages.Messages.{Messages}
+use Rattle.proof_wire.specs.Lists.{HaveShape}
+use Rattle.proof_wire.proofs.Lengths as wire_lengths
+use Rattle.proof_two.specs.declared.kind.ProofKind.{ProofKind}
+use Rattle.proof_two.specs.declared.kind.ProofKind.TheVariants.{ByLines, ByPairs}
+use Rattle.proof_two.specs.declared.kind.ProofVersion.TheVariants.{One, Two}
+use Rattle.proof_two.specs.Kinds.{form_in, kind_spelling}
+use Rattle.proof_two.specs.Lists.{shortened}
+use Rattle.proof_two.specs.Spelling.{element_count}
+use Rattle.proof_two.proofs.Lengths as two_lengths
+use Rattle.proof_two.proofs.Shortened.{short_shape}
 use Rattle.gkr_layers.proofs.Shapes.{outputs_room}
 use Rattle.case_text.specs.Content.{Fits}
 
@@ -51,12 +62,22 @@ short_proof form c =
     let low : height c.parts ≤ 256 = (height_bounds p none).1 in
     omega (arith, whole, few, many, low)
 
+few_elements : (ks : List ℕ) → element_count ks ≤ coefficient_count Line ks
+few_elements [] = omega arith
+few_elements (k ∷ ks) = omega (arith, few_elements ks, sum_by-cons (λ k. 6 * k + (last_degree Line k + 1)) k ks, sum_by-cons (λ k. 4 * k + (k + 1)) k ks)
+
+pub kind_length : (kind : ProofKind) (c : SoundCircuit) (m : Messages) → HaveShape (form_in kind) (drop 1 (exponents c.parts)) m.layers → length (kind_spelling kind m) ≤ 231428
+kind_length (ByLines One) c m h = omega (arith, wire_lengths.spelling_length Line (exponents c.parts) m h, short_proof Line c)
+kind_length (ByLines Two) c m h =
+    omega (arith, two_lengths.spelling_length (exponents c.parts) (shortened m) (short_shape (drop 1 (exponents c.parts)) m.layers h), few_elements (drop 1 (exponents c.parts)), short_proof Line c)
+kind_length ByPairs c m h = omega (arith, wire_lengths.spelling_length Pair (exponents c.parts) m h, short_proof Pair c)
+
 -- what is proved is within the limits of cases
-pub fits : (form : ProofForm) (c : SoundCircuit) (program : List ℕ) (inputs outputs : List F) (proof : List ℕ) → length program ≤ 65536 → length inputs ≤ 262144 → length outputs ≡ c.parts.outputs →
-    length proof ≡ length_of form (exponents c.parts) → Fits (record { program = program; inputs = inputs; outputs = Some outputs; proof = Some proof })
-fits form c program inputs outputs proof text line many size = record {
+pub fits : (c : SoundCircuit) (program : List ℕ) (inputs outputs : List F) (proof : List ℕ) → length program ≤ 65536 → length inputs ≤ 262144 → length outputs ≡ c.parts.outputs →
+    length proof ≤ 231428 → Fits (record { program = program; inputs = inputs; outputs = Some outputs; proof = Some proof })
+fits c program inputs outputs proof text line many size = record {
   program = text;
   inputs = line;
   outputs = omega (arith, many, few_outputs c);
-  proof = omega (arith, size, short_proof form c);
+  proof = omega (arith, size);
 }

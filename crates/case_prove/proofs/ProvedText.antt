@@ -14,6 +14,12 @@ use Rattle.proof_wire.specs.declared.form.ProofForm.{ProofForm}
 use Rattle.proof_wire.specs.declared.form.ProofForm.TheVariants.{Line, Pair}
 use Rattle.proof_wire.specs.Forms.{magic, mark}
 use Rattle.proof_wire.specs.Spelling.{all_coefficients, spelling}
+use Rattle.proof_two.specs.declared.kind.ProofKind.{ProofKind}
+use Rattle.proof_two.specs.declared.kind.ProofKind.TheVariants.{ByLines, ByPairs}
+use Rattle.proof_two.specs.declared.kind.ProofVersion.TheVariants.{One, Two}
+use Rattle.proof_two.specs.Kinds.{kind_spelling}
+use Rattle.proof_two.specs.Lists.{shortened}
+use Rattle.proof_two.specs.Spelling.{all_elements, magic_two}
 use Rattle.case_text.specs.Rules.{behind_value}
 use Rattle.case_text.specs.Content.{Content, Fits}
 use Rattle.case_text.specs.Spelling.{header, number, program_text, values_text, counted_text, outputs_text, proof_text, last_line, lower_case_text, Spells}
@@ -53,11 +59,18 @@ proof_bytes form messages =
     joined_bytes (magic form) (flat_map bytes_of (all_coefficients messages.layers))
     (four_bytes 71 75 82 (mark form) (omega arith) (omega arith) (omega arith) (mark_byte form)) (coefficient_bytes (all_coefficients messages.layers))
 
-pub spells : (form : ProofForm) (program : List ℕ) (inputs outputs : List F) (messages : Messages) →
-    let c : Content = record { program = program; inputs = inputs; outputs = Some outputs; proof = Some (spelling form messages) } in
+kind_bytes : (kind : ProofKind) (messages : Messages) → IsBytes (kind_spelling kind messages)
+kind_bytes (ByLines One) messages = proof_bytes Line messages
+kind_bytes (ByLines Two) messages =
+    joined_bytes magic_two (flat_map bytes_of (all_elements (shortened messages).layers))
+    (four_bytes 71 75 82 50 (omega arith) (omega arith) (omega arith) (omega arith)) (coefficient_bytes (all_elements (shortened messages).layers))
+kind_bytes ByPairs messages = proof_bytes Pair messages
+
+pub spells : (kind : ProofKind) (program : List ℕ) (inputs outputs : List F) (messages : Messages) →
+    let c : Content = record { program = program; inputs = inputs; outputs = Some outputs; proof = Some (kind_spelling kind messages) } in
     Fits c → Spells Full (lower_case_text c) c
-spells form program inputs outputs messages fits =
-    lower_spells (record { program = program; inputs = inputs; outputs = Some outputs; proof = Some (spelling form messages) }) _ fits (lower_is_hex (spelling form messages) (proof_bytes form messages)) refl Full tt tt
+spells kind program inputs outputs messages fits =
+    lower_spells (record { program = program; inputs = inputs; outputs = Some outputs; proof = Some (kind_spelling kind messages) }) _ fits (lower_is_hex (kind_spelling kind messages) (kind_bytes kind messages)) refl Full tt tt
 
 -- ---- its length
 

@@ -7,3 +7,4 @@ pub mod Sound
 pub mod Started
 pub mod Verified
 pub mod Audited
+pub mod Converted

@@ -4,8 +4,8 @@ use Rattle.field_ext.specs.Field.{F}
 use Rattle.circuit_core.specs.Parts.{Parts}
 use Rattle.circuit_core.specs.Sound.{exponents}
 use Rattle.proof_wire.specs.declared.messages.Messages.{Messages}
-use Rattle.proof_wire.specs.declared.form.ProofForm.{ProofForm}
-use Rattle.proof_wire.specs.Spelling.{spelling}
+use Rattle.proof_two.specs.declared.kind.ProofKind.{ProofKind}
+use Rattle.proof_two.specs.Kinds.{form_in, kind_spelling}
 use Rattle.transcript_fs.specs.Transcript.{transcript}
 use Rattle.proof_wire.specs.Lists.{all_messages, HaveShape}
 use Rattle.gkr_layers.specs.Honest.{AreHonestMessages}
@@ -15,19 +15,20 @@ use Rattle.case_prove.specs.Evaluated.{IsEvaluated}
 use Rattle.case_prove.specs.Started.{start_of}
 
 -- The case's program has a circuit, its meaning on the case's inputs are these outputs, and the second case is the first with these
--- outputs and the spelling of the honest messages of this form for the challenges of the transcript of program, inputs and outputs.
-pub record IsProved (form : ProofForm) (c proved : Content) : Type 0 where
+-- outputs and, as a proof of this kind, the honest messages of the kind's form for the challenges of the transcript of program, inputs
+-- and outputs.
+pub record IsProved (kind : ProofKind) (c proved : Content) : Type 0 where
   pub parts : Parts
   pub compiled : IsCompiled c.program parts
   pub outputs : List F
   pub evaluated : IsEvaluated c outputs
   pub messages : Messages
-  pub of_shape : HaveShape form (drop 1 (exponents parts)) messages.layers
-  pub honest : AreHonestMessages form parts c.inputs transcript
-      (start_of form c.program c.inputs outputs) (all_messages messages.layers)
+  pub of_shape : HaveShape (form_in kind) (drop 1 (exponents parts)) messages.layers
+  pub honest : AreHonestMessages (form_in kind) parts c.inputs transcript
+      (start_of (form_in kind) c.program c.inputs outputs) (all_messages messages.layers)
   pub proved_is : proved ≡ record {
     program = c.program;
     inputs = c.inputs;
     outputs = Some outputs;
-    proof = Some (spelling form messages);
+    proof = Some (kind_spelling kind messages);
   }

@@ -5,7 +5,6 @@ use Rattle.circuit_core.specs.Parts.{Parts}
 use Rattle.circuit_core.specs.Sound.{exponents}
 use Rattle.proof_wire.specs.declared.messages.Messages.{Messages}
 use Rattle.proof_wire.specs.declared.form.ProofForm.{ProofForm}
-use Rattle.proof_wire.specs.Spelling.{spelling}
 use Rattle.transcript_fs.specs.Source.{all_draws}
 use Rattle.transcript_fs.specs.Transcript.{transcript}
 use Rattle.gkr_layers.specs.Acceptance.{claim_in}
@@ -14,7 +13,7 @@ use Rattle.gkr_layers.specs.Soundness.{LetsPass}
 use Rattle.case_text.specs.Content.{Content}
 use Rattle.case_prove.specs.Evaluated.{IsEvaluated}
 use Rattle.case_prove.specs.Started.{start_of}
-use Rattle.case_prove.specs.Verified.{IsClaim}
+use Rattle.case_prove.specs.Verified.{IsClaim, Says}
 
 -- The case's outputs are its program's meaning on its inputs.
 pub record HasMeaning (c : Content) : Type 0 where
@@ -30,7 +29,7 @@ pub record HasExceptionalChallenge (c : Content) (n : ℕ) : Type 0 where
   pub form : ProofForm
   pub messages : Messages
   pub of_shape : HaveShape form (drop 1 (exponents parts)) messages.layers
-  pub spelled : c.proof ≡ Some (spelling form messages)
+  pub spelled : Says form c parts outputs messages
   pub passes :
       let stated = claim_in form parts c.inputs outputs in
       let qs = all_messages messages.layers in

@@ -3,7 +3,8 @@
 ghost use Rattle.std.specs.Prelude.{◌≡◌, IfOk};
 ghost use Rattle.phase_run.specs.Work.{IsWorkerCount};
 ghost use Rattle.case_text.specs.Content.{Content};
-ghost use Rattle.proof_wire.specs.declared.form.ProofForm.TheVariants.{Line};
+ghost use Rattle.proof_two.specs.declared.kind.ProofKind.TheVariants.{ByLines};
+ghost use Rattle.proof_two.specs.declared.kind.ProofVersion.TheVariants.{One};
 ghost use Rattle.case_prove.specs.Answers.{IsAnswered, IsProveAnswer, is_proved_case};
 ghost use Rattle.case_prove.specs.Circuits.{RefusesCircuit};
 
@@ -12,13 +13,13 @@ use crate::refused::Refused;
 use arr_compile::BadProgram;
 use case_text::{Case, Reply, write_reply};
 use io_edge::Gate;
-use proof_wire::ProofForm;
+use proof_two::{ProofKind, ProofVersion};
 use std::alloc::{AllocError, Global};
 use std::marker::{Model, Sync};
 use std::snapshot::Snapshot;
 use std::thread::Threads;
 
-/// A case, which contracts alone see, with the bytes that `prove` writes for it, by lines.
+/// A case, which contracts alone see, with the bytes that `prove` writes for it, with a proof of version 1.
 #[derive(Drop)]
 pub struct Answered {
     case: Snapshot<Case>,
@@ -53,7 +54,7 @@ impl Answered {
     }
 }
 
-/// The case with the reply of `prove` to it, which is the case with its proof by lines or a refusal.
+/// The case with the reply of `prove` to it, which is the case with its proof of version 1 or a refusal.
 pub fn answer_case<R: Threads + Sync, G: Gate>(
     rt: &R,
     alloc: Global,
@@ -83,9 +84,10 @@ fn prove_reply<R: Threads + Sync, G: Gate>(
     gate: &G,
 ) -> Result<Reply, AllocError>
     requires workers { IsWorkerCount workers }
-    ensures { IfOk result (λ reply. IsProveAnswer Line case.now reply) }
+    ensures { IfOk result (λ reply. IsProveAnswer (ByLines One) case.now reply) }
 {
-    match prove_case(rt, alloc, case, ProofForm::Line, workers, gate) {
+    let kind = ProofKind::ByLines(ProofVersion::One);
+    match prove_case(rt, alloc, case, kind, workers, gate) {
         Ok(proved) => Ok(Reply::Proved(proved)),
         Err(refused) => refused_reply(refused),
     }
@@ -104,7 +106,7 @@ fn is_proved_case(reply: &Reply) -> bool
 /// The reply to a case that is refused.
 fn refused_reply(refused: Refused) -> Result<Reply, AllocError>
     ensures { (c : Content) → RefusesCircuit c refused
-        → IfOk result (λ reply. IsProveAnswer Line c reply) }
+        → IfOk result (λ reply. IsProveAnswer (ByLines One) c reply) }
 {
     match refused {
         Refused::Program(BadProgram::At { at, kind }) => Ok(Reply::Program { kind, at }),

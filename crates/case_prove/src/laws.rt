@@ -1,6 +1,6 @@
 //! Laws of programs and their meanings, and of proved cases. Each is a function that does nothing and ensures the law.
 
-ghost use Rattle.std.specs.Prelude.{◌≡◌, ◌<◌, ◌↔◌, ℕ, List, ◌++◌, IsSome, IsTrue, length, Ok};
+ghost use Rattle.std.specs.Prelude.{◌≡◌, ◌<◌, ◌↔◌, ℕ, List, ◌++◌, IsSome, IsTrue, Some, drop, length, Ok};
 ghost use Rattle.field_ext.specs.Field.{F};
 ghost use Rattle.arr_ast.specs.ProgramTree.{ProgramTree};
 ghost use Rattle.arr_compile.specs.Programs.{IsRead};
@@ -9,8 +9,20 @@ ghost use Rattle.arr_lex.specs.declared.token.Token.{Token};
 ghost use Rattle.arr_lex.specs.Lexing.{tokens_from};
 ghost use Rattle.arr_parse.specs.Unplaced.{unplaced};
 ghost use Rattle.gkr_layers.specs.declared.verdict.Verdict.TheVariants.{Accepted};
+ghost use Rattle.circuit_core.specs.Parts.{Parts};
+ghost use Rattle.circuit_core.specs.Sound.{exponents};
+ghost use Rattle.proof_wire.specs.Lists.{HaveShape};
+ghost use Rattle.proof_wire.specs.Spelling.{spelling};
 ghost use Rattle.proof_wire.specs.declared.form.ProofForm.{ProofForm};
-ghost use Rattle.proof_wire.specs.declared.form.ProofForm.TheVariants.{Line};
+ghost use Rattle.proof_wire.specs.declared.messages.Messages.{Messages};
+ghost use Rattle.proof_wire.specs.declared.refused.BadProof.{BadProof};
+ghost use Rattle.proof_two.specs.declared.kind.ProofKind.{ProofKind};
+ghost use Rattle.proof_two.specs.declared.kind.ProofKind.TheVariants.{ByLines};
+ghost use Rattle.proof_two.specs.declared.kind.ProofVersion.{ProofVersion};
+ghost use Rattle.proof_two.specs.declared.kind.ProofVersion.TheVariants.{One, Two};
+ghost use Rattle.proof_two.specs.Kinds.{TroubleIn};
+ghost use Rattle.gkr_layers.specs.declared.verdict.Verdict.{Verdict};
+ghost use Rattle.case_prove.specs.Converted.{IsConverted};
 ghost use Rattle.audit_core.specs.Audit.{names_nothing};
 ghost use Rattle.audit_core.specs.declared.report.Audit.{Audit};
 ghost use Rattle.case_text.specs.Content.{Content, Fits};
@@ -20,14 +32,13 @@ ghost use Rattle.case_prove.specs.Audited.{IsAudited};
 ghost use Rattle.case_prove.specs.Blank.{IsWhiteSpace};
 ghost use Rattle.case_prove.specs.Proved.{IsProved};
 ghost use Rattle.case_prove.specs.Sound.{HasExceptionalChallenge, HasMeaning};
-ghost use Rattle.case_prove.specs.Verified.{IsVerdictOn};
+ghost use Rattle.case_prove.specs.Verified.{IsVerdictOn, Says, proof_form};
 
 use arr_compile::laws::{circuit_computes, circuit_is_sound, one_circuit, one_tree};
 use arr_lex::laws::{same_anywhere, white_space_moves};
 use arr_parse::laws::one_tree_of_words;
 use audit_core::laws::honesty_is_unnamed;
 use gkr_layers::laws::{honest_is_accepted, honest_is_unique};
-use proof_wire::laws::{one_length, one_reading};
 
 /// Programs that differ in no more than the places of their parts and the lengths of their texts mean the same.
 pub fn places_play_no_part()
@@ -63,7 +74,7 @@ pub fn white_space_means_nothing()
 
 /// The verifier accepts what the prover gives.
 pub fn proved_is_accepted()
-    ensures { (form : ProofForm) (c proved : Content) → IsProved form c proved
+    ensures { (kind : ProofKind) (c proved : Content) → IsProved kind c proved
         → IsVerdictOn proved Accepted }
 {
     one_tree();
@@ -71,10 +82,10 @@ pub fn proved_is_accepted()
     honest_is_accepted();
 }
 
-/// A case has one proof of a form: what the prover gives depends on the case and the form alone.
+/// A case has one proof of a kind: what the prover gives depends on the case and the kind alone.
 pub fn proved_is_one()
-    ensures { (form : ProofForm) (c proved other : Content) → IsProved form c proved
-        → IsProved form c other → proved ≡ other }
+    ensures { (kind : ProofKind) (c proved other : Content) → IsProved kind c proved
+        → IsProved kind c other → proved ≡ other }
 {
     one_tree();
     one_circuit();
@@ -83,17 +94,16 @@ pub fn proved_is_one()
 
 /// What the prover gives keeps to the limits of cases.
 pub fn proved_fits()
-    ensures { (form : ProofForm) (c proved : Content) → Fits c → IsProved form c proved
+    ensures { (kind : ProofKind) (c proved : Content) → Fits c → IsProved kind c proved
         → Fits proved }
 {
     one_tree();
     circuit_computes();
-    one_length();
 }
 
 /// The text of what the prover gives is one of a case with outputs and a proof, and of this case.
 pub fn proved_is_full()
-    ensures { (form : ProofForm) (c proved : Content) → Fits c → IsProved form c proved
+    ensures { (kind : ProofKind) (c proved : Content) → Fits c → IsProved kind c proved
         → Spells Full (lower_case_text proved) proved }
 {
     proved_fits();
@@ -101,12 +111,11 @@ pub fn proved_is_full()
 
 /// The text of what the prover gives is short enough to be read: it has fewer than 4,194,304 bytes.
 pub fn proved_is_short()
-    ensures { (form : ProofForm) (c proved : Content) → Fits c → IsProved form c proved
+    ensures { (kind : ProofKind) (c proved : Content) → Fits c → IsProved kind c proved
         → length (lower_case_text proved) < 4194304 }
 {
     one_tree();
     circuit_computes();
-    one_length();
 }
 
 /// Where a case is accepted whose outputs aren't its program's meaning on its inputs, some challenge of its own transcript is
@@ -126,7 +135,6 @@ pub fn audit_is_one()
         → audit ≡ other }
 {
     one_circuit();
-    one_reading();
     audit_core::laws::one_audit();
 }
 
@@ -153,11 +161,62 @@ pub fn accepted_falsehood_is_named()
     audit_core::laws::accepted_falsehood_is_named();
 }
 
-/// The audit of what the prover gives, by lines, names nothing.
+/// The audit of what the prover gives, by lines in either version, names nothing.
 pub fn proved_is_unnamed()
-    ensures { (c proved : Content) → IsProved Line c proved → IsAudited proved names_nothing }
+    ensures { (version : ProofVersion) (c proved : Content) → IsProved (ByLines version) c proved
+        → IsAudited proved names_nothing }
 {
+    honest_is_accepted();
     one_tree();
     circuit_computes();
     honesty_is_unnamed();
+}
+
+/// A proof says messages in one form alone, and there the same messages, or it has one first trouble.
+pub fn one_saying()
+    ensures form { (form : ProofForm) (c : Content) (parts : Parts) (outputs : List F)
+        (messages : Messages) → Says form c parts outputs messages → proof_form c ≡ form }
+    ensures reading { (form : ProofForm) (c : Content) (parts : Parts) (outputs : List F)
+        (some others : Messages) → HaveShape form (drop 1 (exponents parts)) some.layers
+        → HaveShape form (drop 1 (exponents parts)) others.layers
+        → Says form c parts outputs some → Says form c parts outputs others → some ≡ others }
+    ensures trouble { (form : ProofForm) (ks bytes : List ℕ) (trouble other : BadProof)
+        → TroubleIn form ks bytes trouble → TroubleIn form ks bytes other → trouble ≡ other }
+    ensures none { (form : ProofForm) (c : Content) (parts : Parts) (outputs : List F)
+        (messages : Messages) (proof : List ℕ) (trouble : BadProof)
+        → HaveShape form (drop 1 (exponents parts)) messages.layers
+        → Says form c parts outputs messages → c.proof ≡ Some proof
+        → TroubleIn form (exponents parts) proof trouble → ⊥ }
+{}
+
+/// What is converted has the verdicts that the case has, and a case has one for a version.
+pub fn converted_keeps()
+    ensures verdict { (version : ProofVersion) (c written : Content)
+        → IsConverted version c written → (verdict : Verdict)
+        → IsVerdictOn c verdict ↔ IsVerdictOn written verdict }
+    ensures one { (version : ProofVersion) (c written other : Content)
+        → IsConverted version c written → IsConverted version c other → written ≡ other }
+{
+    one_circuit();
+}
+
+/// The text of what is converted is one of a case with outputs and a proof, and of this case.
+pub fn converted_is_full()
+    ensures { (version : ProofVersion) (c written : Content) → Fits c
+        → IsConverted version c written → Spells Full (lower_case_text written) written }
+{}
+
+/// The text of what is converted is short enough to be read: it has fewer than 4,194,304 bytes.
+pub fn converted_is_short()
+    ensures { (version : ProofVersion) (c written : Content) → Fits c
+        → IsConverted version c written → length (lower_case_text written) < 4194304 }
+{}
+
+/// A case whose proof is of version 1 is the same once it was converted to version 2 and back.
+pub fn converted_back()
+    ensures { (c two one : Content) → IsConverted Two c two → IsConverted One two one
+        → ((messages : Messages) × (c.proof ≡ Some (spelling ProofForm.Line messages)))
+        → one ≡ c }
+{
+    one_circuit();
 }

@@ -3,9 +3,11 @@
 //! `eval_case` reads the program of a case and gives its outputs: the program's meaning on the case's inputs.
 //! `circuit_case` lays the program out as a circuit and gives its sizes. `prove_case` gives the case with its outputs and
 //! their proof, by lines or by pairs, and `verify_case` the verdict on the case's proof, whose fourth byte tells its form.
-//! `audit_case` tells of a proof by lines what an auditor finds who runs the honest prover beside it. The refusals come in one order: the program, the number of inputs, that of outputs, and the proof's bytes. `laws` says
-//! that what is proved is accepted, is one for its form and has a text short enough to be read, and that white space
-//! between tokens changes neither a program's tree nor its outputs.
+//! `audit_case` tells of a proof by lines what an auditor finds who runs the honest prover beside it, and `convert_case` writes
+//! such a proof in another version. The refusals come in one order: the program, the number of inputs, that of outputs, and
+//! the proof's bytes. `laws` says that what is proved is accepted, is one for its kind and has a text short enough to be read,
+//! that what is converted has the verdicts of the case, and that white space between tokens changes neither a program's tree
+//! nor its outputs.
 //!
 //! ```text
 //! the case of `input a; output a;` with the input 5       // the output 5
@@ -16,6 +18,7 @@
 mod answered;
 mod auditing;
 mod circuit;
+mod converting;
 mod evaluation;
 pub mod laws;
 mod proving;
@@ -28,6 +31,7 @@ pub use answered::{Answered, answer_case};
 pub use audit_core::{Audit, Place};
 pub use auditing::audit_case;
 pub use circuit::circuit_case;
+pub use converting::{Converted, convert_case};
 pub use evaluation::eval_case;
 pub use proving::prove_case;
 pub use refused::Refused;

@@ -23,15 +23,15 @@ use field_ext::Fp;
 use gkr_prove::prove_as;
 use io_edge::Gate;
 use mle_table::Table;
-use proof_wire::laws::one_length;
-use proof_wire::{Messages, ProofForm, encode_as};
+use proof_two::{ProofKind, encode_kind};
+use proof_wire::{Messages, ProofForm};
 use std::alloc::{AllocError, Global};
 use std::marker::Sync;
 use std::thread::Threads;
 use transcript_fs::Statement;
 use transcript_fs::laws::always_has;
 
-/// The case with its program's meaning on its inputs as outputs, and with the one honest proof of this form of them. It is
+/// The case with its program's meaning on its inputs as outputs, and with the one honest proof of this kind of them. It is
 /// refused as `Program` exactly where the program's text or its layout is refused so, and else as `Input` exactly where the
 /// numbers of inputs differ. Outputs and proof of the given case play no part. The proof is the same for every number of
 /// workers; each enters the gate with a piece of a round before it sums it.
@@ -39,12 +39,12 @@ pub fn prove_case<R: Threads + Sync, G: Gate>(
     rt: &R,
     alloc: Global,
     case: &Case,
-    form: ProofForm,
+    kind: ProofKind,
     workers: u32,
     gate: &G,
 ) -> Result<Case, Refused>
     requires workers { IsWorkerCount workers }
-    ensures proved { IfOk result (λ proved. IsProved form case.now proved) }
+    ensures proved { IfOk result (λ proved. IsProved kind case.now proved) }
     ensures refused { IfErr result (λ refused. RefusesCircuit case.now refused) }
 {
     let compiled = match compile(alloc, case.program()) {
@@ -56,7 +56,7 @@ pub fn prove_case<R: Threads + Sync, G: Gate>(
     if have != need {
         return Err(Refused::Input { have, need });
     }
-    match prove_claim(rt, alloc, case, &compiled.circuit, form, workers, gate) {
+    match prove_claim(rt, alloc, case, &compiled.circuit, kind, workers, gate) {
         Ok(proved) => Ok(proved),
         Err(_) => Err(Refused::Memory),
     }
@@ -68,23 +68,23 @@ fn prove_claim<R: Threads + Sync, G: Gate>(
     alloc: Global,
     case: &Case,
     circuit: &Circuit,
-    form: ProofForm,
+    kind: ProofKind,
     workers: u32,
     gate: &G,
 ) -> Result<Case, AllocError>
     requires compiled { IsCompiled case.now.program circuit.now.parts }
     requires counted { length case.now.inputs ≡ circuit.now.parts.inputs }
     requires workers { IsWorkerCount workers }
-    ensures { IfOk result (λ proved. IsProved form case.now proved) }
+    ensures { IfOk result (λ proved. IsProved kind case.now proved) }
 {
     circuit_computes();
-    one_length();
     let values = layer_values(rt, alloc, circuit, case.inputs())?;
     let outputs = real_parts(alloc, values.table(0), circuit.outputs() as usize)?;
+    let form = kind.form();
     let messages = honest_messages(
         rt, alloc, case, circuit, &values, &outputs, form, workers, gate,
     )?;
-    let proof = encode_as(alloc, form, &messages)?;
+    let proof = encode_kind(alloc, kind, &messages)?;
     let program = Vec::from_slice(alloc, case.program())?;
     let inputs = Vec::from_slice(alloc, case.inputs())?;
     Ok(Case::new(program, inputs, Some(outputs), Some(proof)))

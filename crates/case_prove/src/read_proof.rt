@@ -1,26 +1,40 @@
 //! The proof of a case, read as messages.
 
-ghost use Rattle.std.specs.Prelude.{◌≡◌, length, IsSome, IfOk, IfErr};
+ghost use Rattle.std.specs.Prelude.{◌≡◌, ◌<◌, ◌^◌, length, drop, Some, IsSome, IfOk, IfErr};
 ghost use Rattle.arr_compile.specs.Circuits.{IsCompiled};
-ghost use Rattle.case_prove.specs.Verified.{IsReadAs, RefusesProof};
+ghost use Rattle.circuit_core.specs.Sound.{exponents};
+ghost use Rattle.proof_wire.specs.Lists.{HaveShape};
+ghost use Rattle.proof_wire.specs.declared.form.ProofForm.TheVariants.{Line};
+ghost use Rattle.proof_two.specs.Lists.{HavePairs};
+ghost use Rattle.transcript_fs.specs.Transcript.{transcript};
+ghost use Rattle.gkr_verify.specs.ShortProof.{filled};
+ghost use Rattle.case_prove.specs.Started.{start_of};
+ghost use Rattle.case_prove.specs.Verified.{HasProof, IsClaim, IsReadAs, RefusesProof};
 
 use crate::refused::{Refused, program_refused};
+use crate::started::transcript_of;
 use arr_compile::compile;
 use case_text::Case;
 use circuit_core::Circuit;
+use field_ext::Fp;
+use gkr_verify::fill;
+use proof_two::{AnyProof, Pairs, decode_any};
 use proof_wire::{Messages, ProofForm, ProofRefused, decode_as};
-use std::alloc::Global;
+use std::alloc::{AllocError, Global};
+use transcript_fs::Statement;
+use transcript_fs::laws::always_has;
 
-/// The circuit of a case's program, and the messages that the case's proof spells.
+/// The circuit of a case's program, and the messages that the case's proof says.
 #[derive(Drop)]
 pub(crate) struct ReadProof {
     pub(crate) circuit: Circuit,
     pub(crate) messages: Messages,
 }
 
-/// Reads the case's proof as one of this form, for the circuit of the case's program. It is refused as `Program` exactly
-/// where the program's text or its layout is refused so, and else as `Input` or `Output` where the numbers of these differ
-/// from the circuit's, and else as `Proof` where the proof's bytes spell no messages of this form and the circuit's shape.
+/// Reads the case's proof as one of this form, for the circuit of the case's program: by lines in the version that the
+/// proof's fourth byte names, of which version 2 is filled in. It is refused as `Program` exactly where the program's text
+/// or its layout is refused so, and else as `Input` or `Output` where the numbers of these differ from the circuit's, and
+/// else as `Proof` where the proof's bytes say no messages of this form and the circuit's shape.
 pub(crate) fn read_proof(alloc: Global, case: &Case, form: ProofForm) -> Result<ReadProof, Refused>
     requires outputs { IsSome case.now.outputs }
     requires proof { IsSome case.now.proof }
@@ -60,7 +74,7 @@ fn read_messages(
     ensures read { IfOk result (λ messages. IsReadAs form case.now circuit.now.parts messages) }
     ensures refused { IfErr result (λ refused. RefusesProof form case.now refused) }
 {
-    let (Some(outputs), Some(proof)) = (case.outputs(), case.proof()) else {
+    let Some(outputs) = case.outputs() else {
         unreachable!()
     };
     let had = outputs.len() as u64;
@@ -68,9 +82,82 @@ fn read_messages(
     if had != need {
         return Err(Refused::Output { have: had, need });
     }
-    match decode_as(alloc, form, proof, circuit.shape()) {
+    match form {
+        ProofForm::Line => read_lines(alloc, case, circuit, outputs),
+        ProofForm::Pair => read_pairs(alloc, case, circuit, outputs),
+    }
+}
+
+/// Reads the proof of a case of as many outputs as one by pairs.
+fn read_pairs(
+    alloc: Global,
+    case: &Case,
+    circuit: &Circuit,
+    outputs: &[Fp],
+) -> Result<Messages, Refused>
+    requires claim { IsClaim case.now circuit.now.parts outputs.now }
+    requires as_many { length outputs.now ≡ circuit.now.parts.outputs }
+    requires proof { IsSome case.now.proof }
+    ensures read { IfOk result
+        (λ messages. HasProof ProofForm.Pair case.now circuit.now.parts outputs.now messages) }
+    ensures refused { IfErr result (λ refused. RefusesProof ProofForm.Pair case.now refused) }
+{
+    let Some(proof) = case.proof() else {
+        unreachable!()
+    };
+    match decode_as(alloc, ProofForm::Pair, proof, circuit.shape()) {
         Ok(messages) => Ok(messages),
         Err(ProofRefused::Bad(bad)) => Err(Refused::Proof(bad)),
         Err(ProofRefused::Memory) => Err(Refused::Memory),
     }
+}
+
+/// Reads the proof of a case of as many outputs as one by lines.
+fn read_lines(
+    alloc: Global,
+    case: &Case,
+    circuit: &Circuit,
+    outputs: &[Fp],
+) -> Result<Messages, Refused>
+    requires claim { IsClaim case.now circuit.now.parts outputs.now }
+    requires as_many { length outputs.now ≡ circuit.now.parts.outputs }
+    requires proof { IsSome case.now.proof }
+    ensures read { IfOk result
+        (λ messages. HasProof Line case.now circuit.now.parts outputs.now messages) }
+    ensures refused { IfErr result (λ refused. RefusesProof Line case.now refused) }
+{
+    let Some(proof) = case.proof() else {
+        unreachable!()
+    };
+    match decode_any(alloc, proof, circuit.shape()) {
+        Ok(AnyProof::One(messages)) => Ok(messages),
+        Ok(AnyProof::Two(pairs)) => match fill_in(alloc, case, circuit, outputs, &pairs) {
+            Ok(messages) => Ok(messages),
+            Err(_) => Err(Refused::Memory),
+        },
+        Err(ProofRefused::Bad(bad)) => Err(Refused::Proof(bad)),
+        Err(ProofRefused::Memory) => Err(Refused::Memory),
+    }
+}
+
+/// The messages of a proof of version 2, filled in with the challenges of the case's own transcript.
+fn fill_in(
+    alloc: Global,
+    case: &Case,
+    circuit: &Circuit,
+    outputs: &[Fp],
+    pairs: &Pairs,
+) -> Result<Messages, AllocError>
+    requires claim { IsClaim case.now circuit.now.parts outputs.now }
+    requires as_many { length outputs.now ≡ circuit.now.parts.outputs }
+    requires shape { HavePairs (drop 1 (exponents circuit.now.parts)) pairs.now.layers }
+    ensures filled { IfOk result (λ messages. messages ≡ filled circuit.now.parts outputs.now
+        transcript (start_of Line case.now.program case.now.inputs outputs.now) pairs.now) }
+    ensures shape { IfOk result
+        (λ messages. HaveShape Line (drop 1 (exponents circuit.now.parts)) messages.layers) }
+{
+    always_has();
+    let statement = Statement::of(case.program(), case.inputs(), outputs);
+    let mut challenges = transcript_of(ProofForm::Line, &statement);
+    fill(alloc, circuit, outputs, pairs, &mut challenges)
 }

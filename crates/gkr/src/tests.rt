@@ -3,6 +3,7 @@
 ghost use Rattle.std.specs.Prelude.{◌<◌};
 
 mod audits;
+mod converts;
 mod evaluates;
 mod lays_out;
 mod proves;

@@ -116,7 +116,7 @@ writes laws c reply before after tells written = record {
   verdict = laws.audit_verdict c tells.audit tells.is_audited;
   meaning = laws.audit_meaning c tells.audit tells.is_audited;
   named = laws.audit_named c tells.audit tells.is_audited;
-  unnamed = λ plain proved. laws.one_audit c tells.audit _ tells.is_audited (laws.audit_unnamed plain c proved);
+  unnamed = λ version plain proved. laws.one_audit c tells.audit _ tells.is_audited (laws.audit_unnamed version plain c proved);
 }
 
 -- what is written is the audit of the case that the input spells

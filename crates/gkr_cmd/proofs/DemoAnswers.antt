@@ -11,7 +11,8 @@ use Rattle.gkr_cmd.specs.Demo.{IsDemo, demo_case}
 use Rattle.gkr_cmd.specs.Replies.{IsDemoAnswer, status_of}
 use Rattle.gkr_cmd.specs.declared.status.Status.TheVariants.{Done}
 use Rattle.gkr_cmd.proofs.CircuitAnswers.{IsOne}
-use Rattle.proof_wire.specs.declared.form.ProofForm.TheVariants.{Line}
+use Rattle.proof_two.specs.declared.kind.ProofKind.TheVariants.{ByLines}
+use Rattle.proof_two.specs.declared.kind.ProofVersion.TheVariants.{One}
 use Rattle.gkr_cmd.proofs.ProveAnswers.{IsOneProved}
 
 same_some : {A : Type 0} (o : Option A) (a b : A) → o ≡ Some a → o ≡ Some b → a ≡ b
@@ -26,7 +27,7 @@ summary_of number size output layers proof digest = record { number = number; si
 same_summary : IsOne → IsOneProved → (number : ℕ) (a b : DemoSummary) → IsDemo number a → IsDemo number b → a ≡ b
 unfolding summary_of
 same_summary one proofs number a b is is' =
-    let same = proofs.proved Line (demo_case number) is.proved is'.proved is.is_proved is'.is_proved in
+    let same = proofs.proved (ByLines One) (demo_case number) is.proved is'.proved is.is_proved is'.is_proved in
     let outputs = same_some is'.proved.outputs (a.output ∷ is.output_is.others) (b.output ∷ is'.output_is.others)
     (subst (λ (p : Content). p.outputs ≡ Some (a.output ∷ is.output_is.others)) same is.output_is.outputs_are) is'.output_is.outputs_are in
     let proof = same_some is'.proved.proof is.proof is'.proof (subst (λ (p : Content). p.proof ≡ Some is.proof) same is.proof_is) is'.proof_is in

@@ -19,7 +19,8 @@ use Rattle.case_text.specs.Sizes.{Sizes}
 use Rattle.case_text.specs.declared.sizes.LayerSize.{LayerSize}
 use Rattle.case_text.specs.declared.demo.DemoSummary.{DemoSummary}
 use Rattle.case_prove.specs.Circuits.{IsLaidOut, layer_size, sizes_of}
-use Rattle.proof_wire.specs.declared.form.ProofForm.TheVariants.{Line}
+use Rattle.proof_two.specs.declared.kind.ProofKind.TheVariants.{ByLines}
+use Rattle.proof_two.specs.declared.kind.ProofVersion.TheVariants.{One}
 use Rattle.case_prove.specs.Proved.{IsProved}
 use Rattle.case_prove.specs.Verified.{IsVerdictOn}
 use Rattle.gkr_cmd.specs.Demo.{HasFirst, IsDemo, square_text, demo_case, demo_size, demo_program, demo_inputs}
@@ -79,7 +80,7 @@ same_some : {A : Type 0} (o : Option A) (a b : A) → o ≡ Some a → o ≡ Som
 same_some o a b is is' = cc
 
 -- a case that is proved has an output
-pub some_output : IsComputed → (c p : Content) (is : IsProved Line c p) → 1 ≤ length is.outputs
+pub some_output : IsComputed → (c p : Content) (is : IsProved (ByLines One) c p) → 1 ≤ length is.outputs
 some_output laws c p is =
     let accepted = is.evaluated in
     let same = laws.tree c.program is.compiled.tree accepted.tree is.compiled.lowered.accepted.read accepted.accepted.read in
@@ -92,7 +93,7 @@ some_output laws c p is =
     ap length (sym outputs) ∙ computed.as_many ∙ ap (λ (q : Parts). q.outputs) is.compiled.laid_out in
     omega (arith, has_one, as_many)
 
-pub has_output : IsComputed → (c p : Content) → IsProved Line c p → (o : List F) → Some o ≡ p.outputs → 0 < length o
+pub has_output : IsComputed → (c p : Content) → IsProved (ByLines One) c p → (o : List F) → Some o ≡ p.outputs → 0 < length o
 has_output laws c p is o told =
     let same = same_some p.outputs o is.outputs (sym told) (ap (λ (q : Content). q.outputs) is.proved_is) in
     let some = some_output laws c p is in
@@ -110,7 +111,7 @@ some_layer c sizes layers is same =
     let all : length layers ≡ length (sizes_of is.parts).layers = ap length same ∙ ap (λ (z : Sizes). length z.layers) is.sizes_are in
     omega (arith, counted, all)
 
-pub told : (number : ℕ) (s : DemoSummary) (c p : Content) (sizes : Sizes) (proof : List ℕ) → c ≡ demo_case number → IsLaidOut c sizes → IsProved Line c p → IsVerdictOn p Accepted → HasFirst p.outputs s.output → p.proof ≡ Some proof
+pub told : (number : ℕ) (s : DemoSummary) (c p : Content) (sizes : Sizes) (proof : List ℕ) → c ≡ demo_case number → IsLaidOut c sizes → IsProved (ByLines One) c p → IsVerdictOn p Accepted → HasFirst p.outputs s.output → p.proof ≡ Some proof
     → s.number ≡ number → s.size ≡ demo_size number → s.layers ≡ length sizes.layers - 1 → s.proof ≡ length proof → s.digest ≡ sha256 proof → IsDemo number s
 told number s c p sizes proof case laid_out proved accepted first proof_is number_is size_is layers_are length_is digest_is =
     let parts = laid_out.parts in
@@ -123,7 +124,7 @@ told number s c p sizes proof case laid_out proved accepted first proof_is numbe
       compiled = subst (λ (d : Content). IsCompiled d.program parts) case laid_out.compiled;
       layers_are = layers_are ∙ ap (λ (z : Sizes). length z.layers - 1) laid_out.sizes_are ∙ one_fewer;
       proved = p;
-      is_proved = subst (λ (d : Content). IsProved Line d p) case proved;
+      is_proved = subst (λ (d : Content). IsProved (ByLines One) d p) case proved;
       is_accepted = accepted;
       output_is = first;
       proof = proof;

@@ -13,16 +13,17 @@ use Rattle.gkr_cmd.specs.declared.reply_error.ReplyError.TheVariants as errors
 use Rattle.gkr_cmd.specs.declared.status.Status.{Status}
 use Rattle.gkr_cmd.specs.declared.status.Status.TheVariants as statuses
 use Rattle.gkr_words.specs.declared.words.Command.{Command}
-use Rattle.gkr_words.specs.declared.words.CaseCommand.TheVariants.{Eval, Circuit, Prove, Verify, Audit}
+use Rattle.gkr_words.specs.declared.words.CaseCommand.TheVariants.{Eval, Circuit, Prove, Verify, Audit, Convert}
 use Rattle.gkr_words.specs.Commands.{ReadsCase, command_of, input_limit, read_room}
 use Rattle.gkr_cmd.specs.Headline.{HasCauses, HasOneReply, Headline, KeepsPromises, Run}
 use Rattle.gkr_cmd.specs.Reached.{IsReadUpTo, ReadsWithin}
 use Rattle.gkr_cmd.specs.Replies.{IsCommandReply, IsReply, status_of}
-use Rattle.gkr_cmd.specs.Runs.{HasCircuit, HasLineProof, IsEvaluable, IsInput, IsReplied, WritesReplyFront}
+use Rattle.gkr_cmd.specs.Runs.{HasCircuit, HasLineProof, IsConvertible, IsEvaluable, IsInput, IsReplied, WritesReplyFront}
 use Rattle.gkr_cmd.specs.Finished.{Finishes, WritesSome}
 use Rattle.gkr_cmd.specs.RunLaws.{RunLaws}
 use Rattle.gkr_cmd.proofs.AcceptedCases.{accepted_of, sound_of}
 use Rattle.gkr_cmd.proofs.AuditAnswers.{audited_of, line_proof_of, writes_audit}
+use Rattle.gkr_cmd.proofs.ConvertAnswers.{converted_of, convertible_of, writes_converted}
 use Rattle.gkr_cmd.proofs.ProvedCases.{accepted_text, proved_of}
 use Rattle.gkr_cmd.proofs.Replied.{demo_done_of, done_of, history_reply_of, input_of, no_more, script_reply_of, whole_front}
 use Rattle.gkr_cmd.proofs.HistoryReplies.{tells}
@@ -129,15 +130,15 @@ headline_of laws run whole =
           let w = some.wrote in
           subst (λ r. Grows run.before.written run.after.written (reply_text r))
           (accepted_of command input some.reply asks.named (w.made.is_reply input (input_of Verify command left input asks.named asks.told)) (sym w.status ∙ done)).0 w.written;
-      honest = λ input workers form content asks read done.
+      honest = λ input workers kind content asks read done.
           let some = whole (done_replies run.ended done) in
           let w = some.wrote in
-          let case = proved_of workers form command input content some.reply asks.named (w.made.is_reply input (input_of (Prove workers form) command left input asks.named asks.told)) (sym w.status ∙ done) read in
+          let case = proved_of workers kind command input content some.reply asks.named (w.made.is_reply input (input_of (Prove workers kind) command left input asks.named asks.told)) (sym w.status ∙ done) read in
           record {
             proved = case.proved;
             is_proved = case.is_proved;
             written = subst (λ r. Grows run.before.written run.after.written (reply_text r)) case.reply_is w.written;
-            accepted = accepted_text form (laws.proved_accepted form) (laws.proved_full form) (laws.proved_short form) laws.exactly input content case.proved read case.is_proved;
+            accepted = accepted_text kind (laws.proved_accepted kind) (laws.proved_full kind) (laws.proved_short kind) laws.exactly input content case.proved read case.is_proved;
           };
       sound = λ input content asks read done wrong.
           let some = whole (done_replies run.ended done) in
@@ -153,9 +154,19 @@ headline_of laws run whole =
           let w = some.wrote in
           writes_audit laws input content some.reply run.before.written run.after.written
           (audited_of command input some.reply asks.named (w.made.is_reply input (input_of Audit command left input asks.named asks.told)) (sym w.status ∙ done)) read w.written;
-      proved = λ input workers form asks case replies.
+      converted = λ input version asks replies.
+          let w = (whole replies).wrote in (
+            λ done. convertible_of version input (whole replies).reply (converted_of version command input (whole replies).reply asks.named (w.made.is_reply input (input_of (Convert version) command left input asks.named asks.told)) (sym w.status ∙ done)),
+            λ case. w.status ∙ done_of Full (Convert version) (IsConvertible version) (laws.convertible version) command input (whole replies).reply asks.named (w.made.is_reply input (input_of (Convert version) command left input asks.named asks.told)) case,
+          );
+      converted_text = λ input version content asks read done.
+          let some = whole (done_replies run.ended done) in
+          let w = some.wrote in
+          writes_converted laws version input content some.reply run.before.written run.after.written
+          (converted_of version command input some.reply asks.named (w.made.is_reply input (input_of (Convert version) command left input asks.named asks.told)) (sym w.status ∙ done)) read w.written;
+      proved = λ input workers kind asks case replies.
           let w = (whole replies).wrote in
-          w.status ∙ done_of Plain (Prove workers form) HasCircuit (laws.provable form) command input (whole replies).reply asks.named (w.made.is_reply input (input_of (Prove workers form) command left input asks.named asks.told)) case;
+          w.status ∙ done_of Plain (Prove workers kind) HasCircuit (laws.provable kind) command input (whole replies).reply asks.named (w.made.is_reply input (input_of (Prove workers kind) command left input asks.named asks.told)) case;
       laid_out = λ input asks case replies.
           let w = (whole replies).wrote in
           w.status ∙ done_of Plain Circuit HasCircuit laws.laid_out command input (whole replies).reply asks.named (w.made.is_reply input (input_of Circuit command left input asks.named asks.told)) case;

@@ -1,6 +1,7 @@
 mod AcceptedCases
 mod AuditAnswers
 mod CircuitAnswers
+mod ConvertAnswers
 mod DemoAnswers
 mod DemoNodes
 mod DemoPrograms

@@ -1,8 +1,10 @@
 -- Words and an input have at most one reply, where each case has at most one answer.
 use Rattle.std.proofs.Common.{◌≡◌, ℕ, List, subst, Option, Some, None, Result, Ok, Err, sym, ap, ◌∙◌, arith}
 use Rattle.case_text.specs.declared.form.Form.{Form}
-use Rattle.proof_wire.specs.declared.form.ProofForm.{ProofForm}
-use Rattle.proof_wire.specs.declared.form.ProofForm.TheVariants.{Line}
+use Rattle.proof_two.specs.declared.kind.ProofKind.{ProofKind}
+use Rattle.proof_two.specs.declared.kind.ProofVersion.{ProofVersion}
+use Rattle.proof_two.specs.declared.kind.ProofKind.TheVariants.{ByLines}
+use Rattle.proof_two.specs.declared.kind.ProofVersion.TheVariants.{One}
 use Rattle.case_text.specs.Content.{Content}
 use Rattle.case_text.specs.Reading.{reading}
 use Rattle.case_text.specs.declared.refusal.BadCase.{BadCase}
@@ -12,10 +14,10 @@ use Rattle.gkr_cmd.specs.declared.status.Status.TheVariants.{Done}
 use Rattle.gkr_words.specs.declared.words.Command.{Command}
 use Rattle.gkr_words.specs.declared.words.Command.TheVariants.{OfCase, Demo, Serve, ServeHistory}
 use Rattle.gkr_words.specs.declared.words.CaseCommand.{CaseCommand}
-use Rattle.gkr_words.specs.declared.words.CaseCommand.TheVariants.{Eval, Circuit, Prove, Verify, Audit}
+use Rattle.gkr_words.specs.declared.words.CaseCommand.TheVariants.{Eval, Circuit, Prove, Verify, Audit, Convert}
 use Rattle.gkr_words.specs.Commands.{PrintsHistory, case_limit, command_of}
 use Rattle.gkr_cmd.proofs.ScriptReplies.{one_script}
-use Rattle.gkr_cmd.specs.Replies.{IsWithinLimit, IsOfCase, IsNoCase, IsTooLong, IsCaseReply, IsAnswer, IsAuditAnswer, IsEvalAnswer, IsCircuitAnswer, IsDemoAnswer, IsVerifyAnswer, form_of, IsCommandReply, IsReply, status_of}
+use Rattle.gkr_cmd.specs.Replies.{IsWithinLimit, IsOfCase, IsNoCase, IsTooLong, IsCaseReply, IsAnswer, IsAuditAnswer, IsConvertAnswer, IsEvalAnswer, IsCircuitAnswer, IsDemoAnswer, IsVerifyAnswer, form_of, IsCommandReply, IsReply, status_of}
 use Rattle.case_prove.specs.Answers.{IsProveAnswer}
 
 -- a case has at most one answer
@@ -76,17 +78,19 @@ one_found form answers one input {a} {b} (of_case c within read answer) (of_case
 pub record OneEach : Type 0 where
   pub eval : OneAnswer IsEvalAnswer
   pub circuit : OneAnswer IsCircuitAnswer
-  pub prove : (form : ProofForm) → OneAnswer (IsProveAnswer form)
+  pub prove : (kind : ProofKind) → OneAnswer (IsProveAnswer kind)
   pub verify : OneAnswer IsVerifyAnswer
   pub audit : OneAnswer IsAuditAnswer
+  pub convert : (version : ProofVersion) → OneAnswer (IsConvertAnswer version)
   pub demo : (number : ℕ) (a b : Reply) → IsDemoAnswer number a → IsDemoAnswer number b → a ≡ b
 
 one_of_each : OneEach → (command : CaseCommand) → OneAnswer (IsAnswer command)
 one_of_each one Eval = one.eval
 one_of_each one Circuit = one.circuit
-one_of_each one (Prove workers form) = one.prove form
+one_of_each one (Prove workers kind) = one.prove kind
 one_of_each one Verify = one.verify
 one_of_each one Audit = one.audit
+one_of_each one (Convert version) = one.convert version
 
 one_of_command : OneEach → (command : Option Command) (input : List ℕ) (a b : Reply) → ¬ PrintsHistory command → IsCommandReply command input a → IsCommandReply command input b → a ≡ b
 one_of_command one None input a b told is is' = is ∙ sym is'
@@ -94,7 +98,7 @@ one_of_command one (Some (OfCase command)) input a b told is is' =
     let found_in = found (form_of command) (IsAnswer command) input in
     one_found (form_of command) (IsAnswer command) (one_of_each one command) input (found_in a is) (found_in b is')
 one_of_command one (Some (Demo number workers)) input a b told is is' = one.demo number a b is is'
-one_of_command one (Some (Serve workers provers clients)) input a b told is is' = one_script (one.prove Line) input a b is is'
+one_of_command one (Some (Serve workers provers clients)) input a b told is is' = one_script (one.prove (ByLines One)) input a b is is'
 one_of_command one (Some (ServeHistory workers provers clients)) input a b told is is' = absurd (told tt)
 
 pub one_reply : OneEach → (words : List (List ℕ)) (input : List ℕ) (a b : Reply) → ¬ PrintsHistory (command_of words) → IsReply words input a → IsReply words input b → a ≡ b

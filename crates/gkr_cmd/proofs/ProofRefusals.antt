@@ -1,14 +1,12 @@
 -- A case whose proof is read as one of a form has at most one refusal, and none where the proof spells messages.
-use Rattle.std.proofs.Common.{◌≡◌, ℕ, List, length, drop, Option, Some, refl, sym, ap, ◌∙◌}
+use Rattle.std.proofs.Common.{◌≡◌, ℕ, List, length, drop, Option, Some, refl, subst, sym, ap, ◌∙◌}
 use Rattle.field_ext.specs.Field.{F}
 use Rattle.circuit_core.specs.Parts.{Parts}
 use Rattle.circuit_core.specs.Sound.{exponents}
 use Rattle.proof_wire.specs.declared.messages.Messages.{Messages}
 use Rattle.proof_wire.specs.declared.refused.BadProof.{BadProof}
 use Rattle.proof_wire.specs.declared.form.ProofForm.{ProofForm}
-use Rattle.proof_wire.specs.Forms.{form_of}
-use Rattle.proof_wire.specs.Spelling.{spelling}
-use Rattle.proof_wire.specs.Trouble.{TroubleIs}
+use Rattle.proof_two.specs.Kinds.{TroubleIn}
 use Rattle.proof_wire.specs.Lists.{HaveShape}
 use Rattle.arr_compile.specs.declared.refused.BadProgram.{BadProgram}
 use Rattle.arr_compile.specs.declared.refused.BadProgram.TheVariants.{At, Deep, Wide}
@@ -17,19 +15,19 @@ use Rattle.case_text.specs.Content.{Content}
 use Rattle.case_text.specs.declared.reply.Reply.{Reply}
 use Rattle.case_text.specs.declared.reply.Reply.TheVariants as replies
 use Rattle.case_prove.specs.Circuits.{IsCircuitMiscounted}
-use Rattle.case_prove.specs.Verified.{IsClaim, HasProof, IsOutputMiscounted, IsBadProof, RefusesProof}
+use Rattle.case_prove.specs.Verified.{IsClaim, HasProof, IsOutputMiscounted, IsBadProof, RefusesProof, Says, proof_form}
 use Rattle.case_prove.specs.declared.refused.Refused.{Refused}
 use Rattle.case_prove.specs.declared.refused.Refused.TheVariants as refusals
 use Rattle.gkr_cmd.specs.declared.status.Status.TheVariants.{Done}
 use Rattle.gkr_cmd.specs.Replies.{IsProofRefusal, status_of}
 use Rattle.gkr_cmd.proofs.CircuitAnswers.{IsOne, reply_to, same_counts, counted_or_not}
 
--- bytes spell messages in one form alone, and there the same messages, or have one first trouble
+-- a proof says messages in one form alone, and there the same messages, or it has one first trouble
 pub record IsOneProof : Type 0 where
-  pub form : (form : ProofForm) (messages : Messages) → form_of (spelling form messages) ≡ form
-  pub reading : (form : ProofForm) (ks : List ℕ) (some others : Messages) → HaveShape form (drop 1 ks) some.layers → HaveShape form (drop 1 ks) others.layers → spelling form some ≡ spelling form others → some ≡ others
-  pub trouble : (form : ProofForm) (ks bytes : List ℕ) (trouble other : BadProof) → TroubleIs form ks bytes trouble → TroubleIs form ks bytes other → trouble ≡ other
-  pub none : (form : ProofForm) (ks : List ℕ) (messages : Messages) (trouble : BadProof) → HaveShape form (drop 1 ks) messages.layers → TroubleIs form ks (spelling form messages) trouble → ⊥
+  pub form : (form : ProofForm) (c : Content) (p : Parts) (o : List F) (messages : Messages) → Says form c p o messages → proof_form c ≡ form
+  pub reading : (form : ProofForm) (c : Content) (p : Parts) (o : List F) (some others : Messages) → HaveShape form (drop 1 (exponents p)) some.layers → HaveShape form (drop 1 (exponents p)) others.layers → Says form c p o some → Says form c p o others → some ≡ others
+  pub trouble : (form : ProofForm) (ks bytes : List ℕ) (trouble other : BadProof) → TroubleIn form ks bytes trouble → TroubleIn form ks bytes other → trouble ≡ other
+  pub none : (form : ProofForm) (c : Content) (p : Parts) (o : List F) (messages : Messages) (proof : List ℕ) (trouble : BadProof) → HaveShape form (drop 1 (exponents p)) messages.layers → Says form c p o messages → c.proof ≡ Some proof → TroubleIn form (exponents p) proof trouble → ⊥
 
 -- why a case is refused
 pub data Refusal (form : ProofForm) (c : Content) : Reply → Type 0 where
@@ -92,14 +90,12 @@ same_trouble one proofs form c a b is is' =
     let parts = same_parts one c is'.parts is.parts is'.outputs is.outputs is'.claim is.claim in
     let proof = one_value c.proof is'.proof is.proof is'.proof_is is.proof_is in
     proofs.trouble form (exponents is.parts) is.proof a b is.trouble
-    (coe 0 1 (i. TroubleIs form (exponents (parts i)) (proof i) b) is'.trouble)
+    (coe 0 1 (i. TroubleIn form (exponents (parts i)) (proof i) b) is'.trouble)
 
 spelled_or_not : IsOne → IsOneProof → (form : ProofForm) (c : Content) (bad : BadProof) (p : Parts) (o : List F) (messages : Messages) → IsBadProof form c bad → HasProof form c p o messages → ⊥
 spelled_or_not one proofs form c bad p o messages is has =
     let parts = same_parts one c is.parts p is.outputs o is.claim has.claim in
-    let proof = one_value c.proof is.proof (spelling form messages) is.proof_is has.spelled in
-    proofs.none form (exponents p) messages bad has.of_shape
-    (coe 0 1 (i. TroubleIs form (exponents (parts i)) (proof i) bad) is.trouble)
+    proofs.none form c p o messages is.proof bad has.of_shape has.spelled is.proof_is (subst (λ (q : Parts). TroubleIn form (exponents q) is.proof bad) parts is.trouble)
 
 -- a case has one refusal
 pub one_refusal : IsOne → IsOneProof → (form : ProofForm) (c : Content) {a b : Reply} → Refusal form c a → Refusal form c b → a ≡ b

@@ -10,13 +10,17 @@ use Rattle.case_prove.specs.Circuits.{RefusesCircuit}
 use Rattle.case_prove.specs.Evaluated.{Refuses}
 use Rattle.audit_core.specs.declared.report.Audit.{Audit as AuditFound}
 use Rattle.case_prove.specs.Audited.{IsAudited, RefusesAudit}
+use Rattle.case_prove.specs.Converted.{FailsSum, RefusesConvert}
+use Rattle.gkr_verify.specs.declared.sums.LayerSum.{LayerSum}
+use Rattle.proof_two.specs.declared.kind.ProofVersion.{ProofVersion}
+use Rattle.proof_two.specs.declared.kind.ProofVersion.TheVariants.{Two}
 use Rattle.case_prove.specs.Verified.{IsVerdictOn, RefusesVerify}
 use Rattle.case_text.specs.Forms.{Allows}
 use Rattle.gkr_layers.specs.declared.verdict.Verdict.{Verdict}
 use Rattle.case_text.specs.declared.verdict.AuditLines.{AuditLines}
 use Rattle.case_text.specs.declared.verdict.VerdictLine.{VerdictLine}
 use Rattle.case_text.specs.declared.verdict.VerdictLine.TheVariants as told
-use Rattle.proof_wire.specs.declared.form.ProofForm.{ProofForm}
+use Rattle.proof_two.specs.declared.kind.ProofKind.{ProofKind}
 use Rattle.case_text.specs.Content.{Content}
 use Rattle.case_text.specs.Reading.{reading}
 use Rattle.case_text.specs.declared.form.Form.{Form}
@@ -29,11 +33,11 @@ use Rattle.gkr_cmd.specs.declared.status.Status.TheVariants as statuses
 use Rattle.gkr_words.specs.declared.words.Command.{Command}
 use Rattle.gkr_words.specs.declared.words.Command.TheVariants.{OfCase, Demo, Serve, ServeHistory}
 use Rattle.gkr_words.specs.declared.words.CaseCommand.{CaseCommand}
-use Rattle.gkr_words.specs.declared.words.CaseCommand.TheVariants.{Eval, Circuit, Prove, Verify, Audit}
+use Rattle.gkr_words.specs.declared.words.CaseCommand.TheVariants.{Eval, Circuit, Prove, Verify, Audit, Convert}
 use Rattle.io_edge.specs.Written.{Grows}
 use Rattle.gkr_cmd.specs.Reached.{ReadsUpTo, WritesFront}
-use Rattle.gkr_cmd.specs.Replies.{IsWithinLimit, IsTooLong, IsCommandReply, IsHistoryReply, IsScriptReply, IsCaseReply, IsAnswer, IsAuditAnswer, IsCircuitAnswer, IsDemoAnswer, IsEvalAnswer, IsVerifyAnswer, IsOfCase, form_of, status_of}
-use Rattle.gkr_cmd.specs.Told.{audit_lines, refused_reply, verdict_line}
+use Rattle.gkr_cmd.specs.Replies.{IsWithinLimit, IsTooLong, IsCommandReply, IsHistoryReply, IsScriptReply, IsCaseReply, IsAnswer, IsAuditAnswer, IsCircuitAnswer, IsConvertAnswer, IsDemoAnswer, IsEvalAnswer, IsVerifyAnswer, IsOfCase, form_of, status_of}
+use Rattle.gkr_cmd.specs.Told.{audit_lines, refused_reply, sum_line, verdict_line}
 use Rattle.gkr_words.specs.Commands.{IsService, case_limit, input_limit, script_limit}
 use Rattle.case_prove.specs.Answers.{IsProveAnswer}
 use Rattle.gkr_cmd.specs.Runs.{IsInput, IsReplied, WritesNoMore, WritesReplyFront}
@@ -243,14 +247,14 @@ circuit_refused (refusals.Proof bad) c is = absurd is
 circuit_refused refusals.Memory c is = tt
 
 -- what is made of a refusal of `prove` is its answer
-pub prove_refused : (form : ProofForm) (refused : Refused) (c : Content) → RefusesCircuit c refused → IfOk (refused_reply refused) (λ reply. IsProveAnswer form c reply)
-prove_refused form (refusals.Program (At at kind)) c is = is
-prove_refused form (refusals.Program (Deep levels)) c is = is
-prove_refused form (refusals.Program (Wide height width)) c is = is
-prove_refused form (refusals.Input have need) c is = is
-prove_refused form (refusals.Output have need) c is = absurd is
-prove_refused form (refusals.Proof bad) c is = absurd is
-prove_refused form refusals.Memory c is = tt
+pub prove_refused : (kind : ProofKind) (refused : Refused) (c : Content) → RefusesCircuit c refused → IfOk (refused_reply refused) (λ reply. IsProveAnswer kind c reply)
+prove_refused kind (refusals.Program (At at why)) c is = is
+prove_refused kind (refusals.Program (Deep levels)) c is = is
+prove_refused kind (refusals.Program (Wide height width)) c is = is
+prove_refused kind (refusals.Input have need) c is = is
+prove_refused kind (refusals.Output have need) c is = absurd is
+prove_refused kind (refusals.Proof bad) c is = absurd is
+prove_refused kind refusals.Memory c is = tt
 
 -- the answer of `demo` doesn't refuse the words
 pub demo_named : (number : ℕ) (reply : Reply) → IsDemoAnswer number reply → status_of reply ≢ statuses.Usage
@@ -286,6 +290,20 @@ verify_refused refusals.Memory c is = tt
 pub verdict_replied : (verdict : Verdict) (line : VerdictLine) (c : Content) → IsVerdictOn c verdict → line ≡ verdict_line verdict → IsVerifyAnswer c (replies.Verdict line)
 verdict_replied verdict line c is same = (verdict, is, same)
 
+-- what is made of a refusal of `convert` is its answer
+pub convert_refused : (version : ProofVersion) (refused : Refused) (c : Content) → RefusesConvert c refused → IfOk (refused_reply refused) (λ reply. IsConvertAnswer version c reply)
+convert_refused version (refusals.Program (At at kind)) c is = is
+convert_refused version (refusals.Program (Deep levels)) c is = is
+convert_refused version (refusals.Program (Wide height width)) c is = is
+convert_refused version (refusals.Input have need) c is = is
+convert_refused version (refusals.Output have need) c is = is
+convert_refused version (refusals.Proof bad) c is = is
+convert_refused version refusals.Memory c is = tt
+
+-- what is made of a sum that fails is the answer of `convert`
+pub sum_replied : (version : ProofVersion) (fault : LayerSum) (line : VerdictLine) (c : Content) → (version ≡ Two) × FailsSum c fault → line ≡ sum_line fault → IsConvertAnswer version c (replies.Verdict line)
+sum_replied version fault line c is same = (fault, is.0, is.1, same)
+
 -- what is made of a refusal of `audit` is its answer
 pub audit_refused : (refused : Refused) (c : Content) → RefusesAudit c refused → IfOk (refused_reply refused) (λ reply. IsAuditAnswer c reply)
 audit_refused (refusals.Program (At at kind)) c is = is
@@ -311,19 +329,22 @@ answers_a_case : (command : CaseCommand) (c : Content) (reply : Reply) → IsAns
 answers_a_case command c (replies.Outputs values) is = tt
 answers_a_case Eval c replies.Usage is = absurd is
 answers_a_case Circuit c replies.Usage is = absurd is
-answers_a_case (Prove workers form) c replies.Usage is = absurd is
+answers_a_case (Prove workers kind) c replies.Usage is = absurd is
 answers_a_case Verify c replies.Usage is = absurd is
 answers_a_case Audit c replies.Usage is = absurd is
+answers_a_case (Convert version) c replies.Usage is = absurd is
 answers_a_case Eval c (replies.TooLong limit) is = absurd is
 answers_a_case Circuit c (replies.TooLong limit) is = absurd is
-answers_a_case (Prove workers form) c (replies.TooLong limit) is = absurd is
+answers_a_case (Prove workers kind) c (replies.TooLong limit) is = absurd is
 answers_a_case Verify c (replies.TooLong limit) is = absurd is
 answers_a_case Audit c (replies.TooLong limit) is = absurd is
+answers_a_case (Convert version) c (replies.TooLong limit) is = absurd is
 answers_a_case Eval c (replies.Case bad) is = absurd is
 answers_a_case Circuit c (replies.Case bad) is = absurd is
-answers_a_case (Prove workers form) c (replies.Case bad) is = absurd is
+answers_a_case (Prove workers kind) c (replies.Case bad) is = absurd is
 answers_a_case Verify c (replies.Case bad) is = absurd is
 answers_a_case Audit c (replies.Case bad) is = absurd is
+answers_a_case (Convert version) c (replies.Case bad) is = absurd is
 answers_a_case command c (replies.Program kind at) is = tt
 answers_a_case command c (replies.Deep levels) is = tt
 answers_a_case command c (replies.Wide height width) is = tt

@@ -1,7 +1,8 @@
 -- An input has at most one reply of `serve`, and a script is answered.
 use Rattle.std.proofs.Common.{◌≡◌, ◌≤◌, ℕ, suc, List, [], ◌∷◌, length, Result, Ok, Err, Some, ap, ap₂, refl, sym, subst, ◌∙◌, arith}
 use Rattle.std.specs.List.{slice_get}
-use Rattle.proof_wire.specs.declared.form.ProofForm.TheVariants.{Line}
+use Rattle.proof_two.specs.declared.kind.ProofKind.TheVariants.{ByLines}
+use Rattle.proof_two.specs.declared.kind.ProofVersion.TheVariants.{One}
 use Rattle.case_prove.specs.Answers.{IsProveAnswer, is_proved_case}
 use Rattle.case_text.specs.Content.{Content}
 use Rattle.case_text.specs.Replies.{reply_text}
@@ -54,7 +55,7 @@ long_or_not : (input : List ℕ) (limit : ℕ) → IsTooLong script_limit input 
 long_or_not input limit is within = let longer = is.longer in omega arith
 
 -- a job has one reply, where each case has one
-one_reply : ((c : Content) (a b : Reply) → IsProveAnswer Line c a → IsProveAnswer Line c b → a ≡ b) → (job : ScriptJob) (x y : Served) → IsServed job x → IsServed job y → x ≡ y
+one_reply : ((c : Content) (a b : Reply) → IsProveAnswer (ByLines One) c a → IsProveAnswer (ByLines One) c b → a ≡ b) → (job : ScriptJob) (x y : Served) → IsServed job x → IsServed job y → x ≡ y
 one_reply one job x y is is' =
     let same = one job.case is.answered.reply is'.answered.reply is.answered.is_answer is'.answered.is_answer in
     let client : x.client ≡ y.client = is.client ∙ sym is'.client in
@@ -65,7 +66,7 @@ one_reply one job x y is is' =
 abbrev Each : List ScriptJob → List Served → Type 0
 Each script xs = (k : ℕ) (job : ScriptJob) (reply : Served) → slice_get script k ≡ Some job → slice_get xs k ≡ Some reply → IsServed job reply
 
-one_served : ((c : Content) (a b : Reply) → IsProveAnswer Line c a → IsProveAnswer Line c b → a ≡ b) → (script : List ScriptJob) (xs ys : List Served) → length xs ≡ length script → length ys ≡ length script
+one_served : ((c : Content) (a b : Reply) → IsProveAnswer (ByLines One) c a → IsProveAnswer (ByLines One) c b → a ≡ b) → (script : List ScriptJob) (xs ys : List Served) → length xs ≡ length script → length ys ≡ length script
     → Each script xs → Each script ys → xs ≡ ys
 one_served one [] [] [] m n f g = refl
 one_served one [] (x ∷ xs) ys m n f g = absurd (omega arith)
@@ -76,7 +77,7 @@ one_served one (job ∷ script) (x ∷ xs) (y ∷ ys) m n f g =
     ap₂ (λ (h : Served) (t : List Served). h ∷ t) (one_reply one job x y (f 0 job x refl refl) (g 0 job y refl refl))
     (one_served one script xs ys (omega arith) (omega arith) (λ k j s a b. f (suc k) j s a b) (λ k j s a b. g (suc k) j s a b))
 
-one_found : ((c : Content) (a b : Reply) → IsProveAnswer Line c a → IsProveAnswer Line c b → a ≡ b) → (input : List ℕ) {a b : Reply} → Found input a → Found input b → a ≡ b
+one_found : ((c : Content) (a b : Reply) → IsProveAnswer (ByLines One) c a → IsProveAnswer (ByLines One) c b → a ≡ b) → (input : List ℕ) {a b : Reply} → Found input a → Found input b → a ≡ b
 one_found one input (long limit is) (long limit' is') = ap replies.TooLong (is.limit_is ∙ sym is'.limit_is)
 one_found one input (long limit is) (no_script bad is') = absurd (long_or_not input limit is is'.within)
 one_found one input (long limit is) (served jobs is') = absurd (long_or_not input limit is is'.within)
@@ -90,7 +91,7 @@ one_found one input (served jobs is) (served jobs' is') =
     let other : AreServed is.script jobs' = subst (λ script. AreServed script jobs') same is'.replies in
     ap replies.Served (one_served one is.script jobs jobs' is.replies.as_many other.as_many is.replies.each other.each)
 
-pub one_script : ((c : Content) (a b : Reply) → IsProveAnswer Line c a → IsProveAnswer Line c b → a ≡ b) → (input : List ℕ) (a b : Reply) → IsScriptReply input a → IsScriptReply input b → a ≡ b
+pub one_script : ((c : Content) (a b : Reply) → IsProveAnswer (ByLines One) c a → IsProveAnswer (ByLines One) c b → a ≡ b) → (input : List ℕ) (a b : Reply) → IsScriptReply input a → IsScriptReply input b → a ≡ b
 one_script one input a b is is' = one_found one input (found input a is) (found input b is')
 
 -- a script is answered

@@ -1,13 +1,11 @@
 -- A case has at most one answer of `verify`, and that to a case whose proof meets every equation is that it is accepted.
-use Rattle.std.proofs.Common.{◌≡◌, ℕ, List, [], drop, subst, sym, ap, ◌∙◌}
+use Rattle.std.proofs.Common.{◌≡◌, ◌↔◌, ℕ, List, [], length, drop, subst, Some, refl, sym, ap, ◌∙◌}
 use Rattle.std.specs.Prelude.{Option, unwrap_or}
 use Rattle.field_ext.specs.Field.{F}
 use Rattle.circuit_core.specs.Parts.{Parts}
 use Rattle.circuit_core.specs.Sound.{exponents}
 use Rattle.proof_wire.specs.declared.messages.Messages.{Messages}
 use Rattle.proof_wire.specs.declared.form.ProofForm.{ProofForm}
-use Rattle.proof_wire.specs.Forms.{form_of}
-use Rattle.proof_wire.specs.Spelling.{spelling}
 use Rattle.transcript_fs.specs.Source.{all_draws}
 use Rattle.transcript_fs.specs.Transcript.{transcript}
 use Rattle.gkr_layers.specs.Acceptance.{claim_in, verdict_of}
@@ -19,7 +17,7 @@ use Rattle.case_text.specs.declared.reply.Reply.{Reply}
 use Rattle.case_text.specs.declared.reply.Reply.TheVariants as replies
 use Rattle.case_text.specs.declared.verdict.VerdictLine.{VerdictLine}
 use Rattle.case_prove.specs.Started.{start_of}
-use Rattle.case_prove.specs.Verified.{HasProof, IsVerdictOn, RefusesVerify, proof_form}
+use Rattle.case_prove.specs.Verified.{HasProof, IsVerdictOn, RefusesVerify, Says, proof_form}
 use Rattle.case_prove.specs.declared.refused.Refused.{Refused}
 use Rattle.case_prove.specs.declared.refused.Refused.TheVariants as refusals
 use Rattle.gkr_cmd.specs.declared.status.Status.TheVariants.{Done}
@@ -58,7 +56,7 @@ answer c (replies.Audit lines) is = absurd is
 
 -- a case with a verdict has a proof in the form that its fourth byte names
 form_read : IsOneProof → (c : Content) (v : Verdict) (is : IsVerdictOn c v) → is.form ≡ proof_form c
-form_read proofs c v is = sym (proofs.form is.form is.messages) ∙ ap (λ (o : Option (List ℕ)). form_of (unwrap_or o [])) (sym is.spelled)
+form_read proofs c v is = sym (proofs.form is.form c is.parts is.outputs is.messages is.spelled)
 
 has_proof : IsOneProof → (c : Content) (v : Verdict) (is : IsVerdictOn c v) → HasProof (proof_form c) c is.parts is.outputs is.messages
 has_proof proofs c v is =
@@ -74,10 +72,10 @@ same_verdict : IsOne → IsOneProof → (c : Content) (v w : Verdict) → IsVerd
 same_verdict one proofs c v w is is' =
     let parts = same_parts one c is'.parts is.parts is'.outputs is.outputs is'.claim is.claim in
     let outputs = same_outputs c is'.parts is.parts is'.outputs is.outputs is'.claim is.claim in
-    let bytes = one_value c.proof (spelling is.form is.messages) (spelling is'.form is'.messages) is.spelled is'.spelled in
     let form : is'.form ≡ is.form = form_read proofs c w is' ∙ sym (form_read proofs c v is) in
     let shape : HaveShape is.form (drop 1 (exponents is.parts)) is'.messages.layers = coe 0 1 (i. HaveShape (form i) (drop 1 (exponents (parts i))) is'.messages.layers) is'.of_shape in
-    let messages : is.messages ≡ is'.messages = proofs.reading is.form (exponents is.parts) is.messages is'.messages is.of_shape shape (bytes ∙ ap (λ (f : ProofForm). spelling f is'.messages) form) in
+    let says : Says is.form c is.parts is.outputs is'.messages = coe 0 1 (i. Says (form i) c (parts i) (outputs i) is'.messages) is'.spelled in
+    let messages : is.messages ≡ is'.messages = proofs.reading is.form c is.parts is.outputs is.messages is'.messages is.of_shape shape is.spelled says in
     is.verdict_is
     ∙ ap (by_messages is.form c is.parts is.outputs) messages
     ∙ ap (λ (o : List F). by_messages is.form c is.parts o is'.messages) (sym outputs)
@@ -104,3 +102,14 @@ accepted_alone one proofs c is v is' = same_verdict one proofs c v verdicts.Acce
 
 pub accepted_or_memory : IsOne → IsOneProof → (c : Content) → IsVerdictOn c verdicts.Accepted → (r : Refused) → RefusesVerify c r → r ≡ refusals.Memory
 accepted_or_memory one proofs c is r is' = read_or_memory one proofs (proof_form c) c is.parts is.outputs is.messages (has_proof proofs c verdicts.Accepted is) r is'
+
+-- a case that has a verdict isn't refused, so its answers are those of a case with the same verdicts
+answered : IsOne → IsOneProof → (c d : Content) (v : Verdict) → IsVerdictOn c v → ((w : Verdict) → IsVerdictOn c w → IsVerdictOn d w) → {reply : Reply} → Answer c reply → IsVerifyAnswer d reply
+answered one proofs c d v is to (no_verdict refusal) = absurd (not_both one proofs (proof_form c) c is.parts is.outputs is.messages refusal (has_proof proofs c v is))
+answered one proofs c d v is to (verdict w found) = (w, to w found, refl)
+
+pub answered_alike : IsOne → IsOneProof → (c d : Content) (v : Verdict) → IsVerdictOn c v → ((w : Verdict) → IsVerdictOn c w ↔ IsVerdictOn d w) → (reply : Reply) → IsVerifyAnswer c reply ↔ IsVerifyAnswer d reply
+answered_alike one proofs c d v is alike reply = (
+  λ found. answered one proofs c d v is (λ w is'. (alike w).0 is') (answer c reply found),
+  λ found. answered one proofs d c v ((alike v).0 is) (λ w is'. (alike w).1 is') (answer d reply found),
+)

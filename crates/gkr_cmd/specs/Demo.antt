@@ -6,7 +6,8 @@ use Rattle.field_ext.specs.Field.{F, of}
 use Rattle.circuit_core.specs.Parts.{Parts, height}
 use Rattle.arr_compile.specs.Circuits.{IsCompiled}
 use Rattle.gkr_layers.specs.declared.verdict.Verdict.TheVariants.{Accepted}
-use Rattle.proof_wire.specs.declared.form.ProofForm.TheVariants.{Line}
+use Rattle.proof_two.specs.declared.kind.ProofKind.TheVariants.{ByLines}
+use Rattle.proof_two.specs.declared.kind.ProofVersion.TheVariants.{One}
 use Rattle.case_text.specs.Content.{Content}
 use Rattle.case_text.specs.declared.demo.DemoSummary.{DemoSummary}
 use Rattle.case_prove.specs.Proved.{IsProved}
@@ -54,7 +55,7 @@ pub record IsDemo (number : ℕ) (summary : DemoSummary) : Type 0 where
   pub compiled : IsCompiled (demo_program (demo_size number)) parts
   pub layers_are : summary.layers ≡ height parts
   pub proved : Content
-  pub is_proved : IsProved Line (demo_case number) proved
+  pub is_proved : IsProved (ByLines One) (demo_case number) proved
   pub is_accepted : IsVerdictOn proved Accepted
   pub output_is : HasFirst proved.outputs summary.output
   pub proof : List ℕ

@@ -4,7 +4,8 @@ use Rattle.io_edge.specs.Calls.{Calls}
 use Rattle.io_edge.specs.Causes.{Rose}
 use Rattle.io_edge.specs.Written.{Grows}
 use Rattle.case_prove.specs.Sound.{HasExceptionalChallenge, HasMeaning}
-use Rattle.proof_wire.specs.declared.form.ProofForm.{ProofForm}
+use Rattle.proof_two.specs.declared.kind.ProofKind.{ProofKind}
+use Rattle.proof_two.specs.declared.kind.ProofVersion.{ProofVersion}
 use Rattle.case_text.specs.Content.{Content}
 use Rattle.case_text.specs.Reading.{reading}
 use Rattle.case_text.specs.Replies.{verdict_text}
@@ -14,7 +15,7 @@ use Rattle.gkr_cmd.specs.declared.status.Status.{Status}
 use Rattle.gkr_cmd.specs.declared.status.Status.TheVariants as statuses
 use Rattle.gkr_words.specs.declared.words.Command.{Command}
 use Rattle.gkr_words.specs.declared.words.Command.TheVariants.{OfCase, Demo, Serve, ServeHistory}
-use Rattle.gkr_words.specs.declared.words.CaseCommand.TheVariants.{Eval, Circuit, Prove, Verify, Audit}
+use Rattle.gkr_words.specs.declared.words.CaseCommand.TheVariants.{Eval, Circuit, Prove, Verify, Audit, Convert}
 use Rattle.script_text.specs.declared.script.MarkedJob.{MarkedJob}
 use Rattle.script_text.specs.declared.script.ScriptJob.{ScriptJob}
 use Rattle.script_text.specs.Scripts.{history_script_reading, script_reading}
@@ -22,8 +23,8 @@ use Rattle.gkr_words.specs.Commands.{ReadsCase, command_of, input_limit, read_ro
 use Rattle.gkr_cmd.specs.Reached.{IsReadUpTo, ReadsWithin}
 use Rattle.gkr_cmd.specs.Replies.{IsOfCase}
 use Rattle.case_prove.specs.Verified.{HasAcceptedProof}
-use Rattle.gkr_cmd.specs.Runs.{EndsWithReply, HasCircuit, HasLineProof, IsEvaluable, IsInput}
-use Rattle.gkr_cmd.specs.Runs.{IsReplied, WritesAudit, WritesHistory, WritesHonestProof}
+use Rattle.gkr_cmd.specs.Runs.{EndsWithReply, HasCircuit, HasLineProof, IsConvertible, IsEvaluable, IsInput}
+use Rattle.gkr_cmd.specs.Runs.{IsReplied, WritesAudit, WritesConverted, WritesHistory, WritesHonestProof}
 use Rattle.gkr_cmd.specs.Runs.{WritesNoMore, WritesReplies}
 
 -- What the source and the sink of a run tell at one moment: the bytes that are left, the calls that
@@ -51,20 +52,20 @@ pub record Asks (run : Run) (command : Command) (input : List ℕ) : Type 0 wher
 -- ---- the headline
 
 pub record Headline (run : Run) : Type 0 where
-  -- `verify` accepts exactly the cases whose proof, by lines or by pairs, meets every equation of
-  -- acceptance.
+  -- `verify` accepts exactly the cases whose proof, by lines in either version or by pairs, meets
+  -- every equation of acceptance.
   pub accepted : (input : List ℕ) → Asks run (OfCase Verify) input → IsReplied run.ended
       → (run.ended ≡ statuses.Done) ↔ IsOfCase Full input HasAcceptedProof
   -- It then writes that they are accepted.
   pub accepted_text : (input : List ℕ) → Asks run (OfCase Verify) input → run.ended ≡ statuses.Done
       → Grows run.before.written run.after.written (verdict_text Accepted)
   -- What `prove` writes, with any number of workers, is the case with its program's meaning as
-  -- outputs and the one honest proof of them, by lines or by pairs as the words ask; and that text
-  -- is accepted.
-  pub honest : (input : List ℕ) (workers : ℕ) (form : ProofForm) (content : Content)
-      → Asks run (OfCase (Prove workers form)) input → reading Plain input ≡ Ok content
+  -- outputs and the one honest proof of them, by lines in a version or by pairs as the words ask; and
+  -- that text is accepted.
+  pub honest : (input : List ℕ) (workers : ℕ) (kind : ProofKind) (content : Content)
+      → Asks run (OfCase (Prove workers kind)) input → reading Plain input ≡ Ok content
       → run.ended ≡ statuses.Done
-      → WritesHonestProof form content run.before.written run.after.written
+      → WritesHonestProof kind content run.before.written run.after.written
   -- Where an accepted case's outputs aren't its program's meaning on its inputs, some challenge is
   -- one of few exceptional ones, which earlier messages fix.
   pub sound : (input : List ℕ) (content : Content) → Asks run (OfCase Verify) input
@@ -79,9 +80,20 @@ pub record Headline (run : Run) : Type 0 where
   pub audit_text : (input : List ℕ) (content : Content) → Asks run (OfCase Audit) input
       → reading Full input ≡ Ok content → run.ended ≡ statuses.Done
       → WritesAudit content run.before.written run.after.written
+  -- `convert` answers exactly the cases with a proof by lines, and for version 2 those alone whose
+  -- sum equations all hold.
+  pub converted : (input : List ℕ) (version : ProofVersion)
+      → Asks run (OfCase (Convert version)) input → IsReplied run.ended
+      → (run.ended ≡ statuses.Done) ↔ IsOfCase Full input (IsConvertible version)
+  -- It then writes the case with the messages of its proof in that version, of which `verify` says
+  -- what it says of the case.
+  pub converted_text : (input : List ℕ) (version : ProofVersion) (content : Content)
+      → Asks run (OfCase (Convert version)) input → reading Full input ≡ Ok content
+      → run.ended ≡ statuses.Done
+      → WritesConverted version content run.before.written run.after.written
   -- A case whose program has a circuit with as many inputs is proved.
-  pub proved : (input : List ℕ) (workers : ℕ) (form : ProofForm)
-      → Asks run (OfCase (Prove workers form)) input
+  pub proved : (input : List ℕ) (workers : ℕ) (kind : ProofKind)
+      → Asks run (OfCase (Prove workers kind)) input
       → IsOfCase Plain input HasCircuit → IsReplied run.ended → run.ended ≡ statuses.Done
   -- Such a case is answered by `circuit` with the circuit's sizes.
   pub laid_out : (input : List ℕ) → Asks run (OfCase Circuit) input

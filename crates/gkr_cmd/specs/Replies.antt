@@ -4,6 +4,9 @@ use Rattle.arr_compile.specs.Programs.{IsRefusedAs}
 use Rattle.audit_core.specs.declared.report.Audit.{Audit}
 use Rattle.proof_wire.specs.declared.form.ProofForm.{ProofForm}
 use Rattle.proof_wire.specs.declared.form.ProofForm.TheVariants.{Line}
+use Rattle.proof_two.specs.declared.kind.ProofVersion.{ProofVersion}
+use Rattle.proof_two.specs.declared.kind.ProofVersion.TheVariants.{Two}
+use Rattle.gkr_verify.specs.declared.sums.LayerSum.{LayerSum}
 use Rattle.case_text.specs.declared.form.Form.{Form}
 use Rattle.case_text.specs.declared.form.Form.TheVariants.{Plain, Full}
 use Rattle.case_text.specs.Content.{Content}
@@ -16,12 +19,13 @@ use Rattle.layer_compile.specs.declared.refused.LayerRefused.TheVariants as layo
 use Rattle.case_prove.specs.Circuits.{IsLaidOut, IsCircuitMiscounted}
 use Rattle.case_prove.specs.Evaluated.{IsEvaluated, IsMiscounted}
 use Rattle.case_prove.specs.Audited.{IsAudited}
+use Rattle.case_prove.specs.Converted.{FailsSum, IsConverted}
 use Rattle.case_prove.specs.Verified.{IsVerdictOn, IsOutputMiscounted, IsBadProof, proof_form}
 use Rattle.case_text.specs.declared.verdict.AuditLines.{AuditLines}
 use Rattle.case_text.specs.declared.verdict.VerdictLine.{VerdictLine}
 use Rattle.case_text.specs.declared.verdict.VerdictLine.TheVariants as told
 use Rattle.gkr_layers.specs.declared.verdict.Verdict.{Verdict}
-use Rattle.gkr_cmd.specs.Told.{audit_lines, verdict_line}
+use Rattle.gkr_cmd.specs.Told.{audit_lines, sum_line, verdict_line}
 use Rattle.gkr_cmd.specs.declared.status.Status.{Status}
 use Rattle.gkr_cmd.specs.declared.status.Status.TheVariants as statuses
 use Rattle.gkr_words.specs.declared.words.CaseCommand.{CaseCommand}
@@ -103,6 +107,17 @@ abbrev pub IsAuditAnswer : Content → Reply → Type 0
 IsAuditAnswer c (replies.Audit lines) = AreAuditLines c lines
 IsAuditAnswer c reply = IsProofRefusal Line c reply
 
+-- The line is the one on the first sum equation that fails, which keeps the case's proof from version 2.
+abbrev pub IsSumLine : ProofVersion → Content → VerdictLine → Type 0
+IsSumLine version c line =
+    (fault : LayerSum) × (version ≡ Two) × FailsSum c fault × (line ≡ sum_line fault)
+
+-- when a reply is what `convert` says of a case, whose proof it reads as one by lines
+abbrev pub IsConvertAnswer : ProofVersion → Content → Reply → Type 0
+IsConvertAnswer version c (replies.Proved written) = IsConverted version c written
+IsConvertAnswer version c (replies.Verdict line) = IsSumLine version c line
+IsConvertAnswer version c reply = IsProofRefusal Line c reply
+
 -- when a reply is the one of a command that reads a case of this form, and says this of it
 abbrev pub IsCaseReply : Form → (Content → Reply → Type 0) → List ℕ → Reply → Type 0
 IsCaseReply form answers input replies.Usage = ⊥
@@ -114,17 +129,19 @@ IsCaseReply form answers input reply = IsOfCase form input (λ c. answers c repl
 abbrev pub form_of : CaseCommand → Form
 form_of commands.Eval = Plain
 form_of commands.Circuit = Plain
-form_of (commands.Prove workers form) = Plain
+form_of (commands.Prove workers kind) = Plain
 form_of commands.Verify = Full
 form_of commands.Audit = Full
+form_of (commands.Convert version) = Full
 
 -- when a reply is what a command says of a case
 abbrev pub IsAnswer : CaseCommand → Content → Reply → Type 0
 IsAnswer commands.Eval = IsEvalAnswer
 IsAnswer commands.Circuit = IsCircuitAnswer
-IsAnswer (commands.Prove workers form) = IsProveAnswer form
+IsAnswer (commands.Prove workers kind) = IsProveAnswer kind
 IsAnswer commands.Verify = IsVerifyAnswer
 IsAnswer commands.Audit = IsAuditAnswer
+IsAnswer (commands.Convert version) = IsConvertAnswer version
 
 -- when a reply is the one of `demo`, whose case is always proved and accepted
 abbrev pub IsDemoAnswer : ℕ → Reply → Type 0

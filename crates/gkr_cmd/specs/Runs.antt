@@ -11,10 +11,13 @@ use Rattle.circuit_core.specs.Parts.{Parts}
 use Rattle.field_ext.specs.Field.{F}
 use Rattle.gkr_layers.specs.declared.verdict.Verdict.TheVariants.{Accepted}
 use Rattle.case_prove.specs.Audited.{IsAudited}
+use Rattle.case_prove.specs.Converted.{IsConverted}
 use Rattle.case_prove.specs.Proved.{IsProved}
 use Rattle.case_prove.specs.Sound.{HasMeaning}
 use Rattle.case_prove.specs.Verified.{HasAcceptedProof, HasProof, IsVerdictOn}
-use Rattle.proof_wire.specs.declared.form.ProofForm.{ProofForm}
+use Rattle.proof_two.specs.declared.kind.ProofKind.{ProofKind}
+use Rattle.proof_two.specs.declared.kind.ProofKind.TheVariants.{ByLines}
+use Rattle.proof_two.specs.declared.kind.ProofVersion.{ProofVersion}
 use Rattle.proof_wire.specs.declared.form.ProofForm.TheVariants.{Line}
 use Rattle.proof_wire.specs.declared.messages.Messages.{Messages}
 use Rattle.case_text.specs.Content.{Content}
@@ -31,7 +34,7 @@ use Rattle.gkr_words.specs.declared.words.Command.{Command}
 use Rattle.gkr_words.specs.declared.words.Command.TheVariants.{OfCase, Demo, Serve, ServeHistory}
 use Rattle.gkr_cmd.specs.declared.status.Status.{Status}
 use Rattle.gkr_cmd.specs.declared.status.Status.TheVariants as statuses
-use Rattle.gkr_cmd.specs.Replies.{IsOfCase, IsReply, status_of}
+use Rattle.gkr_cmd.specs.Replies.{IsOfCase, IsReply, IsVerifyAnswer, status_of}
 use Rattle.gkr_cmd.specs.Told.{audit_lines}
 use Rattle.gkr_cmd.specs.Reached.{WritesFront}
 
@@ -86,7 +89,7 @@ pub record HasCircuit (c : Content) : Type 0 where
   pub compiled : IsCompiled c.program parts
   pub counted : length c.inputs ≡ parts.inputs
 
--- A case with as many inputs and outputs as its program's circuit, and with a proof that spells messages by lines, of the circuit's
+-- A case with as many inputs and outputs as its program's circuit, and with a proof by lines, in either version, of the circuit's
 -- shape.
 pub record HasLineProof (c : Content) : Type 0 where
   pub parts : Parts
@@ -104,16 +107,32 @@ pub record WritesAudit (c : Content) (before after : Option (List ℕ)) : Type 0
   pub verdict : IsVerdictOn c audit.verdict
   pub meaning : IsTrue audit.same ↔ HasMeaning c
   pub named : audit.verdict ≡ Accepted → ¬ HasMeaning c → IsSome audit.challenge
-  pub unnamed : (plain : Content) → IsProved Line plain c → audit ≡ names_nothing
+  pub unnamed : (version : ProofVersion) (plain : Content) → IsProved (ByLines version) plain c
+      → audit ≡ names_nothing
 
 -- The run wrote the text of this case with its program's meaning on its inputs as outputs and the
--- one honest proof of this form of them, and that text is one of an accepted case.
-pub record WritesHonestProof (form : ProofForm) (c : Content) (before after : Option (List ℕ))
+-- one honest proof of this kind of them, and that text is one of an accepted case.
+pub record WritesHonestProof (kind : ProofKind) (c : Content) (before after : Option (List ℕ))
     : Type 0 where
   pub proved : Content
-  pub is_proved : IsProved form c proved
+  pub is_proved : IsProved kind c proved
   pub written : Grows before after (lower_case_text proved)
   pub accepted : IsOfCase Full (lower_case_text proved) HasAcceptedProof
+
+-- The run wrote the text of this case with the messages of its proof in a version, and that text is one of a case to which `verify`
+-- replies what it replies to this case.
+pub record WritesConverted (version : ProofVersion) (c : Content) (before after : Option (List ℕ))
+    : Type 0 where
+  pub converted : Content
+  pub is_converted : IsConverted version c converted
+  pub written : Grows before after (lower_case_text converted)
+  pub same : IsOfCase Full (lower_case_text converted)
+      (λ d. (reply : Reply) → IsVerifyAnswer c reply ↔ IsVerifyAnswer d reply)
+
+-- A case with a proof by lines whose sum equations all hold, if it is to be written in version 2.
+pub record IsConvertible (version : ProofVersion) (c : Content) : Type 0 where
+  pub written : Content
+  pub is_converted : IsConverted version c written
 
 -- The run wrote the replies of `prove` to these jobs, in their order, and the line on all of them.
 pub record WritesReplies (script : List ScriptJob) (before after : Option (List ℕ)) : Type 0 where

@@ -13,6 +13,7 @@ use Rattle.case_text.specs.declared.verdict.MessagePlace.TheVariants.{Round, Lin
 use Rattle.case_text.specs.declared.verdict.VerdictLine.{VerdictLine}
 use Rattle.case_text.specs.declared.verdict.VerdictLine.TheVariants as told
 use Rattle.gkr_layers.specs.declared.verdict.Verdict.{Verdict}
+use Rattle.gkr_verify.specs.declared.sums.LayerSum.{LayerSum}
 use Rattle.gkr_layers.specs.declared.verdict.Verdict.TheVariants as verdicts
 use Rattle.gkr_cmd.specs.declared.reply_error.ReplyError.{ReplyError}
 use Rattle.gkr_cmd.specs.declared.reply_error.ReplyError.TheVariants as errors
@@ -23,6 +24,10 @@ verdict_line verdicts.Accepted = told.Accepted
 verdict_line (verdicts.Sum layer round had claim) = told.Sum layer round had claim
 verdict_line (verdicts.End layer had want) = told.End layer had want
 verdict_line (verdicts.Input had want) = told.Input had want
+
+-- the line on a round that does not add to its claim
+abbrev pub sum_line : LayerSum → VerdictLine
+sum_line fault = told.Sum fault.layer fault.round fault.had fault.claim
 
 -- the message of a layer's round, or its last where there is none; and the message in a place
 abbrev pub message_in : ℕ → Option ℕ → MessagePlace

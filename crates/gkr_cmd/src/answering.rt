@@ -5,16 +5,18 @@ ghost use Rattle.case_text.specs.Forms.{Allows};
 ghost use Rattle.case_text.specs.declared.form.Form.TheVariants.{Full};
 ghost use Rattle.phase_run.specs.Work.{IsWorkerCount};
 ghost use Rattle.gkr_words.specs.Commands.{HasWorkers};
-ghost use Rattle.gkr_cmd.specs.Replies.{form_of, IsAnswer, IsAuditAnswer, IsCaseReply, IsCircuitAnswer, IsEvalAnswer, IsVerifyAnswer, IsWithinLimit};
+ghost use Rattle.gkr_cmd.specs.Replies.{form_of, IsAnswer, IsAuditAnswer, IsCaseReply, IsCircuitAnswer, IsConvertAnswer, IsEvalAnswer, IsVerifyAnswer, IsWithinLimit};
 ghost use Rattle.case_prove.specs.Answers.{IsProveAnswer};
 
 use crate::reply_error::ReplyError;
-use crate::told::{audit_lines, refused_reply, verdict_line};
-use case_prove::{audit_case, circuit_case, eval_case, prove_case, verify_case};
+use crate::told::{audit_lines, refused_reply, sum_line, verdict_line};
+use case_prove::{
+    Converted, audit_case, circuit_case, convert_case, eval_case, prove_case, verify_case,
+};
 use case_text::{Case, CaseRefused, Form, Outputs, Reply, read_case};
 use gkr_words::{CaseCommand, Command};
 use io_edge::Gate;
-use proof_wire::ProofForm;
+use proof_two::{ProofKind, ProofVersion};
 use std::alloc::Global;
 use std::marker::Sync;
 use std::thread::Threads;
@@ -48,7 +50,7 @@ fn form_of(command: CaseCommand) -> Form
 {
     match command {
         CaseCommand::Eval | CaseCommand::Circuit | CaseCommand::Prove { .. } => Form::Plain,
-        CaseCommand::Verify | CaseCommand::Audit => Form::Full,
+        CaseCommand::Verify | CaseCommand::Audit | CaseCommand::Convert(_) => Form::Full,
     }
 }
 
@@ -69,9 +71,10 @@ fn answer_case<R: Threads + Sync, G: Gate>(
     match command {
         CaseCommand::Eval => evaluate(alloc, case),
         CaseCommand::Circuit => lay_out(alloc, case),
-        CaseCommand::Prove { workers, form } => prove(rt, alloc, case, form, workers, gate),
+        CaseCommand::Prove { workers, kind } => prove(rt, alloc, case, kind, workers, gate),
         CaseCommand::Verify => verify(alloc, case),
         CaseCommand::Audit => audit(rt, alloc, case),
+        CaseCommand::Convert(version) => convert(alloc, case, version),
     }
 }
 
@@ -99,21 +102,21 @@ fn lay_out(alloc: Global, case: &Case) -> Result<Reply, ReplyError>
     }
 }
 
-/// What `prove` says of a case, with a proof of this form by so many workers.
+/// What `prove` says of a case, with a proof of this kind by so many workers.
 #[tactic(auto, using(crate::proofs::Replied::prove_refused))]
 fn prove<R: Threads + Sync, G: Gate>(
     rt: &R,
     alloc: Global,
     case: &Case,
-    form: ProofForm,
+    kind: ProofKind,
     workers: u32,
     gate: &G,
 ) -> Result<Reply, ReplyError>
     requires { IsWorkerCount workers }
-    ensures reply { IfOk result (λ reply. IsProveAnswer form case.now reply) }
+    ensures reply { IfOk result (λ reply. IsProveAnswer kind case.now reply) }
     ensures fault { result ≢ Err ReplyError.ReadFault }
 {
-    match prove_case(rt, alloc, case, form, workers, gate) {
+    match prove_case(rt, alloc, case, kind, workers, gate) {
         Ok(proved) => Ok(Reply::Proved(proved)),
         Err(refused) => refused_reply(refused),
     }
@@ -143,6 +146,21 @@ fn audit<R: Threads + Sync>(rt: &R, alloc: Global, case: &Case) -> Result<Reply,
 {
     match audit_case(rt, alloc, case) {
         Ok(audit) => Ok(Reply::Audit(audit_lines(audit))),
+        Err(refused) => refused_reply(refused),
+    }
+}
+
+/// What `convert` says of a case, whose proof is to be written in this version.
+#[tactic(auto, using(crate::proofs::Replied::convert_refused, crate::proofs::Replied::full_has))]
+fn convert(alloc: Global, case: &Case, version: ProofVersion) -> Result<Reply, ReplyError>
+    requires outputs { Allows Full case.now.outputs }
+    requires proof { Allows Full case.now.proof }
+    ensures reply { IfOk result (λ reply. IsConvertAnswer version case.now reply) }
+    ensures fault { result ≢ Err ReplyError.ReadFault }
+{
+    match convert_case(alloc, case, version) {
+        Ok(Converted::Case(written)) => Ok(Reply::Proved(written)),
+        Ok(Converted::Sum(fault)) => Ok(Reply::Verdict(sum_line(fault))),
         Err(refused) => refused_reply(refused),
     }
 }

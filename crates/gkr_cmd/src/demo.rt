@@ -15,15 +15,14 @@ use crate::reply_error::ReplyError;
 use arr_compile::laws::{
     circuit_computes, compiled_or_refused, one_circuit, one_circuit_refusal, one_tree,
 };
-use case_prove::laws::proved_is_accepted;
+use case_prove::laws::{one_saying, proved_is_accepted};
 use case_prove::{Refused, circuit_case, prove_case, verify_case};
 use case_text::{Case, CircuitSizes, DemoSummary, Reply};
 use field_ext::Fp;
 use gkr_verify::Verdict;
 use io_edge::Gate;
 use itoa::Buffer;
-use proof_wire::ProofForm;
-use proof_wire::laws::{no_trouble, one_form, one_reading, one_trouble};
+use proof_two::{ProofKind, ProofVersion};
 use sha2::{Digest, Sha256};
 use std::alloc::{AllocError, Global};
 use std::marker::Sync;
@@ -46,7 +45,8 @@ pub fn demo<R: Threads + Sync, G: Gate>(
         Ok(sizes) => sizes,
         Err(refused) => return Err(want_of_memory(number, refused)),
     };
-    let proved = match prove_case(rt, alloc, &case, ProofForm::Line, workers, gate) {
+    let kind = ProofKind::ByLines(ProofVersion::One);
+    let proved = match prove_case(rt, alloc, &case, kind, workers, gate) {
         Ok(proved) => proved,
         Err(refused) => return Err(want_of_memory(number, refused)),
     };
@@ -124,17 +124,14 @@ fn demo_inputs(alloc: Global, number: u32, count: u32) -> Result<Vec<Fp>, AllocE
 
 /// Verifies a case that was proved, which is always accepted.
 fn accept(alloc: Global, case: &Case, proved: &Case) -> Result<(), ReplyError>
-    requires proved { IsProved ProofForm.Line case.now proved.now }
+    requires proved { IsProved (ProofKind.ByLines ProofVersion.One) case.now proved.now }
     ensures accepted { OnOk result (IsVerdictOn proved.now Accepted) }
     ensures fault { result ≢ Err ReplyError.ReadFault }
 {
     one_circuit();
     one_circuit_refusal();
     compiled_or_refused();
-    one_form();
-    one_reading();
-    one_trouble();
-    no_trouble();
+    one_saying();
     proved_is_accepted();
     match verify_case(alloc, proved) {
         Ok(verdict) => match verdict {
@@ -150,7 +147,7 @@ fn accept(alloc: Global, case: &Case, proved: &Case) -> Result<(), ReplyError>
 
 /// The first output of a case that was proved.
 fn first_output(case: &Case, proved: &Case) -> Fp
-    requires { IsProved ProofForm.Line case.now proved.now }
+    requires { IsProved (ProofKind.ByLines ProofVersion.One) case.now proved.now }
     ensures { HasFirst proved.now.outputs result }
 {
     one_tree();
@@ -177,7 +174,7 @@ fn proof_of(proved: &Case) -> &[u8]
 fn summary(number: u32, sizes: &CircuitSizes, case: &Case, proved: &Case) -> DemoSummary
     requires case { case.now ≡ demo_case number }
     requires laid_out { IsLaidOut case.now sizes.now }
-    requires proved { IsProved ProofForm.Line case.now proved.now }
+    requires proved { IsProved (ProofKind.ByLines ProofVersion.One) case.now proved.now }
     requires accepted { IsVerdictOn proved.now Accepted }
     ensures { IsDemo number result }
 {

@@ -1,14 +1,17 @@
 //! What holds of replies by their definitions alone.
 
 ghost use Rattle.std.specs.Prelude.{◌≡◌, ◌≢◌, ◌<◌, ◌≤◌, ◌^◌, ◌↔◌, List, ℕ, [], ◌∷◌, None, Some, codes, decimal};
+ghost use Rattle.case_text.specs.Content.{Content};
 ghost use Rattle.case_text.specs.declared.form.Form.TheVariants.{Full, Plain};
 ghost use Rattle.case_text.specs.declared.reply.Reply.{Reply};
 ghost use Rattle.gkr_cmd.specs.declared.status.Status.TheVariants.{Done};
-ghost use Rattle.gkr_cmd.specs.Replies.{IsAuditAnswer, IsCaseReply, IsCircuitAnswer, IsDemoAnswer, IsEvalAnswer, IsVerifyAnswer, IsOfCase, IsReply, status_of};
-ghost use Rattle.proof_wire.specs.declared.form.ProofForm.{ProofForm};
+ghost use Rattle.gkr_cmd.specs.Replies.{IsAuditAnswer, IsCaseReply, IsCircuitAnswer, IsConvertAnswer, IsDemoAnswer, IsEvalAnswer, IsVerifyAnswer, IsOfCase, IsReply, status_of};
+ghost use Rattle.proof_two.specs.declared.kind.ProofKind.{ProofKind};
+ghost use Rattle.proof_two.specs.declared.kind.ProofVersion.{ProofVersion};
 ghost use Rattle.case_prove.specs.Answers.{IsProveAnswer};
+ghost use Rattle.case_prove.specs.Converted.{IsConverted};
 ghost use Rattle.case_prove.specs.Verified.{HasAcceptedProof};
-ghost use Rattle.gkr_cmd.specs.Runs.{HasCircuit, HasLineProof, IsEvaluable};
+ghost use Rattle.gkr_cmd.specs.Runs.{HasCircuit, HasLineProof, IsConvertible, IsEvaluable};
 ghost use Rattle.gkr_cmd.specs.Demo.{demo_case};
 ghost use Rattle.gkr_words.specs.Commands.{PrintsHistory, command_of};
 
@@ -17,8 +20,7 @@ use arr_compile::laws::{
     one_refusal, one_tree,
 };
 use arr_lower::laws::nodes_in_order;
-use case_prove::laws::{audit_is_one, proved_is_one};
-use proof_wire::laws::{no_trouble, one_form, one_reading, one_trouble};
+use case_prove::laws::{audit_is_one, converted_keeps, one_saying, proved_is_one};
 
 /// Words and an input have at most one reply, but where the words ask for a history, which the schedule chooses.
 pub fn one_reply()
@@ -32,13 +34,11 @@ pub fn one_reply()
     one_circuit();
     one_circuit_refusal();
     compiled_or_refused();
-    one_form();
-    one_reading();
-    one_trouble();
-    no_trouble();
+    one_saying();
     circuit_computes();
     proved_is_one();
     audit_is_one();
+    converted_keeps();
 }
 
 /// The reply to a case with an accepted program and as many inputs as it needs is its outputs.
@@ -64,8 +64,8 @@ pub fn laid_out_is_done()
 /// The reply of `prove` to a case whose program has a circuit with as many inputs is the case with
 /// the proof.
 pub fn provable_is_done()
-    ensures { (form : ProofForm) (input : List ℕ) (reply : Reply)
-        → IsCaseReply Plain (IsProveAnswer form) input reply
+    ensures { (kind : ProofKind) (input : List ℕ) (reply : Reply)
+        → IsCaseReply Plain (IsProveAnswer kind) input reply
         → IsOfCase Plain input HasCircuit → status_of reply ≡ Done }
 {
     one_circuit();
@@ -93,10 +93,7 @@ pub fn accepted_is_done()
     one_circuit();
     one_circuit_refusal();
     compiled_or_refused();
-    one_form();
-    one_reading();
-    one_trouble();
-    no_trouble();
+    one_saying();
 }
 
 /// The reply of `audit` to a case with a proof by lines is its audit, whatever the verdict.
@@ -107,8 +104,29 @@ pub fn audited_is_done()
     one_circuit();
     one_circuit_refusal();
     compiled_or_refused();
-    one_form();
-    one_reading();
-    one_trouble();
-    no_trouble();
+    one_saying();
+}
+
+/// The reply of `convert` to a case that can be converted is the case that is written.
+pub fn convertible_is_done()
+    ensures { (version : ProofVersion) (input : List ℕ) (reply : Reply)
+        → IsCaseReply Full (IsConvertAnswer version) input reply
+        → IsOfCase Full input (IsConvertible version) → status_of reply ≡ Done }
+{
+    one_circuit();
+    one_circuit_refusal();
+    compiled_or_refused();
+    one_saying();
+}
+
+/// To what `convert` writes of a case `verify` replies what it replies to the case.
+pub fn converted_replies_alike()
+    ensures { (version : ProofVersion) (c written : Content) → IsConverted version c written
+        → (reply : Reply) → IsVerifyAnswer c reply ↔ IsVerifyAnswer written reply }
+{
+    one_circuit();
+    one_circuit_refusal();
+    compiled_or_refused();
+    one_saying();
+    converted_keeps();
 }

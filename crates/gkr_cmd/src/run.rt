@@ -6,8 +6,8 @@ ghost use Rattle.gkr_cmd.specs.Headline.{KeepsPromises};
 ghost use Rattle.gkr_cmd.specs.RunLaws.{RunLaws};
 
 use crate::laws::{
-    accepted_is_done, audited_is_done, demo_is_done, evaluable_is_done, laid_out_is_done,
-    provable_is_done,
+    accepted_is_done, audited_is_done, converted_replies_alike, convertible_is_done, demo_is_done,
+    evaluable_is_done, laid_out_is_done, provable_is_done,
 };
 use crate::output::finish;
 use crate::replying::reply_alone;
@@ -15,7 +15,8 @@ use crate::serving::reply_service;
 use crate::status::Status;
 use case_prove::laws::{
     accepted_falsehood_is_named, audit_has_the_verdict, audit_is_one, audit_tells_the_meaning,
-    proved_is_accepted, proved_is_full, proved_is_short, proved_is_unnamed, sound,
+    converted_is_full, converted_is_short, proved_is_accepted, proved_is_full, proved_is_short,
+    proved_is_unnamed, sound,
 };
 use case_text::laws::read_exactly;
 use gkr_words::{Command, named_command};
@@ -35,6 +36,10 @@ fn run_laws()
     demo_is_done();
     accepted_is_done();
     audited_is_done();
+    convertible_is_done();
+    converted_replies_alike();
+    converted_is_full();
+    converted_is_short();
     audit_is_one();
     audit_has_the_verdict();
     audit_tells_the_meaning();

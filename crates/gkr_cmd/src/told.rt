@@ -1,13 +1,13 @@
 //! What is told of a proof and of a refusal.
 
 ghost use Rattle.std.specs.Prelude.{◌≡◌, option_map};
-ghost use Rattle.gkr_cmd.specs.Told.{audit_lines, message_place, refused_reply, verdict_line};
+ghost use Rattle.gkr_cmd.specs.Told.{audit_lines, message_place, refused_reply, sum_line, verdict_line};
 
 use crate::reply_error::ReplyError;
 use arr_compile::BadProgram;
 use case_prove::{Audit, Place, Refused};
 use case_text::{AuditLines, MessagePlace, Reply, VerdictLine};
-use gkr_verify::Verdict;
+use gkr_verify::{LayerSum, Verdict};
 
 /// The line on a proof with this verdict.
 pub(crate) fn verdict_line(verdict: Verdict) -> VerdictLine
@@ -28,6 +28,18 @@ pub(crate) fn verdict_line(verdict: Verdict) -> VerdictLine
         },
         Verdict::End { layer, had, want } => VerdictLine::End { layer, had, want },
         Verdict::Input { had, want } => VerdictLine::Input { had, want },
+    }
+}
+
+/// The line on a round that does not add to its claim.
+pub(crate) fn sum_line(fault: LayerSum) -> VerdictLine
+    ensures { result ≡ sum_line fault }
+{
+    VerdictLine::Sum {
+        layer: fault.layer,
+        round: fault.round,
+        had: fault.had,
+        claim: fault.claim,
     }
 }
 

@@ -16,9 +16,10 @@ use Rattle.clap.specs.Simple.{App, Shape, built, entered, label_of, names_of, ro
 use Rattle.clap.specs.Walk.{Held, Names, Row, Rule, Text, Waiting, Walk, after_flag, after_step, answers_to, bundle_met, bundle_step, finished, idle, long_or_other, nothing_held, option, plain, plain_word, positional, rows_after, settled, short_or_plain, subcommand_met, subcommand_or_other, trailing, walk, walk_from, walked, word_met}
 use Rattle.clap.specs.Words.{fault_of, subcommand_of}
 use Rattle.clap.proofs.OnLiterals.{clap_on_literals}
-use Rattle.proof_wire.specs.declared.form.ProofForm.TheVariants.{Line, Pair}
+use Rattle.proof_two.specs.declared.kind.ProofKind.TheVariants.{ByLines, ByPairs}
+use Rattle.proof_two.specs.declared.kind.ProofVersion.TheVariants.{One, Two}
 use Rattle.gkr_words.specs.declared.words.Command.TheVariants.{OfCase, Demo, Serve, ServeHistory}
-use Rattle.gkr_words.specs.declared.words.CaseCommand.TheVariants.{Eval, Circuit, Prove, Verify, Audit}
+use Rattle.gkr_words.specs.declared.words.CaseCommand.TheVariants.{Eval, Circuit, Prove, Verify, Audit, Convert}
 use Rattle.gkr_words.specs.Commands.{command_line, command_of, command_of_rows, command_unless, demo_of, if_worker_count, number_of, prove_of, workers_of}
 use Rattle.gkr_words.proofs.Numbers.{number_taken}
 use Rattle.gkr_words.proofs.WordsRead.{command_taken}
@@ -113,6 +114,10 @@ audit_is : IsNameOf (codes "audit") (leaf (codes "audit"))
 unfolding clap_on_literals
 audit_is = record { stops = refl; passes = refl; found = refl; named = refl }
 
+convert_is : IsNameOf (codes "convert") (leaf (codes "convert"))
+unfolding clap_on_literals
+convert_is = record { stops = refl; passes = refl; found = refl; named = refl }
+
 demo_is : IsNameOf (codes "demo") (leaf (codes "demo"))
 unfolding clap_on_literals
 demo_is = record { stops = refl; passes = refl; found = refl; named = refl }
@@ -145,7 +150,7 @@ pub audit_words : (program : Text) → command_of (program ∷ codes "audit" ∷
 unfolding clap_on_literals
 audit_words program = by_leaf (codes "audit") (leaf (codes "audit")) audit_is program [] refl
 
-pub prove_words : (program : Text) → command_of (program ∷ codes "prove" ∷ []) ≡ Some (OfCase (Prove 1 Line))
+pub prove_words : (program : Text) → command_of (program ∷ codes "prove" ∷ []) ≡ Some (OfCase (Prove 1 (ByLines One)))
 unfolding clap_on_literals
 prove_words program = by_leaf (codes "prove") (leaf (codes "prove")) prove_is program [] refl
 
@@ -225,18 +230,38 @@ prove_end v is =
       finishes = refl;
     }
 
-pub prove_with : (program v : Text) → IsPlainWord v → command_of (program ∷ codes "prove" ∷ codes "--workers" ∷ v ∷ []) ≡ option_map OfCase (prove_of (workers_of (Some v)) (Some Line))
+pub prove_with : (program v : Text) → IsPlainWord v → command_of (program ∷ codes "prove" ∷ codes "--workers" ∷ v ∷ []) ≡ option_map OfCase (prove_of (workers_of (Some v)) (Some (ByLines One)))
 unfolding clap_on_literals
 prove_with program v is = by_end (codes "prove") (leaf (codes "prove")) prove_is program (codes "--workers" ∷ v ∷ []) (at (has_workers nothing_held v) idle 1) (prove_end v is)
 
 -- behind the form that `--proof` names
-pub prove_pair : (program : Text) → command_of (program ∷ codes "prove" ∷ codes "--proof" ∷ codes "pair" ∷ []) ≡ Some (OfCase (Prove 1 Pair))
+pub prove_pair : (program : Text) → command_of (program ∷ codes "prove" ∷ codes "--proof" ∷ codes "pair" ∷ []) ≡ Some (OfCase (Prove 1 ByPairs))
 unfolding clap_on_literals
 prove_pair program = by_leaf (codes "prove") (leaf (codes "prove")) prove_is program (codes "--proof" ∷ codes "pair" ∷ []) refl
 
-pub prove_line : (program : Text) → command_of (program ∷ codes "prove" ∷ codes "--proof" ∷ codes "1" ∷ []) ≡ Some (OfCase (Prove 1 Line))
+pub prove_line : (program : Text) → command_of (program ∷ codes "prove" ∷ codes "--proof" ∷ codes "1" ∷ []) ≡ Some (OfCase (Prove 1 (ByLines One)))
 unfolding clap_on_literals
 prove_line program = by_leaf (codes "prove") (leaf (codes "prove")) prove_is program (codes "--proof" ∷ codes "1" ∷ []) refl
+
+pub prove_short : (program : Text) → command_of (program ∷ codes "prove" ∷ codes "--proof" ∷ codes "2" ∷ []) ≡ Some (OfCase (Prove 1 (ByLines Two)))
+unfolding clap_on_literals
+prove_short program = by_leaf (codes "prove") (leaf (codes "prove")) prove_is program (codes "--proof" ∷ codes "2" ∷ []) refl
+
+pub convert_to_one : (program : Text) → command_of (program ∷ codes "convert" ∷ codes "--to" ∷ codes "1" ∷ []) ≡ Some (OfCase (Convert One))
+unfolding clap_on_literals
+convert_to_one program = by_leaf (codes "convert") (leaf (codes "convert")) convert_is program (codes "--to" ∷ codes "1" ∷ []) refl
+
+pub convert_to_two : (program : Text) → command_of (program ∷ codes "convert" ∷ codes "--to" ∷ codes "2" ∷ []) ≡ Some (OfCase (Convert Two))
+unfolding clap_on_literals
+convert_to_two program = by_leaf (codes "convert") (leaf (codes "convert")) convert_is program (codes "--to" ∷ codes "2" ∷ []) refl
+
+pub convert_to_other : (program : Text) → command_of (program ∷ codes "convert" ∷ codes "--to" ∷ codes "3" ∷ []) ≡ None
+unfolding clap_on_literals
+convert_to_other program = by_leaf (codes "convert") (leaf (codes "convert")) convert_is program (codes "--to" ∷ codes "3" ∷ []) refl
+
+pub convert_to_none : (program : Text) → command_of (program ∷ codes "convert" ∷ []) ≡ None
+unfolding clap_on_literals
+convert_to_none program = by_leaf (codes "convert") (leaf (codes "convert")) convert_is program [] refl
 
 pub other_form : (program : Text) → command_of (program ∷ codes "prove" ∷ codes "--proof" ∷ codes "lines" ∷ []) ≡ None
 unfolding clap_on_literals
@@ -255,7 +280,7 @@ pair_end v is =
       finishes = refl;
     }
 
-pub pair_with : (program v : Text) → IsPlainWord v → command_of (program ∷ codes "prove" ∷ codes "--proof" ∷ codes "pair" ∷ codes "--workers" ∷ v ∷ []) ≡ option_map OfCase (prove_of (workers_of (Some v)) (Some Pair))
+pub pair_with : (program v : Text) → IsPlainWord v → command_of (program ∷ codes "prove" ∷ codes "--proof" ∷ codes "pair" ∷ codes "--workers" ∷ v ∷ []) ≡ option_map OfCase (prove_of (workers_of (Some v)) (Some ByPairs))
 unfolding clap_on_literals
 pair_with program v is =
     by_end (codes "prove") (leaf (codes "prove")) prove_is program (codes "--proof" ∷ codes "pair" ∷ codes "--workers" ∷ v ∷ []) (at (has_workers after_pair v) idle 1) (pair_end v is)
@@ -328,14 +353,14 @@ workers_taken n least most =
     ap (option_and_then if_worker_count) (number_taken (decimal n) n (omega arith) refl)
     ∙ ap (λ b. if b then Some n else None) (and_from _ _ (le-leb 1 n least) (le-leb n 64 most))
 
-pub prove_by : (program : Text) (workers : ℕ) → 1 ≤ workers → workers ≤ 64 → command_of (program ∷ codes "prove" ∷ codes "--workers" ∷ decimal workers ∷ []) ≡ Some (OfCase (Prove workers Line))
+pub prove_by : (program : Text) (workers : ℕ) → 1 ≤ workers → workers ≤ 64 → command_of (program ∷ codes "prove" ∷ codes "--workers" ∷ decimal workers ∷ []) ≡ Some (OfCase (Prove workers (ByLines One)))
 prove_by program workers least most =
-    prove_with program (decimal workers) (decimal_plain workers (omega arith)) ∙ ap (λ w. option_map OfCase (prove_of w (Some Line))) (workers_taken workers least most)
+    prove_with program (decimal workers) (decimal_plain workers (omega arith)) ∙ ap (λ w. option_map OfCase (prove_of w (Some (ByLines One)))) (workers_taken workers least most)
 
 pub pair_by : (program : Text) (workers : ℕ) → 1 ≤ workers → workers ≤ 64
-    → command_of (program ∷ codes "prove" ∷ codes "--proof" ∷ codes "pair" ∷ codes "--workers" ∷ decimal workers ∷ []) ≡ Some (OfCase (Prove workers Pair))
+    → command_of (program ∷ codes "prove" ∷ codes "--proof" ∷ codes "pair" ∷ codes "--workers" ∷ decimal workers ∷ []) ≡ Some (OfCase (Prove workers ByPairs))
 pair_by program workers least most =
-    pair_with program (decimal workers) (decimal_plain workers (omega arith)) ∙ ap (λ w. option_map OfCase (prove_of w (Some Pair))) (workers_taken workers least most)
+    pair_with program (decimal workers) (decimal_plain workers (omega arith)) ∙ ap (λ w. option_map OfCase (prove_of w (Some ByPairs))) (workers_taken workers least most)
 
 pub demo_of_number : (program : Text) (number : ℕ) → number < 2 ^ 32 → command_of (program ∷ codes "demo" ∷ decimal number ∷ []) ≡ Some (Demo number 1)
 demo_of_number program number fits =
@@ -439,17 +464,17 @@ is_other name word other = elim (cases_Bool (bytes_eq name word)) [
   | inr differs ↦ differs
 ]
 
-pub other_words : (program word : Text) (ws : List Text) → word ≢ codes "eval" → word ≢ codes "circuit" → word ≢ codes "prove" → word ≢ codes "verify" → word ≢ codes "audit" → word ≢ codes "demo" → word ≢ codes "serve"
+pub other_words : (program word : Text) (ws : List Text) → word ≢ codes "eval" → word ≢ codes "circuit" → word ≢ codes "prove" → word ≢ codes "verify" → word ≢ codes "audit" → word ≢ codes "convert" → word ≢ codes "demo" → word ≢ codes "serve"
     → command_of (program ∷ word ∷ ws) ≡ None
 unfolding command_of
-other_words program word ws a b c d e f g =
+other_words program word ws a b c d e v f g =
     let none : subcommand_met (names_of line) idle word ≡ None =
-    names_by word (is_other (codes "eval") word a) (is_other (codes "circuit") word b) (is_other (codes "prove") word c) (is_other (codes "verify") word d) (is_other (codes "audit") word e) (is_other (codes "demo") word f) (is_other (codes "serve") word g) in
+    names_by word (is_other (codes "eval") word a) (is_other (codes "circuit") word b) (is_other (codes "prove") word c) (is_other (codes "verify") word d) (is_other (codes "audit") word e) (is_other (codes "convert") word v) (is_other (codes "demo") word f) (is_other (codes "serve") word g) in
     unless_fails (fault_of command_line (program ∷ word ∷ ws)) (subcommand_of command_line (program ∷ word ∷ ws)) (by_dashes word ws (bytes_eq word (45 ∷ 45 ∷ [])) refl none)
   where
     names_by : (word : Text) → bytes_eq (codes "eval") word ≡ false → bytes_eq (codes "circuit") word ≡ false → bytes_eq (codes "prove") word ≡ false → bytes_eq (codes "verify") word ≡ false
-        → bytes_eq (codes "audit") word ≡ false → bytes_eq (codes "demo") word ≡ false → bytes_eq (codes "serve") word ≡ false → subcommand_met (names_of line) idle word ≡ None
-    names_by word a b c d e f g = rw (a, b, c, d, e, f, g) refl
+        → bytes_eq (codes "audit") word ≡ false → bytes_eq (codes "convert") word ≡ false → bytes_eq (codes "demo") word ≡ false → bytes_eq (codes "serve") word ≡ false → subcommand_met (names_of line) idle word ≡ None
+    names_by word a b c d e v f g = rw (a, b, c, d, e, v, f, g) refl
 
 pub no_words : command_of [] ≡ None
 unfolding command_of clap_on_literals

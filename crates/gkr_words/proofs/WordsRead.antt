@@ -11,9 +11,11 @@ use Rattle.clap.specs.declared.parser.matches.ArgMatches.TheViews.{out-SubComman
 use Rattle.clap.specs.declared.parser.matches.SubCommand.{SubCommand}
 use Rattle.clap.proofs.OnLiterals.{clap_on_literals}
 use Rattle.phase_run.specs.Work.{IsWorkerCount}
-use Rattle.gkr_words.specs.Commands.{command_line, command_of, command_named, command_of_rows, command_unless, HasWorkers, demo_of, form_named, is_given, prove_of, serve_of, service, if_worker_count, number_of, workers_of}
+use Rattle.gkr_words.specs.Commands.{command_line, command_of, command_named, command_of_rows, command_unless, HasWorkers, demo_of, kind_named, is_given, prove_of, serve_of, service, if_worker_count, number_of, version_named, workers_of}
 use Rattle.gkr_words.specs.declared.words.CaseCommand.{CaseCommand}
-use Rattle.proof_wire.specs.declared.form.ProofForm.{ProofForm}
+use Rattle.gkr_words.specs.declared.words.CaseCommand.TheVariants.{Convert}
+use Rattle.proof_two.specs.declared.kind.ProofKind.{ProofKind}
+use Rattle.proof_two.specs.declared.kind.ProofVersion.{ProofVersion}
 use Rattle.gkr_words.specs.declared.words.Command.{Command}
 use Rattle.gkr_words.specs.declared.words.Command.TheVariants.{OfCase, Serve}
 
@@ -47,8 +49,8 @@ entered_is None name rows named found = absurd cc
 entered_is (Some b) name rows named found = cc
 
 -- the same name and the same words are the same command
-pub same_named : (name : Text) {a a' b b' c c' d d' e e' f f' : Option Text} → a ≡ a' → b ≡ b' → c ≡ c' → d ≡ d' → e ≡ e' → f ≡ f' → command_named name a b c d e f ≡ command_named name a' b' c' d' e' f'
-same_named name p q r s t u = λ k. command_named name (p k) (q k) (r k) (s k) (t k) (u k)
+pub same_named : (name : Text) {a a' b b' c c' d d' e e' f f' g g' : Option Text} → a ≡ a' → b ≡ b' → c ≡ c' → d ≡ d' → e ≡ e' → f ≡ f' → g ≡ g' → command_named name a b c d e f g ≡ command_named name a' b' c' d' e' f' g'
+same_named name p q r s t u v = λ k. command_named name (p k) (q k) (r k) (s k) (t k) (u k) (v k)
 
 pub true_or_false : (b : Bool) → b ≡ true → b ≡ false → ⊥
 true_or_false b is is' = cc
@@ -87,28 +89,33 @@ serve_workers history (Some workers) None clients f g h = tt
 serve_workers history (Some workers) (Some provers) None f g h = tt
 serve_workers history (Some workers) (Some provers) (Some clients) f g h = service_workers history workers provers clients (f workers refl) (g provers refl) (h clients refl)
 
-prove_workers : (workers : Option ℕ) (form : Option ProofForm) → ((n : ℕ) → workers ≡ Some n → IsWorkerCount n) → IfSome (option_map OfCase (prove_of workers form)) HasWorkers
-prove_workers None form each = tt
+prove_workers : (workers : Option ℕ) (kind : Option ProofKind) → ((n : ℕ) → workers ≡ Some n → IsWorkerCount n) → IfSome (option_map OfCase (prove_of workers kind)) HasWorkers
+prove_workers None kind each = tt
 prove_workers (Some workers) None each = tt
-prove_workers (Some workers) (Some form) each = each workers refl
+prove_workers (Some workers) (Some kind) each = each workers refl
 
 case_if : (b : Bool) (x y : Option CaseCommand) → IfSome (option_map OfCase x) HasWorkers → IfSome (option_map OfCase y) HasWorkers → IfSome (option_map OfCase (if b then x else y)) HasWorkers
 case_if true x y h k = h
 case_if false x y h k = k
 
-named_workers : (name : Text) (number workers provers clients proof history : Option Text) → IfSome (command_named name number workers provers clients proof history) HasWorkers
-named_workers name number workers provers clients proof history =
+convert_workers : (version : Option ProofVersion) → IfSome (option_map OfCase (option_map Convert version)) HasWorkers
+convert_workers None = tt
+convert_workers (Some version) = tt
+
+named_workers : (name : Text) (number workers provers clients proof history to : Option Text) → IfSome (command_named name number workers provers clients proof history to) HasWorkers
+named_workers name number workers provers clients proof history to =
     if_workers (bytes_eq name (codes "demo")) _ _ (demo_workers _ _ (workers_in workers))
     (if_workers (bytes_eq name (codes "serve")) _ _ (serve_workers (is_given history) (workers_of workers) (workers_of provers) (workers_of clients) (workers_in workers) (workers_in provers) (workers_in clients))
     (case_if (bytes_eq name (codes "eval")) _ _ tt
     (case_if (bytes_eq name (codes "circuit")) _ _ tt
-    (case_if (bytes_eq name (codes "prove")) _ _ (prove_workers (workers_of workers) (form_named proof) (workers_in workers))
+    (case_if (bytes_eq name (codes "prove")) _ _ (prove_workers (workers_of workers) (kind_named proof) (workers_in workers))
     (case_if (bytes_eq name (codes "verify")) _ _ tt
-    (case_if (bytes_eq name (codes "audit")) _ _ tt tt))))))
+    (case_if (bytes_eq name (codes "audit")) _ _ tt
+    (case_if (bytes_eq name (codes "convert")) _ _ (convert_workers (version_named to)) tt)))))))
 
 unless_workers : (kinds : Kinds) (entered : Option (Text × List Row)) → IfSome (command_unless kinds entered) HasWorkers
 unless_workers [] None = tt
-unless_workers [] (Some found) = named_workers found.0 (first_of (codes "number") found.1) (first_of (codes "workers") found.1) (first_of (codes "provers") found.1) (first_of (codes "clients") found.1) (first_of (codes "proof") found.1) (first_of (codes "history") found.1)
+unless_workers [] (Some found) = named_workers found.0 (first_of (codes "number") found.1) (first_of (codes "workers") found.1) (first_of (codes "provers") found.1) (first_of (codes "clients") found.1) (first_of (codes "proof") found.1) (first_of (codes "history") found.1) (first_of (codes "to") found.1)
 unless_workers (k ∷ ks) entered = tt
 
 -- the workers of a command that words name

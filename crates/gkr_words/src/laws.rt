@@ -4,7 +4,7 @@ ghost use Rattle.std.specs.Prelude.{◌≡◌, ◌≢◌, ◌<◌, ◌≤◌, �
 ghost use Rattle.gkr_words.specs.Commands.{command_of, number_of};
 
 use crate::words::{CaseCommand, Command};
-use proof_wire::ProofForm;
+use proof_two::{ProofKind, ProofVersion};
 
 /// The number of a word is the one below 2^32 whose decimal it is.
 pub fn number_by_decimal()
@@ -21,7 +21,7 @@ pub fn words_alone()
         → command_of (program ∷ codes "circuit" ∷ []) ≡ Some (Command.OfCase CaseCommand.Circuit) }
     ensures prove { (program : List ℕ)
         → command_of (program ∷ codes "prove" ∷ [])
-        ≡ Some (Command.OfCase (CaseCommand.Prove 1 ProofForm.Line)) }
+        ≡ Some (Command.OfCase (CaseCommand.Prove 1 (ProofKind.ByLines ProofVersion.One))) }
     ensures verify { (program : List ℕ)
         → command_of (program ∷ codes "verify" ∷ []) ≡ Some (Command.OfCase CaseCommand.Verify) }
     ensures audit { (program : List ℕ)
@@ -38,7 +38,7 @@ pub fn words_alone()
 pub fn words_with_numbers()
     ensures prove { (program : List ℕ) (workers : ℕ) → 1 ≤ workers → workers ≤ 64
         → command_of (program ∷ codes "prove" ∷ codes "--workers" ∷ decimal workers ∷ [])
-        ≡ Some (Command.OfCase (CaseCommand.Prove workers ProofForm.Line)) }
+        ≡ Some (Command.OfCase (CaseCommand.Prove workers (ProofKind.ByLines ProofVersion.One))) }
     ensures demo { (program : List ℕ) (number : ℕ) → number < 2 ^ 32
         → command_of (program ∷ codes "demo" ∷ decimal number ∷ []) ≡ Some (Command.Demo number 1) }
     ensures demo_by { (program : List ℕ) (number workers : ℕ) → number < 2 ^ 32 → 1 ≤ workers
@@ -47,20 +47,32 @@ pub fn words_with_numbers()
         ∷ []) ≡ Some (Command.Demo number workers) }
 {}
 
-/// `prove --proof pair` asks for a proof by pairs and `prove --proof 1` for one by lines, by one worker or by as
-/// many as `--workers` says behind it.
+/// `prove --proof pair` asks for a proof by pairs, and `prove --proof 1` and `prove --proof 2` for one by lines in that
+/// version, by one worker or by as many as `--workers` says behind it. `convert --to 1` and `convert --to 2` name a version.
 pub fn words_with_forms()
     ensures pair { (program : List ℕ)
         → command_of (program ∷ codes "prove" ∷ codes "--proof" ∷ codes "pair" ∷ [])
-        ≡ Some (Command.OfCase (CaseCommand.Prove 1 ProofForm.Pair)) }
+        ≡ Some (Command.OfCase (CaseCommand.Prove 1 ProofKind.ByPairs)) }
     ensures line { (program : List ℕ)
         → command_of (program ∷ codes "prove" ∷ codes "--proof" ∷ codes "1" ∷ [])
-        ≡ Some (Command.OfCase (CaseCommand.Prove 1 ProofForm.Line)) }
+        ≡ Some (Command.OfCase (CaseCommand.Prove 1 (ProofKind.ByLines ProofVersion.One))) }
+    ensures short { (program : List ℕ)
+        → command_of (program ∷ codes "prove" ∷ codes "--proof" ∷ codes "2" ∷ [])
+        ≡ Some (Command.OfCase (CaseCommand.Prove 1 (ProofKind.ByLines ProofVersion.Two))) }
     ensures other { (program : List ℕ)
         → command_of (program ∷ codes "prove" ∷ codes "--proof" ∷ codes "lines" ∷ []) ≡ None }
+    ensures to_one { (program : List ℕ)
+        → command_of (program ∷ codes "convert" ∷ codes "--to" ∷ codes "1" ∷ [])
+        ≡ Some (Command.OfCase (CaseCommand.Convert ProofVersion.One)) }
+    ensures to_two { (program : List ℕ)
+        → command_of (program ∷ codes "convert" ∷ codes "--to" ∷ codes "2" ∷ [])
+        ≡ Some (Command.OfCase (CaseCommand.Convert ProofVersion.Two)) }
+    ensures to_other { (program : List ℕ)
+        → command_of (program ∷ codes "convert" ∷ codes "--to" ∷ codes "3" ∷ []) ≡ None }
+    ensures to_none { (program : List ℕ) → command_of (program ∷ codes "convert" ∷ []) ≡ None }
     ensures pair_by { (program : List ℕ) (workers : ℕ) → 1 ≤ workers → workers ≤ 64
         → command_of (program ∷ codes "prove" ∷ codes "--proof" ∷ codes "pair" ∷ codes "--workers"
-        ∷ decimal workers ∷ []) ≡ Some (Command.OfCase (CaseCommand.Prove workers ProofForm.Pair)) }
+        ∷ decimal workers ∷ []) ≡ Some (Command.OfCase (CaseCommand.Prove workers ProofKind.ByPairs)) }
 {}
 
 /// Words name a command only where the first behind the program's own name is a subcommand's.
@@ -69,6 +81,6 @@ pub fn other_words()
     ensures own_name { (program : List ℕ) → command_of (program ∷ []) ≡ None }
     ensures other { (program word : List ℕ) (rest : List (List ℕ)) → word ≢ codes "eval"
         → word ≢ codes "circuit" → word ≢ codes "prove" → word ≢ codes "verify"
-        → word ≢ codes "audit" → word ≢ codes "demo" → word ≢ codes "serve"
+        → word ≢ codes "audit" → word ≢ codes "convert" → word ≢ codes "demo" → word ≢ codes "serve"
         → command_of (program ∷ word ∷ rest) ≡ None }
 {}

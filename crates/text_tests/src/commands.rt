@@ -7,7 +7,7 @@ use case_text::{Case, Form, LayerSize, read_case, write_case};
 use field_ext::Fp;
 use gkr_verify::Verdict;
 use io_edge::OpenGate;
-use proof_wire::ProofForm;
+use proof_two::{ProofKind, ProofVersion};
 use std::alloc::{AllocError, Global};
 use std::marker::Sync;
 use std::process::Abort;
@@ -80,7 +80,8 @@ fn proves<R: Threads + Sync + Abort>(
 ) -> Result<(), Fail>
     requires { (1 ≤ workers) × (workers ≤ 64) }
 {
-    let Ok(proved) = prove_case(rt, alloc, case, ProofForm::Line, workers, &OpenGate) else {
+    let kind = ProofKind::ByLines(ProofVersion::One);
+    let Ok(proved) = prove_case(rt, alloc, case, kind, workers, &OpenGate) else {
         return Err(Fail::new("no proof"));
     };
     let written = write_case(alloc, &proved)?;

@@ -1,34 +1,16 @@
 //! Audits of proofs.
 
-use super::verifies::{Claim, first_challenge, with_zeros, zeros};
+use super::verifies::{Claim, copy_of, first_challenge, sees_of, with_zeros, zeros};
 use super::*;
 
-/// The copy of 0, with the proof of zeros that it has whatever the challenges are.
-fn copy_of_zero(proof: &[u8]) -> Claim<'_> {
-    Claim {
-        program: b"input a; output a;",
-        inputs: b"1 0",
-        outputs: b"1 0",
-        proof,
-    }
-}
-
-fn audits<R: Threads + Wait + Sync + Abort + AllocGlobal>(
-    rt: &R,
-    claim: Claim,
-    status: Status,
-    reply: &[u8],
-) -> Result<(), Fail> {
-    let input = claim.text(rt.alloc())?;
-    sees(rt, &["gkr", "audit"], &Ends::steady(&input), status, reply)
-}
+const AUDIT: &[&str] = &["gkr", "audit"];
 
 #[test]
 fn names_nothing_of_proofs_of_zeros(rt: HostRuntime) -> Result<(), Fail> {
     let alloc = rt.alloc();
     let nothing = b"accepted\nmeaning same\nmessage none\nchallenge none\n";
     let proof = zeros(alloc, 64)?;
-    audits(&rt, copy_of_zero(&proof), Status::Done, nothing)?;
+    sees_of(&rt, AUDIT, copy_of(b"1 0", &proof), Status::Done, nothing)?;
     let proof = zeros(alloc, 184)?;
     let product = Claim {
         program: b"input a; input b; output a*b;",
@@ -36,7 +18,7 @@ fn names_nothing_of_proofs_of_zeros(rt: HostRuntime) -> Result<(), Fail> {
         outputs: b"1 0",
         proof: &proof,
     };
-    audits(&rt, product, Status::Done, nothing)
+    sees_of(&rt, AUDIT, product, Status::Done, nothing)
 }
 
 /// The true messages are zeros, so that one that isn't differs, and a constant has its value nowhere. The line 1 - 2 t has the
@@ -64,7 +46,7 @@ fn names_the_message_that_is_spoiled(rt: HostRuntime) -> Result<(), Fail> {
             &b"rejected input 1236970497,819917986 0,0\nmeaning same\nmessage 0 line\nchallenge none\n"[..],
         ),
     ] {
-        audits(&rt, copy_of_zero(proof), Status::Done, reply)?;
+        sees_of(&rt, AUDIT, copy_of(b"1 0", proof), Status::Done, reply)?;
     }
     Ok(())
 }
@@ -76,19 +58,16 @@ fn tells_false_outputs(rt: HostRuntime) -> Result<(), Fail> {
     let proof = zeros(alloc, 64)?;
     let one = Claim {
         outputs: b"1 1",
-        ..copy_of_zero(&proof)
+        ..copy_of(b"1 0", &proof)
     };
     let (re, im) = first_challenge();
     let rest = "meaning differs\nmessage none\nchallenge none";
     let reply = format!(in alloc; "rejected sum 0 1 0,0 {},{}\n{}\n", re, im, rest)?;
-    audits(&rt, one, Status::Done, reply.as_bytes())?;
+    sees_of(&rt, AUDIT, one, Status::Done, reply.as_bytes())?;
     let spoiled = with_zeros(alloc, b"GKR1\x01", 63)?;
-    let five = Claim {
-        inputs: b"1 5",
-        ..copy_of_zero(&spoiled)
-    };
+    let five = copy_of(b"1 5", &spoiled);
     let reply = b"rejected sum 0 1 2,0 0,0\nmeaning differs\nmessage 0 1\nchallenge none\n";
-    audits(&rt, five, Status::Done, reply)
+    sees_of(&rt, AUDIT, five, Status::Done, reply)
 }
 
 /// As `verify` does; but a proof is read by lines whatever its fourth byte is.
@@ -96,7 +75,7 @@ fn tells_false_outputs(rt: HostRuntime) -> Result<(), Fail> {
 fn refuses_what_has_no_audit(rt: HostRuntime) -> Result<(), Fail> {
     let alloc = rt.alloc();
     let proof = zeros(alloc, 64)?;
-    let copy = copy_of_zero(&proof);
+    let copy = copy_of(b"1 0", &proof);
     let unknown = Claim {
         program: b"input a; output b;",
         ..copy
@@ -123,7 +102,7 @@ fn refuses_what_has_no_audit(rt: HostRuntime) -> Result<(), Fail> {
         (inputs, Status::BadCount, b"refused count input 2 1\n"),
         (outputs, Status::BadCount, b"refused count output 2 1\n"),
     ] {
-        audits(&rt, claim, status, reply)?;
+        sees_of(&rt, AUDIT, claim, status, reply)?;
     }
     let short = zeros(alloc, 63)?;
     let long = zeros(alloc, 65)?;
@@ -135,12 +114,12 @@ fn refuses_what_has_no_audit(rt: HostRuntime) -> Result<(), Fail> {
         (out_of_range.as_slice(), b"refused proof range 4\n"),
         (by_pairs.as_slice(), b"refused proof magic 3\n"),
     ] {
-        audits(&rt, copy_of_zero(proof), Status::BadProof, reply)?;
+        sees_of(&rt, AUDIT, copy_of(b"1 0", proof), Status::BadProof, reply)?;
     }
     let plain = case_of(alloc, b"input a; output a;", b"1 0")?;
     let ends = Ends::steady(&plain);
     let reply = b"refused case section 51\n";
-    sees(&rt, &["gkr", "audit"], &ends, Status::BadCase, reply)?;
+    sees(&rt, AUDIT, &ends, Status::BadCase, reply)?;
     let usage = b"refused usage\n";
     let words = ["gkr", "audit", "--workers", "2"];
     sees(&rt, &words, &ends, Status::Usage, usage)
@@ -150,14 +129,14 @@ fn refuses_what_has_no_audit(rt: HostRuntime) -> Result<(), Fail> {
 fn tells_ends_that_fail(rt: HostRuntime) -> Result<(), Fail> {
     let alloc = rt.alloc();
     let proof = zeros(alloc, 64)?;
-    let input = copy_of_zero(&proof).text(alloc)?;
+    let input = copy_of(b"1 0", &proof).text(alloc)?;
     let failing = Ends {
         input: &input,
         piece: 100,
         failing_reads: &[1],
         failing_writes: &[],
     };
-    sees(&rt, &["gkr", "audit"], &failing, Status::ReadFault, b"")?;
+    sees(&rt, AUDIT, &failing, Status::ReadFault, b"")?;
     let failing = Ends {
         input: &input,
         piece: 100,
@@ -165,5 +144,5 @@ fn tells_ends_that_fail(rt: HostRuntime) -> Result<(), Fail> {
         failing_writes: &[3],
     };
     let front = b"accepted\nm";
-    sees(&rt, &["gkr", "audit"], &failing, Status::WriteFault, front)
+    sees(&rt, AUDIT, &failing, Status::WriteFault, front)
 }

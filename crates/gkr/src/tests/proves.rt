@@ -1,11 +1,19 @@
 //! The commands `prove` and `demo` over inputs in memory, by status and bytes.
 
+use super::converts::converts;
+use super::verifies::{Claim, with_zeros};
 use super::*;
 use sha2::{Digest, Sha256};
 
+const BY_ONE: &[&str] = &["gkr", "prove"];
+
+const BY_TWO: &[&str] = &["gkr", "prove", "--proof", "2"];
+
+const BY_PAIRS: &[&str] = &["gkr", "prove", "--proof", "pair"];
+
 /// A program, the words of its line of inputs and of its line of outputs, and how many bytes its proof has.
 #[derive(Clone, Copy)]
-struct Claim {
+struct ProvedRow {
     program: &'static [u8],
     inputs: &'static [u8],
     outputs: &'static [u8],
@@ -17,8 +25,8 @@ const fn stated(
     inputs: &'static [u8],
     outputs: &'static [u8],
     proof: usize,
-) -> Claim {
-    Claim {
+) -> ProvedRow {
+    ProvedRow {
         program,
         inputs,
         outputs,
@@ -27,7 +35,7 @@ const fn stated(
 }
 
 /// Runs the program with these words and sees how it ends; answers what it wrote.
-fn written<R: Threads + Wait + Sync + Abort + AllocGlobal>(
+pub(crate) fn written<R: Threads + Wait + Sync + Abort + AllocGlobal>(
     rt: &R,
     words: &[&str],
     input: &[u8],
@@ -42,19 +50,11 @@ fn written<R: Threads + Wait + Sync + Abort + AllocGlobal>(
     Ok(text)
 }
 
-/// Proves a case by lines, sees everything but the digits of its proof, and verifies it; answers the digits.
+/// Proves a case with these words, sees everything but the digits of its proof, and verifies it; answers the text.
 fn proves<R: Threads + Wait + Sync + Abort + AllocGlobal>(
     rt: &R,
-    row: &Claim,
-) -> Result<Vec<u8>, Fail> {
-    proves_by(rt, &["gkr", "prove"], row)
-}
-
-/// The same with these words.
-fn proves_by<R: Threads + Wait + Sync + Abort + AllocGlobal>(
-    rt: &R,
     words: &[&str],
-    row: &Claim,
+    row: &ProvedRow,
 ) -> Result<Vec<u8>, Fail> {
     let alloc = rt.alloc();
     let case = case_of(alloc, row.program, row.inputs)?;
@@ -63,131 +63,133 @@ fn proves_by<R: Threads + Wait + Sync + Abort + AllocGlobal>(
     assert!(rt; text.starts_with(&front));
     let rest = text.get(front.len()..).unwrap_or(b"");
     assert!(rt; rest.ends_with(b"\nend\n"));
-    let digits = rest.get(..rest.len().saturating_sub(5)).unwrap_or(b"");
-    assert_eq!(rt; digits.len() / 2, row.proof);
+    assert_eq!(rt; rest.len().saturating_sub(5) / 2, row.proof);
     let verdict = written(rt, &["gkr", "verify"], &text, Status::Done)?;
     assert_eq!(rt; verdict.as_slice(), &b"accepted\n"[..]);
-    Ok(Vec::from_slice(alloc, digits)?)
-}
-
-/// The digits of the first four bytes and of so many zeros.
-fn zero_digits(alloc: Global, magic: &[u8], zeros: usize) -> Result<Vec<u8>, AllocError> {
-    let mut digits = Vec::from_slice(alloc, magic)?;
-    for _ in 0..zeros {
-        digits.extend_from_slice(b"00")?;
-    }
-    Ok(digits)
+    Ok(text)
 }
 
 #[test]
 fn proves_zeros_by_zeros(rt: HostRuntime) -> Result<(), Fail> {
-    for row in [
-        stated(b"input a; output a;", b"1 0", b"1 0", 68),
-        stated(b"input a; input b; output a*b;", b"2 0 0", b"1 0", 188),
+    let alloc = rt.alloc();
+    let copy = stated(b"input a; output a;", b"1 0", b"1 0", 0);
+    let product = stated(b"input a; input b; output a*b;", b"2 0 0", b"1 0", 0);
+    for (words, magic, row, proof) in [
+        (BY_ONE, b"GKR1", copy, 68usize),
+        (BY_ONE, b"GKR1", product, 188),
+        (BY_TWO, b"GKR2", copy, 52),
+        (BY_TWO, b"GKR2", product, 140),
+        (BY_PAIRS, b"GKRP", product, 180),
     ] {
-        let digits = proves(&rt, &row)?;
-        let zeros = zero_digits(rt.alloc(), b"474b5231", row.proof.saturating_sub(4))?;
-        assert_eq!(rt; digits.as_slice(), zeros.as_slice());
+        let text = proves(&rt, words, &ProvedRow { proof, ..row })?;
+        let zeros = with_zeros(alloc, magic, proof.saturating_sub(4))?;
+        let want = Claim {
+            program: row.program,
+            inputs: row.inputs,
+            outputs: row.outputs,
+            proof: &zeros,
+        };
+        let want = want.text(alloc)?;
+        assert_eq!(rt; text.as_slice(), want.as_slice());
     }
     Ok(())
 }
 
-#[test]
-fn proves_zeros_by_pairs(rt: HostRuntime) -> Result<(), Fail> {
-    let row = stated(b"input a; input b; output a*b;", b"2 0 0", b"1 0", 180);
-    let digits = proves_by(&rt, &["gkr", "prove", "--proof", "pair"], &row)?;
-    let zeros = zero_digits(rt.alloc(), b"474b5250", 176)?;
-    assert_eq!(rt; digits.as_slice(), zeros.as_slice());
-    Ok(())
-}
-
-#[test]
-fn verifies_what_it_proves_by_pairs(rt: HostRuntime) -> Result<(), Fail> {
-    for row in [
-        stated(b"input a; input b; output a*b;", b"2 3 4", b"1 12", 180),
-        stated(b"output 7;", b"0", b"1 7", 68),
-        stated(
-            b"input a[2][3]; input b[3][2]; output matmul(a,b);",
-            b"12 1 2 3 4 5 6 1 2 3 4 5 6",
-            b"4 22 28 49 64",
-            788,
-        ),
-    ] {
-        let digits = proves_by(&rt, &["gkr", "prove", "--proof", "pair"], &row)?;
-        let words = ["gkr", "prove", "--workers", "3", "--proof=pair"];
-        let same = proves_by(&rt, &words, &row)?;
-        assert_eq!(rt; digits.as_slice(), same.as_slice());
-    }
-    Ok(())
-}
-
+/// Each case is proved in each kind, which have so many bytes: by lines in version 1 and in version 2, and by pairs. The last
+/// circuit has the greatest height: 255 sums above each other, and the input carried beside them.
 #[test]
 fn verifies_what_it_proves(rt: HostRuntime) -> Result<(), Fail> {
-    for row in [
-        stated(b"input a; input b; output a*b;", b"2 3 4", b"1 12", 188),
-        stated(b"input a; output a;", b"1 5", b"1 5", 68),
-        stated(b"output 7;", b"0", b"1 7", 68),
-        stated(b"input a; output a; output a;", b"1 5", b"2 5 5", 68),
-        stated(
+    for (program, inputs, outputs, (one, two, pair)) in [
+        (
+            &b"input a; input b; output a*b;"[..],
+            &b"2 3 4"[..],
+            &b"1 12"[..],
+            (188, 140, 180),
+        ),
+        (b"input a; output a;", b"1 5", b"1 5", (68, 52, 68)),
+        (b"output 7;", b"0", b"1 7", (68, 52, 68)),
+        (
+            b"input a; output a; output a;",
+            b"1 5",
+            b"2 5 5",
+            (68, 52, 68),
+        ),
+        (
             b"input a; input b; output a-b;",
             b"2 0 1",
             b"1 2147483646",
-            308,
+            (308, 228, 292),
         ),
-        stated(b"input v[3]; output sum(v);", b"3 1 2 3", b"1 6", 308),
-        stated(
+        (
+            b"input v[3]; output sum(v);",
+            b"3 1 2 3",
+            b"1 6",
+            (308, 228, 292),
+        ),
+        (
             b"input v[2]; output dot(v,v+v); output scale(2,v)*v; output -v[0];",
             b"2 1 2",
             b"4 10 2 8 2147483646",
-            708,
+            (708, 516, 644),
         ),
-        stated(
+        (
             b"input a[2][3]; input b[3][2]; output matmul(a,b);",
             b"12 1 2 3 4 5 6 1 2 3 4 5 6",
             b"4 22 28 49 64",
-            876,
+            (876, 636, 788),
         ),
-        stated(
+        (
             b"input a[2][2]; output transpose(a); output (a[0][1]-3)*4;",
             b"4 1 2 3 4",
             b"5 1 3 2 4 2147483643",
-            708,
+            (708, 516, 644),
         ),
-        stated(
+        (
             b"input v[3]; let s = 0; for i in 0..3 { s = s+v[i]*i; } output s;",
             b"3 4 5 6",
             b"1 17",
-            660,
+            (660, 484, 612),
         ),
-        stated(
+        (
             b"input v[2]; output scale(3,v); output -v[0]; output dot(v,v);",
             b"2 1 2",
             b"4 3 6 2147483646 5",
-            532,
+            (532, 388, 484),
         ),
-        stated(
+        (
             b"input a[2][2]; let s = 0; for i in 0..2 { s = s + a[i][1]; } output s; output transpose(a);",
             b"4 1 2 3 4",
             b"5 6 1 3 2 4",
-            532,
+            (532, 388, 484),
         ),
-        stated(
+        (
             b"input v[2]; let w = v; for i in 0..2 { w[i] = v[1-i]; } output w;",
             b"2 8 9",
             b"2 9 8",
-            124,
+            (124, 92, 116),
+        ),
+        (
+            b"input a[2][2]; input b[2][2]; output sum(matmul(a,b));",
+            b"8 1 2 3 4 5 6 7 8",
+            b"1 134",
+            (828, 604, 756),
+        ),
+        (
+            b"input a; let s = a; for i in 0..255 { s = s+a; } output s;",
+            b"1 1",
+            b"1 256",
+            (30_612, 22_452, 28_580),
         ),
     ] {
-        proves(&rt, &row)?;
+        let one = proves(&rt, BY_ONE, &stated(program, inputs, outputs, one))?;
+        let two = proves(&rt, BY_TWO, &stated(program, inputs, outputs, two))?;
+        converts(&rt, &one, &two)?;
+        let row = stated(program, inputs, outputs, pair);
+        let pairs = proves(&rt, BY_PAIRS, &row)?;
+        let words = ["gkr", "prove", "--workers", "3", "--proof=pair"];
+        let same = proves(&rt, &words, &row)?;
+        assert_eq!(rt; pairs.as_slice(), same.as_slice());
     }
-    Ok(())
-}
-
-/// The circuit has the greatest height: 255 sums above each other, and the input carried beside them.
-#[test]
-fn proves_at_the_greatest_height(rt: HostRuntime) -> Result<(), Fail> {
-    let program = b"input a; let s = a; for i in 0..255 { s = s+a; } output s;";
-    proves(&rt, &stated(program, b"1 1", b"1 256", 30_612))?;
     Ok(())
 }
 
@@ -281,9 +283,12 @@ fn tells_of_the_generated_case(rt: HostRuntime) -> Result<(), Fail> {
             b"demo 4294967295\nsize 2\noutput 214\nlayers 5\nproof 828\n",
         ),
     ] {
-        let digits = proves(&rt, &stated(program, inputs, output, 828))?;
+        let proved = proves(&rt, BY_ONE, &stated(program, inputs, output, 828))?;
+        let front = claimed(alloc, program, inputs, output, 828)?;
+        let rest = proved.get(front.len()..).unwrap_or(b"");
+        let digits = rest.get(..rest.len().saturating_sub(5)).unwrap_or(b"");
         let mut want = Vec::from_slice(alloc, lines)?;
-        want.extend_from_slice(&digest_line(alloc, &digits)?)?;
+        want.extend_from_slice(&digest_line(alloc, digits)?)?;
         want.extend_from_slice(b"accepted\n")?;
         let text = written(&rt, &["gkr", "demo", number], b"", Status::Done)?;
         assert_eq!(rt; text.as_slice(), want.as_slice());

@@ -12,7 +12,9 @@ const ROOM: Room = Room {
 // How many workers, provers and clients there are.
 const COUNTS: [&str; 4] = ["1", "2", "3", "64"];
 
-const FIRST: &[u8] = b"gkr case 1\nprogram 18\ninput a; output a;\ninput 1 0\n";
+const SERVE: &[&str] = &["gkr", "serve"];
+
+pub(crate) const FIRST: &[u8] = b"gkr case 1\nprogram 18\ninput a; output a;\ninput 1 0\n";
 
 const LAST: &[u8] = b"gkr case 1\nprogram 29\ninput a; input b; output a*b;\ninput 2 0 0\n";
 
@@ -36,7 +38,7 @@ fn script(alloc: Global) -> Result<Vec<u8>, AllocError> {
 }
 
 /// A reply with a proof of zeros.
-fn put_proved(
+pub(crate) fn put_proved(
     out: &mut Vec<u8>,
     client: &[u8],
     case: &[u8],
@@ -89,25 +91,53 @@ fn serves_a_script_by_any_threads(rt: HostRuntime) -> Result<(), Fail> {
     Ok(())
 }
 
-/// A script, the words, and what the program answers.
-#[derive(Clone, Copy)]
-struct Served {
-    text: &'static [u8],
-    words: &'static [&'static str],
-    status: Status,
-    reply: &'static [u8],
+/// The replies are those without the option, and each of the four jobs is submitted, taken and finished.
+#[test]
+fn serves_a_script_with_its_history(rt: HostRuntime) -> Result<(), Fail> {
+    let text = script(rt.alloc())?;
+    let mut want = replies(rt.alloc())?;
+    want.pop();
+    want.extend_from_slice(b" withdrawn 0\nhistory 12\nsubmit 0 ")?;
+    for count in COUNTS {
+        let words = [
+            "gkr",
+            "serve",
+            "--history",
+            "--provers",
+            count,
+            "--clients",
+            "3",
+        ];
+        let (found, written) = ended_by(&rt, &words, &Ends::steady(&text), ROOM, &OpenGate)?;
+        assert_eq!(rt; found, Status::Done);
+        assert!(rt; written.starts_with(&want));
+    }
+    Ok(())
 }
 
-const fn bad(text: &'static [u8], reply: &'static [u8]) -> Served {
+/// A script, the words, and what the program answers.
+#[derive(Clone, Copy)]
+pub(crate) struct Served {
+    pub(crate) text: &'static [u8],
+    pub(crate) words: &'static [&'static str],
+    pub(crate) status: Status,
+    pub(crate) reply: &'static [u8],
+}
+
+pub(crate) const fn bad(
+    words: &'static [&'static str],
+    text: &'static [u8],
+    reply: &'static [u8],
+) -> Served {
     Served {
         text,
-        words: &["gkr", "serve"],
+        words,
         status: Status::BadCase,
         reply,
     }
 }
 
-const fn unasked(words: &'static [&'static str]) -> Served {
+pub(crate) const fn unasked(words: &'static [&'static str]) -> Served {
     Served {
         text: b"done\n",
         words,
@@ -116,17 +146,8 @@ const fn unasked(words: &'static [&'static str]) -> Served {
     }
 }
 
-const fn empty(words: &'static [&'static str]) -> Served {
-    Served {
-        text: b"done\n",
-        words,
-        status: Status::Done,
-        reply: b"jobs 0 proved 0 refused 0\n",
-    }
-}
-
 /// Runs the program with these words, and sees how it ends and what it writes.
-fn answers<R: Threads + Wait + Sync + Abort + AllocGlobal, G: Gate>(
+pub(crate) fn answers<R: Threads + Wait + Sync + Abort + AllocGlobal, G: Gate>(
     rt: &R,
     words: &[&str],
     text: &[u8],
@@ -143,20 +164,24 @@ fn answers<R: Threads + Wait + Sync + Abort + AllocGlobal, G: Gate>(
 #[test]
 fn answers_small_scripts(rt: HostRuntime) -> Result<(), Fail> {
     let rows = [
-        empty(&["gkr", "serve"]),
-        empty(&["gkr", "serve", "--provers", "64", "--clients", "64"]),
+        Served {
+            text: b"done\n",
+            words: &["gkr", "serve", "--provers", "64", "--clients", "64"],
+            status: Status::Done,
+            reply: b"jobs 0 proved 0 refused 0\n",
+        },
         unasked(&["gkr", "serve", "--workers", "0"]),
         unasked(&["gkr", "serve", "--provers", "0"]),
         unasked(&["gkr", "serve", "--clients", "65"]),
         unasked(&["gkr", "serve", "--clients", "01"]),
-        bad(b"", b"refused case end 0\n"),
-        bad(b"done", b"refused case end 4\n"),
-        bad(b"done\n\n", b"refused case rest 5\n"),
-        bad(b"client 0\n", b"refused case length 7\n"),
-        bad(b"client 01\n", b"refused case length 7\n"),
-        bad(b"client 65\n", b"refused case length 8\n"),
-        bad(b"client 1\ndone\n", b"refused case header 9\n"),
-        bad(b"client 1\n", b"refused case end 9\n"),
+        bad(SERVE, b"", b"refused case end 0\n"),
+        bad(SERVE, b"done", b"refused case end 4\n"),
+        bad(SERVE, b"done\n\n", b"refused case rest 5\n"),
+        bad(SERVE, b"client 0\n", b"refused case length 7\n"),
+        bad(SERVE, b"client 01\n", b"refused case length 7\n"),
+        bad(SERVE, b"client 65\n", b"refused case length 8\n"),
+        bad(SERVE, b"client 1\ndone\n", b"refused case header 9\n"),
+        bad(SERVE, b"client 1\n", b"refused case end 9\n"),
     ];
     for row in rows {
         answers(&rt, row.words, row.text, &OpenGate, row.status, row.reply)?;

@@ -1,28 +1,15 @@
 //! The command `serve --history` over inputs in memory, by status and bytes.
 
+use super::serves::{FIRST, Served, answers, bad, put_proved, unasked};
+use super::works::done;
 use super::*;
 use test_gates::MeetingGate;
 
-/// The most bytes that are written here, and how many a write takes.
-const ROOM: Room = Room {
-    most: 65_536,
-    piece: 4096,
-};
+const HISTORY: &[&str] = &["gkr", "serve", "--history"];
 
 const CASE: &[u8] = b"gkr case 1\nprogram 18\ninput a; output a;\ninput 1 0\nend\n";
 
 const REFUSED: &[u8] = b"gkr case 1\nprogram 9\noutput z;\ninput 0\nend\n";
-
-/// What is written of a job whose case was proved.
-fn put_proved(out: &mut Vec<u8>, client: &[u8]) -> Result<(), AllocError> {
-    out.extend_from_slice(client)?;
-    out.extend_from_slice(b"gkr case 1\nprogram 18\ninput a; output a;\ninput 1 0\n")?;
-    out.extend_from_slice(b"output 1 0\nproof 68\n474b5231")?;
-    for _ in 0..64 {
-        out.extend_from_slice(b"00")?;
-    }
-    out.extend_from_slice(b"\nend\n")
-}
 
 /// A script of one job, which may be marked.
 fn one_job(alloc: Global, case: &[u8], mark: &[u8]) -> Result<Vec<u8>, AllocError> {
@@ -37,7 +24,7 @@ fn one_job(alloc: Global, case: &[u8], mark: &[u8]) -> Result<Vec<u8>, AllocErro
 /// What is written of one job that was proved, with its history.
 fn proved_history(alloc: Global) -> Result<Vec<u8>, AllocError> {
     let mut out = Vec::new(alloc);
-    put_proved(&mut out, b"client 1\n")?;
+    put_proved(&mut out, b"client 1\n", FIRST, b"proof 68\n", 64)?;
     out.extend_from_slice(b"jobs 1 proved 1 refused 0 withdrawn 0\n")?;
     out.extend_from_slice(b"history 3\nsubmit 0 0\ntake 0\nfinish 0\n")?;
     Ok(out)
@@ -46,29 +33,23 @@ fn proved_history(alloc: Global) -> Result<Vec<u8>, AllocError> {
 const WITHDRAWN: &[u8] =
     b"client 1\nwithdrawn\njobs 1 proved 0 refused 0 withdrawn 1\nhistory 2\nsubmit 0 0\nwithdraw 0\n";
 
-/// What the program writes, which ends well.
-fn told<R: Threads + Wait + Sync + Abort + AllocGlobal, G: Gate>(
-    rt: &R,
-    words: &[&str],
-    text: &[u8],
-    gate: &G,
-) -> Result<Vec<u8>, Fail> {
-    let (found, written) = ended_by(rt, words, &Ends::steady(text), ROOM, gate)?;
-    assert_eq!(rt; found, Status::Done);
-    Ok(written)
-}
-
 #[test]
 fn tells_the_history_of_one_job(rt: HostRuntime) -> Result<(), Fail> {
     let alloc = rt.alloc();
     let text = one_job(alloc, CASE, b"")?;
     let want = proved_history(alloc)?;
-    let written = told(&rt, &["gkr", "serve", "--history"], &text, &OpenGate)?;
+    let written = done(&rt, HISTORY, &text, &OpenGate)?;
     assert_eq!(rt; written.as_slice(), want.as_slice());
     let words = ["gkr", "serve", "--provers", "3", "--history"];
-    let written = told(&rt, &words, &text, &OpenGate)?;
+    let written = done(&rt, &words, &text, &OpenGate)?;
     assert_eq!(rt; written.as_slice(), want.as_slice());
-    Ok(())
+    let failing = Ends {
+        input: &text,
+        piece: 100,
+        failing_reads: &[],
+        failing_writes: &[3],
+    };
+    sees(&rt, HISTORY, &failing, Status::WriteFault, b"client 1\ng")
 }
 
 /// A marked job is proved or withdrawn, as the schedule has it.
@@ -77,7 +58,7 @@ fn tells_the_history_of_a_marked_job(rt: HostRuntime) -> Result<(), Fail> {
     let alloc = rt.alloc();
     let text = one_job(alloc, CASE, b"withdraw\n")?;
     let want = proved_history(alloc)?;
-    let written = told(&rt, &["gkr", "serve", "--history"], &text, &OpenGate)?;
+    let written = done(&rt, HISTORY, &text, &OpenGate)?;
     assert!(rt; written.as_slice() == want.as_slice() || written.as_slice() == WITHDRAWN);
     Ok(())
 }
@@ -88,42 +69,15 @@ fn tells_the_history_of_a_refused_job(rt: HostRuntime) -> Result<(), Fail> {
     let text = one_job(rt.alloc(), REFUSED, b"")?;
     let want: &[u8] =
         b"client 1\nrefused program unknown 7\njobs 1 proved 0 refused 1 withdrawn 0\nhistory 3\nsubmit 0 0\ntake 0\nfinish 0\n";
-    let written = told(&rt, &["gkr", "serve", "--history"], &text, &OpenGate)?;
+    let written = done(&rt, HISTORY, &text, &OpenGate)?;
     assert_eq!(rt; written.as_slice(), want);
     Ok(())
-}
-
-/// A script, the words, and what the program answers.
-#[derive(Clone, Copy)]
-struct ScriptRow {
-    text: &'static [u8],
-    words: &'static [&'static str],
-    status: Status,
-    reply: &'static [u8],
-}
-
-const fn bad(text: &'static [u8], reply: &'static [u8]) -> ScriptRow {
-    ScriptRow {
-        text,
-        words: &["gkr", "serve", "--history"],
-        status: Status::BadCase,
-        reply,
-    }
-}
-
-const fn unasked(words: &'static [&'static str]) -> ScriptRow {
-    ScriptRow {
-        text: b"done\n",
-        words,
-        status: Status::Usage,
-        reply: b"refused usage\n",
-    }
 }
 
 #[test]
 fn answers_small_scripts_with_a_history(rt: HostRuntime) -> Result<(), Fail> {
     let rows = [
-        ScriptRow {
+        Served {
             text: b"done\n",
             words: &["gkr", "serve", "--history", "--clients", "64"],
             status: Status::Done,
@@ -134,15 +88,13 @@ fn answers_small_scripts_with_a_history(rt: HostRuntime) -> Result<(), Fail> {
         unasked(&["gkr", "serve", "--history=true"]),
         unasked(&["gkr", "serve", "--history", "--provers", "0"]),
         unasked(&["gkr", "prove", "--history"]),
-        bad(b"", b"refused case end 0\n"),
-        bad(b"withdraw\n", b"refused case section 0\n"),
-        bad(b"client 1\nwithdraw\n", b"refused case header 9\n"),
-        bad(b"done\nwithdraw\n", b"refused case rest 5\n"),
+        bad(HISTORY, b"", b"refused case end 0\n"),
+        bad(HISTORY, b"withdraw\n", b"refused case section 0\n"),
+        bad(HISTORY, b"client 1\nwithdraw\n", b"refused case header 9\n"),
+        bad(HISTORY, b"done\nwithdraw\n", b"refused case rest 5\n"),
     ];
     for row in rows {
-        let (found, written) = ended_by(&rt, row.words, &Ends::steady(row.text), ROOM, &OpenGate)?;
-        assert_eq!(rt; found, row.status);
-        assert_eq!(rt; written.as_slice(), row.reply);
+        answers(&rt, row.words, row.text, &OpenGate, row.status, row.reply)?;
     }
     Ok(())
 }
@@ -157,26 +109,16 @@ fn refuses_a_mark_out_of_place(rt: HostRuntime) -> Result<(), Fail> {
             b"refused case section 64\n",
         ),
         (
-            &["gkr", "serve", "--history"],
+            HISTORY,
             b"withdraw\nwithdraw\n",
             b"refused case section 73\n",
         ),
-        (
-            &["gkr", "serve", "--history"],
-            b"withdrew\n",
-            b"refused case section 70\n",
-        ),
-        (
-            &["gkr", "serve", "--history"],
-            b"Withdraw\n",
-            b"refused case section 64\n",
-        ),
+        (HISTORY, b"withdrew\n", b"refused case section 70\n"),
+        (HISTORY, b"Withdraw\n", b"refused case section 64\n"),
     ];
     for (words, mark, want) in rows {
         let text = one_job(rt.alloc(), CASE, mark)?;
-        let (found, written) = ended_by(&rt, words, &Ends::steady(&text), ROOM, &OpenGate)?;
-        assert_eq!(rt; found, Status::BadCase);
-        assert_eq!(rt; written.as_slice(), want);
+        answers(&rt, words, &text, &OpenGate, Status::BadCase, want)?;
     }
     Ok(())
 }
@@ -186,15 +128,14 @@ fn refuses_each_front_of_a_marked_script(rt: HostRuntime) -> Result<(), Fail> {
     let text = one_job(rt.alloc(), CASE, b"withdraw\n")?;
     for length in 0..text.len() {
         let want = format!(in rt.alloc(); "refused case end {}\n", length)?;
-        let (found, written) = ended_by(
+        answers(
             &rt,
-            &["gkr", "serve", "--history"],
-            &Ends::steady(&text[..length]),
-            ROOM,
+            HISTORY,
+            &text[..length],
             &OpenGate,
+            Status::BadCase,
+            want.as_bytes(),
         )?;
-        assert_eq!(rt; found, Status::BadCase);
-        assert_eq!(rt; written.as_slice(), want.as_bytes());
     }
     Ok(())
 }
@@ -210,12 +151,12 @@ fn tells_of_two_beside_each_other(rt: HostRuntime) -> Result<(), Fail> {
     text.extend_from_slice(CASE)?;
     text.extend_from_slice(b"done\n")?;
     let mut want = Vec::new(alloc);
-    put_proved(&mut want, b"client 1\n")?;
-    put_proved(&mut want, b"client 2\n")?;
+    put_proved(&mut want, b"client 1\n", FIRST, b"proof 68\n", 64)?;
+    put_proved(&mut want, b"client 2\n", FIRST, b"proof 68\n", 64)?;
     want.extend_from_slice(b"jobs 2 proved 2 refused 0 withdrawn 0\nhistory 6\nsubmit 0 ")?;
     let gate = MeetingGate::new(0);
     let words = ["gkr", "serve", "--history", "--clients", "2"];
-    let written = told(&rt, &words, &text, &gate)?;
+    let written = done(&rt, &words, &text, &gate)?;
     assert!(rt; written.starts_with(&want));
     assert!(rt; gate.entries() >= 2);
     assert!(rt; !gate.is_raised());

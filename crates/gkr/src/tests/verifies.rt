@@ -3,6 +3,8 @@
 use super::*;
 use sha2::{Digest, Sha256};
 
+pub(crate) const VERIFY: &[&str] = &["gkr", "verify"];
+
 /// A case with outputs and a proof.
 #[derive(Clone, Copy)]
 pub(crate) struct Claim<'a> {
@@ -44,14 +46,16 @@ pub(crate) fn zeros(alloc: Global, count: usize) -> Result<Vec<u8>, AllocError> 
     with_zeros(alloc, b"GKR1", count)
 }
 
-fn verifies<R: Threads + Wait + Sync + Abort + AllocGlobal>(
+/// Runs a command on a claim, and sees how it ends and what it writes.
+pub(crate) fn sees_of<R: Threads + Wait + Sync + Abort + AllocGlobal>(
     rt: &R,
+    words: &[&str],
     claim: Claim,
     status: Status,
     reply: &[u8],
 ) -> Result<(), Fail> {
     let input = claim.text(rt.alloc())?;
-    sees(rt, &["gkr", "verify"], &Ends::steady(&input), status, reply)
+    sees(rt, words, &Ends::steady(&input), status, reply)
 }
 
 #[test]
@@ -65,29 +69,47 @@ fn verifies_proofs_of_zeros(rt: HostRuntime) -> Result<(), Fail> {
         outputs: b"1 0",
         proof: &proof_of_copy,
     };
-    verifies(&rt, copy, Status::Done, b"accepted\n")?;
+    sees_of(&rt, VERIFY, copy, Status::Done, b"accepted\n")?;
     let product = Claim {
         program: b"input a; input b; output a*b;",
         inputs: b"2 0 0",
         outputs: b"1 0",
         proof: &proof_of_product,
     };
-    verifies(&rt, product, Status::Done, b"accepted\n")?;
+    sees_of(&rt, VERIFY, product, Status::Done, b"accepted\n")?;
     let two = Claim {
         outputs: b"2 0 0",
         ..product
     };
-    verifies(&rt, two, Status::BadCount, b"refused count output 2 1\n")?;
+    sees_of(
+        &rt,
+        VERIFY,
+        two,
+        Status::BadCount,
+        b"refused count output 2 1\n",
+    )?;
     let one = Claim {
         inputs: b"1 0",
         ..two
     };
-    verifies(&rt, one, Status::BadCount, b"refused count input 1 2\n")?;
+    sees_of(
+        &rt,
+        VERIFY,
+        one,
+        Status::BadCount,
+        b"refused count input 1 2\n",
+    )?;
     let deep = Claim {
         program: b"input a; let s = a; for i in 0..300 { s = s+a; } output s;",
         ..one
     };
-    verifies(&rt, deep, Status::BadProgram, b"refused program deep 301\n")
+    sees_of(
+        &rt,
+        VERIFY,
+        deep,
+        Status::BadProgram,
+        b"refused program deep 301\n",
+    )
 }
 
 /// The sum of so many terms, added one after another.
@@ -112,12 +134,18 @@ fn verifies_up_to_the_greatest_height(rt: HostRuntime) -> Result<(), Fail> {
         outputs: b"1 0",
         proof: &proof,
     };
-    verifies(&rt, claim, Status::Done, b"accepted\n")?;
+    sees_of(&rt, VERIFY, claim, Status::Done, b"accepted\n")?;
     let deep = Claim {
         program: &too_deep,
         ..claim
     };
-    verifies(&rt, deep, Status::BadProgram, b"refused program deep 301\n")
+    sees_of(
+        &rt,
+        VERIFY,
+        deep,
+        Status::BadProgram,
+        b"refused program deep 301\n",
+    )
 }
 
 #[test]
@@ -132,15 +160,23 @@ fn refuses_bytes_that_are_no_proof(rt: HostRuntime) -> Result<(), Fail> {
     let short = zeros(alloc, 183)?;
     let long = zeros(alloc, 185)?;
     let out_of_range = with_zeros(alloc, b"GKR1\xff\xff\xff\x7f", 180)?;
-    let other = with_zeros(alloc, b"GKR2", 184)?;
+    let two = with_zeros(alloc, b"GKR2", 184)?;
+    let other = with_zeros(alloc, b"GKR3", 184)?;
     for (proof, reply) in [
         (short.as_slice(), &b"refused proof short 187 188\n"[..]),
         (long.as_slice(), &b"refused proof long 1\n"[..]),
         (&b""[..], &b"refused proof short 0 188\n"[..]),
         (out_of_range.as_slice(), &b"refused proof range 4\n"[..]),
+        (two.as_slice(), &b"refused proof long 48\n"[..]),
         (other.as_slice(), &b"refused proof magic 3\n"[..]),
     ] {
-        verifies(&rt, Claim { proof, ..product }, Status::BadProof, reply)?;
+        sees_of(
+            &rt,
+            VERIFY,
+            Claim { proof, ..product },
+            Status::BadProof,
+            reply,
+        )?;
     }
     Ok(())
 }
@@ -181,29 +217,41 @@ fn tells_the_form_by_the_fourth_byte(rt: HostRuntime) -> Result<(), Fail> {
         (small.as_slice(), bad, &b"refused proof magic 3\n"[..]),
         (&b"GKR"[..], bad, &b"refused proof short 3 188\n"[..]),
     ] {
-        verifies(&rt, Claim { proof, ..product }, status, reply)?;
+        sees_of(&rt, VERIFY, Claim { proof, ..product }, status, reply)?;
     }
     Ok(())
 }
 
+/// SHA-256 of these bytes and of those that follow.
+pub(crate) fn hashed(state: &[u8], bytes: &[u8]) -> [u8; 32] {
+    let mut hasher = Sha256::new();
+    hasher.update(state);
+    hasher.update(bytes);
+    hasher.finalize()
+}
+
+/// The challenge that a transcript has in this state.
+pub(crate) fn challenge(s: [u8; 32]) -> (u64, u64) {
+    let re = u64::from_le_bytes([s[0], s[1], s[2], s[3], s[4], s[5], s[6], s[7]]);
+    let im = u64::from_le_bytes([s[8], s[9], s[10], s[11], s[12], s[13], s[14], s[15]]);
+    (re % 2_147_483_647, im % 2_147_483_647)
+}
+
 /// The first challenge of the transcript of `input a; output a;` on 0 with the output 1, by SHA-256 alone.
 pub(crate) fn first_challenge() -> (u64, u64) {
-    let mut hasher = Sha256::new();
-    hasher.update(b"gkr-transcript-1\n".as_slice());
-    hasher.update(b"\x12\0\0\0input a; output a;".as_slice());
-    hasher.update(b"\x01\0\0\0\0\0\0\0\x01\0\0\0\x01\0\0\0".as_slice());
-    let state = hasher.finalize();
-    let mut hasher = Sha256::new();
-    hasher.update(state.as_slice());
-    hasher.update(b"\x02".as_slice());
-    let drawn = hasher.finalize();
-    let re = u64::from_le_bytes([
-        drawn[0], drawn[1], drawn[2], drawn[3], drawn[4], drawn[5], drawn[6], drawn[7],
-    ]);
-    let im = u64::from_le_bytes([
-        drawn[8], drawn[9], drawn[10], drawn[11], drawn[12], drawn[13], drawn[14], drawn[15],
-    ]);
-    (re % 2_147_483_647, im % 2_147_483_647)
+    let statement = b"\x12\0\0\0input a; output a;\x01\0\0\0\0\0\0\0\x01\0\0\0\x01\0\0\0";
+    let state = hashed(b"gkr-transcript-1\n", statement);
+    challenge(hashed(&state, b"\x02"))
+}
+
+/// The copy of an input to an output, which is 0, with these bytes as its proof.
+pub(crate) fn copy_of<'a>(inputs: &'static [u8], proof: &'a [u8]) -> Claim<'a> {
+    Claim {
+        program: b"input a; output a;",
+        inputs,
+        outputs: b"1 0",
+        proof,
+    }
 }
 
 #[test]
@@ -216,7 +264,13 @@ fn rejects_false_claims(rt: HostRuntime) -> Result<(), Fail> {
         outputs: b"1 0",
         proof: &one,
     };
-    verifies(&rt, five, Status::Rejected, b"rejected sum 0 1 2,0 0,0\n")?;
+    sees_of(
+        &rt,
+        VERIFY,
+        five,
+        Status::Rejected,
+        b"rejected sum 0 1 2,0 0,0\n",
+    )?;
     let (re, im) = first_challenge();
     let reply = format!(in alloc; "rejected sum 0 1 0,0 {},{}\n", re, im)?;
     let proof = zeros(alloc, 64)?;
@@ -226,7 +280,7 @@ fn rejects_false_claims(rt: HostRuntime) -> Result<(), Fail> {
         proof: &proof,
         ..five
     };
-    verifies(&rt, zero, Status::Rejected, reply.as_bytes())
+    sees_of(&rt, VERIFY, zero, Status::Rejected, reply.as_bytes())
 }
 
 /// A case with outputs and these digits of a proof of 68 bytes, for the copy of 0.
@@ -252,20 +306,14 @@ fn reads_digits_in_either_case(rt: HostRuntime) -> Result<(), Fail> {
             digits.extend_from_slice(b"00")?;
         }
         let text = copy_of_zero(alloc, &digits)?;
-        sees(&rt, &["gkr", "verify"], &Ends::steady(&text), status, reply)?;
+        sees(&rt, VERIFY, &Ends::steady(&text), status, reply)?;
         digits.push(b'0')?;
         let longer = copy_of_zero(alloc, &digits)?;
         let (status, reply) = match status {
             Status::Done => (Status::BadCase, &b"refused case hex 207\n"[..]),
             other => (other, reply),
         };
-        sees(
-            &rt,
-            &["gkr", "verify"],
-            &Ends::steady(&longer),
-            status,
-            reply,
-        )?;
+        sees(&rt, VERIFY, &Ends::steady(&longer), status, reply)?;
     }
     Ok(())
 }

@@ -1,5 +1,6 @@
 //! `prove` and `demo` by several workers: the same bytes by any number of them, and two that are at work beside each other.
 
+use super::converts::converts;
 use super::*;
 use test_gates::{CountingGate, MeetingGate};
 
@@ -19,7 +20,7 @@ fn sum_case(alloc: Global) -> Result<Vec<u8>, AllocError> {
 }
 
 /// Runs the program with these words and this gate, and sees that it does what it was asked for; answers what it wrote.
-fn done<R: Threads + Wait + Sync + Abort + AllocGlobal, G: Gate>(
+pub(crate) fn done<R: Threads + Wait + Sync + Abort + AllocGlobal, G: Gate>(
     rt: &R,
     words: &[&str],
     input: &[u8],
@@ -56,9 +57,13 @@ fn proves_the_same_by_any_number_of_workers(rt: HostRuntime) -> Result<(), Fail>
         let text = done(&rt, &words, &case, &OpenGate)?;
         assert!(rt; text.as_slice() == one.as_slice());
     }
-    let verdict = done(&rt, &["gkr", "verify"], &one, &OpenGate)?;
-    assert_eq!(rt; verdict.as_slice(), &b"accepted\n"[..]);
-    Ok(())
+    let words = ["gkr", "prove", "--workers", "2", "--proof", "2"];
+    let two = done(&rt, &words, &case, &OpenGate)?;
+    for case in [&one, &two] {
+        let verdict = done(&rt, &["gkr", "verify"], case, &OpenGate)?;
+        assert_eq!(rt; verdict.as_slice(), &b"accepted\n"[..]);
+    }
+    converts(&rt, &one, &two)
 }
 
 #[test]

@@ -1,18 +1,15 @@
-use Rattle.std.proofs.Common.{◌≡◌, ◌<◌, ◌≤◌, length, sym, subst, arith}
-use Rattle.circuit_core.specs.Sound.{exponents}
-use Rattle.proof_wire.specs.Spelling.{spelling, length_of}
+use Rattle.std.proofs.Common.{◌<◌, ◌≤◌, length, sym, subst, arith}
+use Rattle.proof_two.specs.Kinds.{kind_spelling}
 use Rattle.case_text.specs.Content.{Content}
 use Rattle.case_text.specs.Spelling.{lower_case_text}
 use Rattle.case_prove.proofs.ProvedOutputs.{sound, meaning_there}
-use Rattle.case_prove.proofs.ProvedSizes.{few_outputs, short_proof}
+use Rattle.case_prove.proofs.ProvedSizes.{few_outputs, kind_length}
 use Rattle.case_prove.proofs.ProvedText.{short}
 use Rattle.case_prove.proofs.laws.proved_is_short.Goals as goal
 
 pub returns : goal.returns
-returns c form case proved fit is =
+returns c kind case proved fit is =
     let there = meaning_there c.one_tree.ensures c.circuit_computes.ensures.inputs c.circuit_computes.ensures.computes case is.parts is.compiled is.outputs is.evaluated in
     let circuit = sound case.program is.parts is.compiled in
-    let size : length (spelling form is.messages) ≡ length_of form (exponents is.parts) = c.one_length.ensures form (exponents is.parts) is.messages is.of_shape in
     let few : length is.outputs ≤ 65535 = omega (arith, there.as_many, few_outputs circuit) in
-    let small : length (spelling form is.messages) ≤ 231428 = omega (arith, size, short_proof form circuit) in
-    subst (λ (p : Content). length (lower_case_text p) < 4194304) (sym is.proved_is) (short case.program case.inputs is.outputs (spelling form is.messages) fit.program fit.inputs few small)
+    subst (λ (p : Content). length (lower_case_text p) < 4194304) (sym is.proved_is) (short case.program case.inputs is.outputs (kind_spelling kind is.messages) fit.program fit.inputs few (kind_length kind circuit is.messages is.of_shape))

@@ -1,4 +1,5 @@
-use Rattle.proof_wire.specs.declared.form.ProofForm.TheVariants.{Line}
+use Rattle.proof_two.specs.declared.kind.ProofKind.TheVariants.{ByLines}
+use Rattle.proof_two.specs.declared.kind.ProofVersion.TheVariants.{One}
 use Rattle.gkr_cmd.proofs.CircuitAnswers.{IsOne}
 use Rattle.gkr_cmd.proofs.ProofRefusals.{IsOneProof}
 use Rattle.gkr_cmd.proofs.VerifyAnswers.{accepted_alone, accepted_or_memory}
@@ -7,13 +8,13 @@ use Rattle.gkr_cmd.proofs.demo.accept.Goals as goal
 pub unreachable-requires : goal.unreachable-requires
 unreachable-requires c =
     let one : IsOne = record { circuit = c.one_circuit.ensures; refusal = c.one_circuit_refusal.ensures; either = c.compiled_or_refused.ensures } in
-    let proofs : IsOneProof = record { form = c.one_form.ensures; reading = c.one_reading.ensures; trouble = c.one_trouble.ensures; none = c.no_trouble.ensures } in
-    let same = accepted_alone one proofs c.args.proved.now (c.proved_is_accepted.ensures Line c.args.case.now c.args.proved.now c.requires.proved) c.in-Ok.verdict c.in-Ok.ensures.verdict in
+    let proofs : IsOneProof = record { form = c.one_saying.ensures.form; reading = c.one_saying.ensures.reading; trouble = c.one_saying.ensures.trouble; none = c.one_saying.ensures.none } in
+    let same = accepted_alone one proofs c.args.proved.now (c.proved_is_accepted.ensures (ByLines One) c.args.case.now c.args.proved.now c.requires.proved) c.in-Ok.verdict c.in-Ok.ensures.verdict in
     c.in_default.not-Accepted same
 
 pub unreachable-requires-in_default-refused : goal.unreachable-requires-in_default-refused
 unreachable-requires-in_default-refused c =
     let one : IsOne = record { circuit = c.one_circuit.ensures; refusal = c.one_circuit_refusal.ensures; either = c.compiled_or_refused.ensures } in
-    let proofs : IsOneProof = record { form = c.one_form.ensures; reading = c.one_reading.ensures; trouble = c.one_trouble.ensures; none = c.no_trouble.ensures } in
-    let same = accepted_or_memory one proofs c.args.proved.now (c.proved_is_accepted.ensures Line c.args.case.now c.args.proved.now c.requires.proved) c.in-Err.refused c.in-Err.ensures.refused in
+    let proofs : IsOneProof = record { form = c.one_saying.ensures.form; reading = c.one_saying.ensures.reading; trouble = c.one_saying.ensures.trouble; none = c.one_saying.ensures.none } in
+    let same = accepted_or_memory one proofs c.args.proved.now (c.proved_is_accepted.ensures (ByLines One) c.args.case.now c.args.proved.now c.requires.proved) c.in-Err.refused c.in-Err.ensures.refused in
     c.in_default-refused.not-Memory same

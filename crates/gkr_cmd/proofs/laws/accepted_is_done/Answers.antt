@@ -10,4 +10,4 @@ pub returns : goal.returns
 returns c =
     done Full IsVerifyAnswer HasAcceptedProof
     (λ content reply has. verify_done (record { circuit = c.one_circuit.ensures; refusal = c.one_circuit_refusal.ensures; either = c.compiled_or_refused.ensures })
-    (record { form = c.one_form.ensures; reading = c.one_reading.ensures; trouble = c.one_trouble.ensures; none = c.no_trouble.ensures }) content reply (verdict_on content has))
+    (record { form = c.one_saying.ensures.form; reading = c.one_saying.ensures.reading; trouble = c.one_saying.ensures.trouble; none = c.one_saying.ensures.none }) content reply (verdict_on content has))

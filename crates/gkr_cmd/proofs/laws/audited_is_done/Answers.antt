@@ -9,4 +9,4 @@ pub returns : goal.returns
 returns c =
     done Full IsAuditAnswer HasLineProof
     (λ content reply has. audit_done (record { circuit = c.one_circuit.ensures; refusal = c.one_circuit_refusal.ensures; either = c.compiled_or_refused.ensures })
-    (record { form = c.one_form.ensures; reading = c.one_reading.ensures; trouble = c.one_trouble.ensures; none = c.no_trouble.ensures }) content reply has)
+    (record { form = c.one_saying.ensures.form; reading = c.one_saying.ensures.reading; trouble = c.one_saying.ensures.trouble; none = c.one_saying.ensures.none }) content reply has)

@@ -1,0 +1,5 @@
+use Rattle.case_prove.proofs.ConvertedTexts.{converted_few}
+use Rattle.case_prove.proofs.laws.converted_is_short.Goals as goal
+
+pub returns : goal.returns
+returns c version case written fit is = converted_few version case written fit is
