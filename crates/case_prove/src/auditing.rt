@@ -3,11 +3,11 @@
 ghost use Rattle.std.specs.Prelude.{IsSome, IfOk, IfErr};
 ghost use Rattle.proof_wire.specs.declared.form.ProofForm.TheVariants.{Line};
 ghost use Rattle.case_prove.specs.Audited.{IsAudited, RefusesAudit};
+ghost use Rattle.case_prove.specs.Started.{IsOwnStart};
 ghost use Rattle.case_prove.specs.Verified.{IsReadAs};
 
 use crate::read_proof::read_proof;
 use crate::refused::Refused;
-use crate::started::transcript_of;
 use audit_core::{Audit, audit};
 use case_text::Case;
 use circuit_core::Circuit;
@@ -16,7 +16,7 @@ use proof_wire::{Messages, ProofForm};
 use std::alloc::{AllocError, Global};
 use std::marker::Sync;
 use std::thread::Threads;
-use transcript_fs::Statement;
+use transcript_fs::Transcript;
 use transcript_fs::laws::always_has;
 
 /// What an audit finds in the case's proof that its program gives its outputs on its inputs, with the challenges of the
@@ -32,21 +32,23 @@ pub fn audit_case<R: Threads + Sync>(rt: &R, alloc: Global, case: &Case) -> Resu
         Ok(read) => read,
         Err(refused) => return Err(refused),
     };
-    match audit_claim(rt, alloc, case, &read.circuit, &read.messages) {
+    match audit_claim(rt, alloc, case, &read.circuit, &read.messages, read.start) {
         Ok(audit) => Ok(audit),
         Err(_) => Err(Refused::Memory),
     }
 }
 
-/// The audit of the proof of a case that was read as these messages for this circuit.
+/// The audit of the proof of a case that was read as these messages for this circuit, with challenges that start so.
 fn audit_claim<R: Threads + Sync>(
     rt: &R,
     alloc: Global,
     case: &Case,
     circuit: &Circuit,
     messages: &Messages,
+    start: Transcript,
 ) -> Result<Audit, AllocError>
-    requires { IsReadAs Line case.now circuit.now.parts messages.now }
+    requires read { IsReadAs Line case.now circuit.now.parts messages.now }
+    requires start { IsOwnStart Line case.now start }
     ensures { IfOk result (λ audit. IsAudited case.now audit) }
 {
     let Some(outputs) = case.outputs() else {
@@ -54,8 +56,7 @@ fn audit_claim<R: Threads + Sync>(
     };
     let values = layer_values(rt, alloc, circuit, case.inputs())?;
     always_has();
-    let statement = Statement::of(case.program(), case.inputs(), outputs);
-    let mut challenges = transcript_of(ProofForm::Line, &statement);
+    let mut challenges = start;
     audit(
         rt,
         alloc,

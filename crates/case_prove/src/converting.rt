@@ -1,17 +1,21 @@
 //! The proof of a case in another version.
 
-ghost use Rattle.std.specs.Prelude.{◌≡◌, IsSome, IfOk, IfErr, MatchOption};
+ghost use Rattle.std.specs.Prelude.{◌≡◌, length, drop, IsSome, IfOk, IfErr, MatchOption};
+ghost use Rattle.circuit_core.specs.Sound.{exponents};
+ghost use Rattle.proof_wire.specs.Lists.{HaveShape};
+ghost use Rattle.transcript_fs.specs.Transcript.{transcript};
 ghost use Rattle.proof_wire.specs.declared.form.ProofForm.TheVariants.{Line};
 ghost use Rattle.proof_two.specs.declared.kind.ProofVersion.TheVariants.{Two};
 ghost use Rattle.gkr_layers.specs.declared.verdict.Verdict.TheVariants.{Accepted};
 ghost use Rattle.gkr_layers.specs.Equations.{first_failure};
 ghost use Rattle.gkr_verify.specs.Rounds.{layer_failure};
+ghost use Rattle.gkr_verify.specs.ShortProof.{sums_of};
+ghost use Rattle.case_prove.specs.Started.{IsOwnStart};
 ghost use Rattle.case_prove.specs.Converted.{IsConvertedTo, RefusesConvert, own_sums};
 ghost use Rattle.case_prove.specs.Verified.{HasProof, IsReadAs};
 
 use crate::read_proof::read_proof;
 use crate::refused::Refused;
-use crate::started::transcript_of;
 use case_text::Case;
 use circuit_core::Circuit;
 use field_ext::Fp;
@@ -19,7 +23,7 @@ use gkr_verify::{LayerSum, first_sum};
 use proof_two::{ProofKind, ProofVersion, encode_kind};
 use proof_wire::{Messages, ProofForm};
 use std::alloc::{AllocError, Global};
-use transcript_fs::Statement;
+use transcript_fs::Transcript;
 use transcript_fs::laws::always_has;
 
 /// What becomes of a case whose proof is to be written in a version.
@@ -44,21 +48,30 @@ pub fn convert_case(alloc: Global, case: &Case, version: ProofVersion) -> Result
         Ok(read) => read,
         Err(refused) => return Err(refused),
     };
-    match convert_claim(alloc, case, version, &read.circuit, &read.messages) {
+    match convert_claim(
+        alloc,
+        case,
+        version,
+        &read.circuit,
+        &read.messages,
+        read.start,
+    ) {
         Ok(converted) => Ok(converted),
         Err(_) => Err(Refused::Memory),
     }
 }
 
-/// What becomes of a case whose proof was read as these messages for this circuit.
+/// What becomes of a case whose proof was read as these messages for this circuit, with challenges that start so.
 fn convert_claim(
     alloc: Global,
     case: &Case,
     version: ProofVersion,
     circuit: &Circuit,
     messages: &Messages,
+    start: Transcript,
 ) -> Result<Converted, AllocError>
-    requires { IsReadAs Line case.now circuit.now.parts messages.now }
+    requires read { IsReadAs Line case.now circuit.now.parts messages.now }
+    requires start { IsOwnStart Line case.now start }
     ensures { IfOk result (λ converted. IsConvertedTo version case.now converted) }
 {
     let Some(outputs) = case.outputs() else {
@@ -66,30 +79,30 @@ fn convert_claim(
     };
     match version {
         ProofVersion::One => write_converted(alloc, case, version, circuit, outputs, messages),
-        ProofVersion::Two => match own_first_sum(alloc, case, circuit, outputs, messages)? {
+        ProofVersion::Two => match own_first_sum(alloc, circuit, outputs, messages, start)? {
             Some(fault) => Ok(Converted::Sum(fault)),
             None => write_converted(alloc, case, version, circuit, outputs, messages),
         },
     }
 }
 
-/// The first round of the messages that does not add to its claim, with the challenges of the case's own transcript.
+/// The first round of the messages that does not add to its claim, with challenges that start so.
 fn own_first_sum(
     alloc: Global,
-    case: &Case,
     circuit: &Circuit,
     outputs: &[Fp],
     messages: &Messages,
+    start: Transcript,
 ) -> Result<Option<LayerSum>, AllocError>
-    requires { HasProof Line case.now circuit.now.parts outputs.now messages.now }
+    requires outputs { length outputs.now ≡ circuit.now.parts.outputs }
+    requires shape { HaveShape Line (drop 1 (exponents circuit.now.parts)) messages.now.layers }
     ensures { IfOk result (λ found.
-        let sums = own_sums case.now circuit.now.parts outputs.now messages.now in
+        let sums = sums_of circuit.now.parts outputs.now transcript start messages.now in
         MatchOption found (first_failure sums ≡ Accepted)
         (λ fault. first_failure sums ≡ layer_failure fault)) }
 {
     always_has();
-    let statement = Statement::of(case.program(), case.inputs(), outputs);
-    let mut challenges = transcript_of(ProofForm::Line, &statement);
+    let mut challenges = start;
     first_sum(alloc, circuit, outputs, messages, &mut challenges)
 }
 

@@ -28,7 +28,6 @@ use proof_wire::{Messages, ProofForm};
 use std::alloc::{AllocError, Global};
 use std::marker::Sync;
 use std::thread::Threads;
-use transcript_fs::Statement;
 use transcript_fs::laws::always_has;
 
 /// The case with its program's meaning on its inputs as outputs, and with the one honest proof of this kind of them. It is
@@ -127,8 +126,7 @@ fn honest_messages<R: Threads + Sync, G: Gate>(
         (λ messages. HaveShape form (drop 1 (exponents circuit.now.parts)) messages.layers) }
 {
     always_has();
-    let statement = Statement::of(case.program(), case.inputs(), outputs);
-    let mut challenges = transcript_of(form, &statement);
+    let mut challenges = transcript_of(case, form, outputs);
     prove_as(
         rt,
         alloc,

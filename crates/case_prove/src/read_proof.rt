@@ -8,7 +8,7 @@ ghost use Rattle.proof_wire.specs.declared.form.ProofForm.TheVariants.{Line};
 ghost use Rattle.proof_two.specs.Lists.{HavePairs};
 ghost use Rattle.transcript_fs.specs.Transcript.{transcript};
 ghost use Rattle.gkr_verify.specs.ShortProof.{filled};
-ghost use Rattle.case_prove.specs.Started.{start_of};
+ghost use Rattle.case_prove.specs.Started.{IsOwnStart, start_of};
 ghost use Rattle.case_prove.specs.Verified.{HasProof, IsClaim, IsReadAs, RefusesProof};
 
 use crate::refused::{Refused, program_refused};
@@ -21,14 +21,15 @@ use gkr_verify::fill;
 use proof_two::{AnyProof, Pairs, decode_any};
 use proof_wire::{Messages, ProofForm, ProofRefused, decode_as};
 use std::alloc::{AllocError, Global};
-use transcript_fs::Statement;
+use transcript_fs::Transcript;
 use transcript_fs::laws::always_has;
 
-/// The circuit of a case's program, and the messages that the case's proof says.
+/// The circuit of a case's program, the messages that the case's proof says, and the start of its challenges.
 #[derive(Drop)]
 pub(crate) struct ReadProof {
     pub(crate) circuit: Circuit,
     pub(crate) messages: Messages,
+    pub(crate) start: Transcript,
 }
 
 /// Reads the case's proof as one of this form, for the circuit of the case's program: by lines in the version that the
@@ -40,6 +41,7 @@ pub(crate) fn read_proof(alloc: Global, case: &Case, form: ProofForm) -> Result<
     requires proof { IsSome case.now.proof }
     ensures read { IfOk result
         (λ read. IsReadAs form case.now read.circuit.parts read.messages) }
+    ensures start { IfOk result (λ read. IsOwnStart form case.now read.start) }
     ensures refused { IfErr result (λ refused. RefusesProof form case.now refused) }
 {
     let compiled = match compile(alloc, case.program()) {
@@ -51,13 +53,7 @@ pub(crate) fn read_proof(alloc: Global, case: &Case, form: ProofForm) -> Result<
     if have != need {
         return Err(Refused::Input { have, need });
     }
-    match read_messages(alloc, case, form, &compiled.circuit) {
-        Ok(messages) => Ok(ReadProof {
-            circuit: compiled.circuit,
-            messages,
-        }),
-        Err(refused) => Err(refused),
-    }
+    read_messages(alloc, case, form, compiled.circuit)
 }
 
 /// Reads the proof of a case whose program is laid out as this circuit.
@@ -65,13 +61,15 @@ fn read_messages(
     alloc: Global,
     case: &Case,
     form: ProofForm,
-    circuit: &Circuit,
-) -> Result<Messages, Refused>
-    requires compiled { IsCompiled case.now.program circuit.now.parts }
-    requires counted { length case.now.inputs ≡ circuit.now.parts.inputs }
+    circuit: Circuit,
+) -> Result<ReadProof, Refused>
+    requires compiled { IsCompiled case.now.program circuit.parts }
+    requires counted { length case.now.inputs ≡ circuit.parts.inputs }
     requires outputs { IsSome case.now.outputs }
     requires proof { IsSome case.now.proof }
-    ensures read { IfOk result (λ messages. IsReadAs form case.now circuit.now.parts messages) }
+    ensures read { IfOk result
+        (λ read. IsReadAs form case.now read.circuit.parts read.messages) }
+    ensures start { IfOk result (λ read. IsOwnStart form case.now read.start) }
     ensures refused { IfErr result (λ refused. RefusesProof form case.now refused) }
 {
     let Some(outputs) = case.outputs() else {
@@ -82,10 +80,16 @@ fn read_messages(
     if had != need {
         return Err(Refused::Output { have: had, need });
     }
-    match form {
-        ProofForm::Line => read_lines(alloc, case, circuit, outputs),
-        ProofForm::Pair => read_pairs(alloc, case, circuit, outputs),
-    }
+    let start = transcript_of(case, form, outputs);
+    let messages = match form {
+        ProofForm::Line => read_lines(alloc, case, &circuit, outputs, start)?,
+        ProofForm::Pair => read_pairs(alloc, case, &circuit, outputs)?,
+    };
+    Ok(ReadProof {
+        circuit,
+        messages,
+        start,
+    })
 }
 
 /// Reads the proof of a case of as many outputs as one by pairs.
@@ -112,13 +116,15 @@ fn read_pairs(
     }
 }
 
-/// Reads the proof of a case of as many outputs as one by lines.
+/// Reads the proof of a case of as many outputs as one by lines, whose challenges start so.
 fn read_lines(
     alloc: Global,
     case: &Case,
     circuit: &Circuit,
     outputs: &[Fp],
+    start: Transcript,
 ) -> Result<Messages, Refused>
+    requires start { start ≡ start_of Line case.now.program case.now.inputs outputs.now }
     requires claim { IsClaim case.now circuit.now.parts outputs.now }
     requires as_many { length outputs.now ≡ circuit.now.parts.outputs }
     requires proof { IsSome case.now.proof }
@@ -131,7 +137,7 @@ fn read_lines(
     };
     match decode_any(alloc, proof, circuit.shape()) {
         Ok(AnyProof::One(messages)) => Ok(messages),
-        Ok(AnyProof::Two(pairs)) => match fill_in(alloc, case, circuit, outputs, &pairs) {
+        Ok(AnyProof::Two(pairs)) => match fill_in(alloc, circuit, outputs, &pairs, start) {
             Ok(messages) => Ok(messages),
             Err(_) => Err(Refused::Memory),
         },
@@ -140,24 +146,22 @@ fn read_lines(
     }
 }
 
-/// The messages of a proof of version 2, filled in with the challenges of the case's own transcript.
+/// The messages of a proof of version 2, filled in with the challenges that start so.
 fn fill_in(
     alloc: Global,
-    case: &Case,
     circuit: &Circuit,
     outputs: &[Fp],
     pairs: &Pairs,
+    start: Transcript,
 ) -> Result<Messages, AllocError>
-    requires claim { IsClaim case.now circuit.now.parts outputs.now }
-    requires as_many { length outputs.now ≡ circuit.now.parts.outputs }
+    requires outputs { length outputs.now ≡ circuit.now.parts.outputs }
     requires shape { HavePairs (drop 1 (exponents circuit.now.parts)) pairs.now.layers }
-    ensures filled { IfOk result (λ messages. messages ≡ filled circuit.now.parts outputs.now
-        transcript (start_of Line case.now.program case.now.inputs outputs.now) pairs.now) }
+    ensures filled { IfOk result
+        (λ messages. messages ≡ filled circuit.now.parts outputs.now transcript start pairs.now) }
     ensures shape { IfOk result
         (λ messages. HaveShape Line (drop 1 (exponents circuit.now.parts)) messages.layers) }
 {
     always_has();
-    let statement = Statement::of(case.program(), case.inputs(), outputs);
-    let mut challenges = transcript_of(ProofForm::Line, &statement);
+    let mut challenges = start;
     fill(alloc, circuit, outputs, pairs, &mut challenges)
 }

@@ -1,17 +1,17 @@
 //! The verdict on the proof of a case.
 
 ghost use Rattle.std.specs.Prelude.{◌≡◌, IsSome, IfOk, IfErr};
+ghost use Rattle.case_prove.specs.Started.{IsOwnStart};
 ghost use Rattle.case_prove.specs.Verified.{IsReadAs, IsVerdictOn, RefusesVerify, proof_form};
 
 use crate::read_proof::read_proof;
 use crate::refused::Refused;
-use crate::started::transcript_of;
 use case_text::Case;
 use circuit_core::Circuit;
 use gkr_verify::{Verdict, check_as};
 use proof_wire::{Messages, ProofForm};
 use std::alloc::{AllocError, Global};
-use transcript_fs::Statement;
+use transcript_fs::Transcript;
 use transcript_fs::laws::always_has;
 
 /// The verdict on the case's proof that its program gives its outputs on its inputs, with the challenges of the
@@ -30,7 +30,7 @@ pub fn verify_case(alloc: Global, case: &Case) -> Result<Verdict, Refused>
         Ok(read) => read,
         Err(refused) => return Err(refused),
     };
-    match check_claim(alloc, case, form, &read.circuit, &read.messages) {
+    match check_claim(alloc, case, form, &read.circuit, &read.messages, read.start) {
         Ok(verdict) => Ok(verdict),
         Err(_) => Err(Refused::Memory),
     }
@@ -47,23 +47,24 @@ fn proof_form(case: &Case) -> ProofForm
     ProofForm::of(proof)
 }
 
-/// The verdict on the proof of a case that was read as these messages for this circuit.
+/// The verdict on the proof of a case that was read as these messages for this circuit, with challenges that start so.
 fn check_claim(
     alloc: Global,
     case: &Case,
     form: ProofForm,
     circuit: &Circuit,
     messages: &Messages,
+    start: Transcript,
 ) -> Result<Verdict, AllocError>
-    requires { IsReadAs form case.now circuit.now.parts messages.now }
+    requires read { IsReadAs form case.now circuit.now.parts messages.now }
+    requires start { IsOwnStart form case.now start }
     ensures { IfOk result (λ verdict. IsVerdictOn case.now verdict) }
 {
     let Some(outputs) = case.outputs() else {
         unreachable!()
     };
     always_has();
-    let statement = Statement::of(case.program(), case.inputs(), outputs);
-    let mut challenges = transcript_of(form, &statement);
+    let mut challenges = start;
     check_as(
         alloc,
         form,

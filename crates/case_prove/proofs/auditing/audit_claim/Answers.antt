@@ -1,5 +1,5 @@
 -- The audit is the one with the challenges of the case's own transcript.
-use Rattle.std.proofs.Common.{◌≡◌, ◌∙◌, List, ℕ, sym, subst}
+use Rattle.std.proofs.Common.{List, ℕ, sym, subst}
 use Rattle.std.proofs.lemmas.Result.{IfOk-weaker}
 use Rattle.field_ext.specs.Field.{F}
 use Rattle.circuit_core.specs.Parts.{Parts}
@@ -11,9 +11,7 @@ use Rattle.proof_wire.specs.declared.form.ProofForm.TheVariants.{Line}
 use Rattle.proof_wire.specs.Lists.{all_messages}
 use Rattle.audit_core.specs.Audit.{IsAuditOf}
 use Rattle.case_text.specs.Content.{Content}
-use Rattle.case_prove.specs.Started.{start_of}
 use Rattle.case_prove.proofs.ReadProofs.{with_outputs}
-use Rattle.case_prove.proofs.Statements.{same_start}
 use Rattle.case_prove.proofs.auditing.audit_claim.Goals as goal
 
 pub returns : goal.returns
@@ -22,15 +20,14 @@ returns g c =
     let parts : Parts = c.args.circuit.now.parts in
     let messages = c.args.messages.now in
     let outputs : List F = c.in-Some.outputs.now in
-    let start : c.transcript_of-challenges.result ≡ start_of Line c.args.case.now.program c.args.case.now.inputs c.in-Some.outputs.now =
-    same_start Line _ case.program _ case.inputs _ outputs _ (c.of-statement.ensures.text ∙ c.program.ensures.program) (c.of-statement.ensures.inputs ∙ c.inputs-2.ensures.inputs) c.of-statement.ensures.outputs c.transcript_of-challenges.ensures in
+    let start = c.requires.start c.in-Some.outputs.now (sym c.in-Some.ensures) in
     let tables : AreTables c.args.circuit.now.parts c.args.case.now.inputs c.in_ok-values.values = subst (λ (xs : List F). AreTables c.args.circuit.now.parts xs c.in_ok-values.values) c.inputs.ensures.inputs c.in_ok-values.ensures in
     IfOk-weaker c.audit.result _ _
     (λ audit audited. record {
       parts = parts;
       outputs = outputs;
       messages = messages;
-      proof = with_outputs Line case parts messages outputs c.requires (sym c.in-Some.ensures);
+      proof = with_outputs Line case parts messages outputs c.requires.read (sym c.in-Some.ensures);
       audit_is =
           subst (λ (s : List ℕ). IsAuditOf Line parts case.inputs outputs (all_messages messages.layers) (all_draws transcript s (exponent_at parts 0) (all_messages messages.layers)) audit) start
           (audited case.inputs tables);

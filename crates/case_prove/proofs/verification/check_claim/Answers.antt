@@ -1,12 +1,12 @@
 -- The verdict is the one with the challenges of the case's own transcript.
-use Rattle.std.proofs.Common.{◌∙◌, List, sym}
+use Rattle.std.proofs.Common.{List, sym}
 use Rattle.std.proofs.lemmas.Result.{IfOk-weaker}
 use Rattle.field_ext.specs.Field.{F}
 use Rattle.circuit_core.specs.Parts.{Parts}
 use Rattle.case_text.specs.Content.{Content}
 use Rattle.case_prove.specs.Verified.{HasProof}
 use Rattle.case_prove.proofs.ReadProofs.{with_outputs}
-use Rattle.case_prove.proofs.Statements.{of_statement}
+use Rattle.case_prove.proofs.Statements.{of_start}
 use Rattle.case_prove.proofs.verification.check_claim.Goals as goal
 
 pub returns : goal.returns
@@ -15,7 +15,7 @@ returns c =
     let parts : Parts = c.args.circuit.now.parts in
     let messages = c.args.messages.now in
     let outputs : List F = c.in-Some.outputs.now in
-    let has : HasProof c.args.form c.args.case.now c.args.circuit.now.parts c.in-Some.outputs.now c.args.messages.now = with_outputs c.args.form case parts messages outputs c.requires (sym c.in-Some.ensures) in
+    let has : HasProof c.args.form c.args.case.now c.args.circuit.now.parts c.in-Some.outputs.now c.args.messages.now = with_outputs c.args.form case parts messages outputs c.requires.read (sym c.in-Some.ensures) in
     IfOk-weaker c.check_as.result _ _
     (λ verdict is. record {
       parts = parts;
@@ -27,7 +27,6 @@ returns c =
       of_shape = has.of_shape;
       spelled = has.spelled;
       verdict_is =
-          of_statement c.args.form case parts outputs messages verdict _ _ _ _ _ c.inputs-2.ensures.inputs (c.of-statement.ensures.text ∙ c.program.ensures.program) (c.of-statement.ensures.inputs ∙ c.inputs.ensures.inputs)
-          c.of-statement.ensures.outputs c.transcript_of-challenges.ensures is;
+          of_start c.args.form case parts outputs messages verdict _ _ c.inputs.ensures.inputs (c.requires.start outputs (sym c.in-Some.ensures)) is;
     })
     c.check_as.ensures.verdict
