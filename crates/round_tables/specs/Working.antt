@@ -13,8 +13,8 @@ use Rattle.round_tables.specs.Phase.{IsLayer, IsPhase}
 
 -- where the claim on the layer stands
 abbrev pub place_of : LayerGates → Place K
-place_of layer = if layer.both then AtBoth layer.first.now layer.second.now layer.weight
-    else At layer.first.now
+place_of layer = if layer.both then AtBoth layer.first.items layer.second.items layer.weight
+    else At layer.first.items
 
 -- the layer is one, and the weights of its positions are kept with it
 pub record IsLayerGates (layer : LayerGates) : Type 0 where

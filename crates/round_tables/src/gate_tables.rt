@@ -52,14 +52,14 @@ impl<'a> Model for GateTables<'a> {
 }
 
 impl<'a> GateTables<'a> {
-    /// The sumcheck of a layer of a circuit over values of its layers, at a point of the layer, with no challenge bound. Err
-    /// only where no memory is found; no later call takes any.
+    /// The sumcheck of a layer of a circuit over values of its layers, at a point of the layer, of which a copy is kept, with no
+    /// challenge bound. Err only where no memory is found; no later call takes any.
     pub fn start(
         alloc: Global,
         circuit: &'a Circuit,
         layer: u32,
         values: &'a Values,
-        point: &'a [Ext],
+        point: &[Ext],
     ) -> Result<GateTables<'a>, AllocError>
         requires layer { layer < height circuit.now.parts }
         requires values { FitLayers circuit.now.parts values.now }
@@ -79,7 +79,7 @@ impl<'a> GateTables<'a> {
         room: Room,
         gates: &'a [CircuitGate],
         values: &'a Table,
-        point: &'a [Ext],
+        point: &[Ext],
     ) -> Result<GateTables<'a>, TooLittleRoom>
         requires least { 1 ≤ values.now.k }
         requires most { values.now.k ≤ 16 }
@@ -92,10 +92,12 @@ impl<'a> GateTables<'a> {
         ensures bound { IfOk result (λ sum. sum.bound ≡ []) }
     {
         let Room {
+            first,
+            second,
             point_equality,
             working,
-        } = room.fitted(gates.len(), values.k() as usize)?;
-        let layer = LayerGates::new(point_equality, gates, values, point);
+        } = room.fitted(gates.len(), values.k() as usize, point, point)?;
+        let layer = LayerGates::new(point_equality, gates, values, first, second);
         let working = working.begin(&layer);
         Ok(GateTables { layer, working })
     }
@@ -107,8 +109,8 @@ impl<'a> GateTables<'a> {
         circuit: &'a Circuit,
         layer: u32,
         values: &'a Values,
-        first: &'a [Ext],
-        second: &'a [Ext],
+        first: &[Ext],
+        second: &[Ext],
         weight: Ext,
     ) -> Result<GateTables<'a>, AllocError>
         requires layer { layer < height circuit.now.parts }
@@ -130,8 +132,8 @@ impl<'a> GateTables<'a> {
         room: Room,
         gates: &'a [CircuitGate],
         values: &'a Table,
-        first: &'a [Ext],
-        second: &'a [Ext],
+        first: &[Ext],
+        second: &[Ext],
         weight: Ext,
     ) -> Result<GateTables<'a>, TooLittleRoom>
         requires least { 1 ≤ values.now.k }
@@ -147,9 +149,11 @@ impl<'a> GateTables<'a> {
         ensures bound { IfOk result (λ sum. sum.bound ≡ []) }
     {
         let Room {
+            first,
+            second,
             point_equality,
             working,
-        } = room.fitted(gates.len(), values.k() as usize)?;
+        } = room.fitted(gates.len(), values.k() as usize, first, second)?;
         let layer = LayerGates::new_two(point_equality, gates, values, first, second, weight);
         let working = working.begin(&layer);
         Ok(GateTables { layer, working })
@@ -161,7 +165,7 @@ impl<'a> GateTables<'a> {
         room: Room,
         gates: &'a [CircuitGate],
         values: &'a Table,
-        place: &Standing<'a>,
+        place: &Standing<'_>,
     ) -> Result<GateTables<'a>, TooLittleRoom>
         requires layer { IsLayer K values.now.k gates.now values.now.items (standing.place_of place.now) }
         requires few { length gates.now ≤ 65536 }
@@ -182,8 +186,15 @@ impl<'a> GateTables<'a> {
     /// The room, for another layer.
     pub fn into_room(self) -> Room {
         let GateTables { layer, working } = self;
-        let LayerGates { point_equality, .. } = layer;
+        let LayerGates {
+            first,
+            second,
+            point_equality,
+            ..
+        } = layer;
         Room {
+            first,
+            second,
             point_equality,
             working,
         }

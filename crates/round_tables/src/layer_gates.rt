@@ -1,4 +1,4 @@
-// The gates of a layer, lent for the time of its sumcheck.
+// The gates of a layer, lent for the time of its sumcheck, and where its claim stands.
 
 ghost use Rattle.std.specs.Prelude.{◌≡◌, ◌≤◌, ◌<◌, ◌^◌, ℕ, IsTrue, length, slice_index_or, vec_len};
 ghost use Rattle.field_ext.specs.Field.{K, k_ops};
@@ -18,8 +18,8 @@ pub(crate) struct LayerGates<'a> {
     pub(crate) k: usize,
     pub(crate) gates: &'a [CircuitGate],
     pub(crate) values: &'a Table,
-    pub(crate) first: &'a [Ext],
-    pub(crate) second: &'a [Ext],
+    pub(crate) first: Vec<Ext>,
+    pub(crate) second: Vec<Ext>,
     pub(crate) weight: Ext,
     pub(crate) both: bool,
     pub(crate) point_equality: Vec<Ext>,
@@ -36,28 +36,30 @@ pub(crate) fn power(k: usize) -> usize
 }
 
 impl<'a> LayerGates<'a> {
-    /// Keeps the layer with the weights of its positions, which are written to room of its size, for a claim at a point.
+    /// Keeps the layer with the weights of its positions, which are written to room of its size, for a claim at the first
+    /// point.
     pub(crate) fn new(
         mut point_equality: Vec<Ext>,
         gates: &'a [CircuitGate],
         values: &'a Table,
-        point: &'a [Ext],
+        first: Vec<Ext>,
+        second: Vec<Ext>,
     ) -> LayerGates<'a>
-        requires layer { IsLayer K values.now.k gates.now values.now.items (At point.now) }
+        requires layer { IsLayer K values.now.k gates.now values.now.items (At first.items) }
         requires room { vec_len point_equality ≡ length gates.now }
         ensures holds { IsLayerGates result }
         ensures k { result.k ≡ values.now.k }
         ensures gates { result.gates.now ≡ gates.now }
         ensures values { result.values.now ≡ values.now }
-        ensures place { place_of result ≡ At point.now }
+        ensures place { place_of result ≡ At first.items }
     {
-        fill_equality(&mut point_equality, point);
+        fill_equality(&mut point_equality, &first);
         LayerGates {
             k: values.k() as usize,
             gates,
             values,
-            first: point,
-            second: point,
+            first,
+            second,
             weight: Ext::zero(),
             both: false,
             point_equality,
@@ -65,26 +67,26 @@ impl<'a> LayerGates<'a> {
         }
     }
 
-    /// The same for a claim at two points, the second of at most 16 coordinates.
+    /// The same for a claim at both points, the second of at most 16 coordinates.
     pub(crate) fn new_two(
         mut point_equality: Vec<Ext>,
         gates: &'a [CircuitGate],
         values: &'a Table,
-        first: &'a [Ext],
-        second: &'a [Ext],
+        first: Vec<Ext>,
+        second: Vec<Ext>,
         weight: Ext,
     ) -> LayerGates<'a>
-        requires few { length second.now ≤ 16 }
+        requires few { vec_len second ≤ 16 }
         requires layer { IsLayer K values.now.k gates.now values.now.items
-            (AtBoth first.now second.now weight) }
+            (AtBoth first.items second.items weight) }
         requires room { vec_len point_equality ≡ length gates.now }
         ensures holds { IsLayerGates result }
         ensures k { result.k ≡ values.now.k }
         ensures gates { result.gates.now ≡ gates.now }
         ensures values { result.values.now ≡ values.now }
-        ensures place { place_of result ≡ AtBoth first.now second.now weight }
+        ensures place { place_of result ≡ AtBoth first.items second.items weight }
     {
-        fill_weights(&mut point_equality, first, second, weight);
+        fill_weights(&mut point_equality, &first, &second, weight);
         LayerGates {
             k: values.k() as usize,
             gates,

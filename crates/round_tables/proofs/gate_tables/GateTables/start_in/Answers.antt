@@ -1,5 +1,5 @@
 -- The gates and the table make a layer
-use Rattle.std.proofs.Common.{length, refl}
+use Rattle.std.proofs.Common.{length, ap}
 use Rattle.round_tables.proofs.gate_tables.GateTables.start_in.Goals as goal
 
 pub new-layer-requires-clause-layer : goal.new-layer-requires-clause-layer
@@ -8,7 +8,7 @@ new-layer-requires-clause-layer c = record {
   most = c.requires.most;
   size = c.args.values.now.whole;
   exponent = length c.args.point.now;
-  coordinates = refl;
+  coordinates = ap length c.in_ok-first.ensures.first;
   width = c.requires.width;
   operands = c.requires.operands;
 }

@@ -1,5 +1,5 @@
 -- The gates and the table make a layer
-use Rattle.std.proofs.Common.{length, refl}
+use Rattle.std.proofs.Common.{length, ◌∙◌, ap}
 use Rattle.round_tables.proofs.gate_tables.GateTables.start_two_in.Goals as goal
 
 pub new_two-layer-requires-clause-layer : goal.new_two-layer-requires-clause-layer
@@ -8,7 +8,7 @@ new_two-layer-requires-clause-layer c = record {
   most = c.requires.most;
   size = c.args.values.now.whole;
   exponent = length c.args.second.now;
-  coordinates = (c.requires.same, refl);
+  coordinates = (ap length c.in_ok-first.ensures.first ∙ c.requires.same, ap length c.in_ok-first.ensures.second);
   width = c.requires.width;
   operands = c.requires.operands;
 }
