@@ -14,9 +14,9 @@ use line_reduce::point_at;
 use proof_wire::ProofForm;
 use std::alloc::{AllocError, Global};
 
-/// The place of a claim: `first`, or where it is at both, `first` with weight 1 and `second` with the weight given.
+/// The place of a claim between two layers: a point, or two with the weight of the second.
 #[derive(Drop)]
-pub(crate) struct KeptPlace {
+pub struct KeptPlace {
     pub(crate) both: bool,
     pub(crate) first: Vec<Ext>,
     pub(crate) second: Vec<Ext>,
@@ -36,8 +36,9 @@ impl KeptPlace {
         }
     }
 
-    /// The place between the points of the two operands, for the challenge behind a last message of this form.
-    pub(crate) fn between(
+    /// The place between the points of the two operands, for the challenge behind a last message of this form. Err only where
+    /// no memory is found.
+    pub fn between(
         alloc: Global,
         form: ProofForm,
         left: &[Ext],
@@ -67,7 +68,7 @@ impl KeptPlace {
     }
 
     /// The same place, lent.
-    pub(crate) fn standing(&self) -> Standing<'_>
+    pub fn standing(&self) -> Standing<'_>
         ensures { place_of result ≡ kept_place self.now }
     {
         if self.both {

@@ -14,8 +14,8 @@ use proof_wire::ProofForm;
 use std::alloc::{AllocError, Global};
 
 /// The true last message of a layer over the values of the layer below, for the points of the two operands: the polynomial
-/// of the line between them, or the pair of values there.
-pub(crate) fn last_message(
+/// of the line between them, or the pair of values there. Err only where no memory is found.
+pub fn last_message(
     alloc: Global,
     form: ProofForm,
     values: &Table,

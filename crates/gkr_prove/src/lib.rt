@@ -3,7 +3,8 @@
 //! [`prove`] gives the honest messages of all layers, the output layer first: the true polynomial of each round of
 //! sumcheck, and of the line between the two operands' points, at the challenges that the source gives behind the
 //! messages before. They are the only honest messages, and the verifier accepts them. [`prove_pair`] is the same body for
-//! proofs that end each layer with the values at both points in place of the line. Source: Thaler, "Proofs, Arguments,
+//! proofs that end each layer with the values at both points in place of the line. [`last_message`], [`KeptPlace`] and
+//! [`room_for`] are its steps from layer to layer, for a prover that is fed its challenges. Source: Thaler, "Proofs, Arguments,
 //! and Zero-Knowledge", 4.6; for pairs Xie and others, "Libra" (2019).
 //!
 //! ```text
@@ -19,4 +20,6 @@ mod layers;
 mod prover;
 mod rounds;
 
-pub use prover::{prove, prove_as, prove_pair};
+pub use kept::KeptPlace;
+pub use last::last_message;
+pub use prover::{prove, prove_as, prove_pair, room_for};
