@@ -23,6 +23,7 @@ mod filling;
 pub mod laws;
 mod layer;
 mod layers;
+mod room;
 mod rounds;
 mod short;
 mod standing;
@@ -32,6 +33,7 @@ mod verifier;
 
 pub use filling::fill;
 pub use gkr_layers::{Verdict, bound_sum, challenge_count};
+pub use room::CheckRoom;
 pub use short::check_two;
 pub use sums::{LayerSum, first_sum};
 pub use verifier::{check, check_as, check_pair};

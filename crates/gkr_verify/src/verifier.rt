@@ -1,24 +1,20 @@
 // The verifier.
 
-ghost use Rattle.std.specs.Prelude.{◌≡◌, ◌+◌, ◌*◌, ℕ, length, drop, IsTrue, IfOk, IfErr};
-ghost use Rattle.circuit_core.specs.Sound.{exponent_at, exponents};
-ghost use Rattle.gkr_layers.specs.Layers.{layers_of, total_exponent};
+ghost use Rattle.std.specs.Prelude.{◌≡◌, ℕ, length, drop, IsTrue, IfOk, IfErr};
+ghost use Rattle.circuit_core.specs.Sound.{exponents};
 ghost use Rattle.transcript_fs.specs.Source.{all_draws};
 ghost use Rattle.gkr_layers.specs.Acceptance.{claim_in, claim_of, verdict_of, answer_from, challenge_count};
 ghost use Rattle.proof_wire.specs.Lists.{all_messages, HaveShape};
 ghost use Rattle.gkr_layers.specs.Soundness.{LetsPass, IsFalse};
-ghost use Rattle.run_wiring.specs.CircuitRuns.{AreWiringsOf};
 
-use crate::extension::values_extension;
-use crate::layers::check_layers;
+use crate::room::CheckRoom;
 use circuit_core::Circuit;
-use field_ext::{Ext, Fp};
-use gkr_layers::{Standing, Verdict, width_below};
+use field_ext::Fp;
+use gkr_layers::Verdict;
 use pair_reduce::PairMessages;
 use proof_wire::{Messages, ProofForm};
-use run_wiring::{LayerWiring, wirings};
 use std::alloc::{AllocError, Global};
-use transcript_fs::{Challenges, draw_point};
+use transcript_fs::Challenges;
 
 /// Checks the messages of a proof by lines that the circuit on these inputs has these outputs: as many of both as the circuit
 /// has, messages of its shape, and challenges from a source that has enough of them. The answer is the first equation that
@@ -79,7 +75,8 @@ pub fn check_pair<C: Challenges>(
 ) -> Result<Verdict, AllocError>
     requires inputs { length inputs.now ≡ circuit.now.parts.inputs }
     requires outputs { length outputs.now ≡ circuit.now.parts.outputs }
-    requires shape { HaveShape ProofForm.Pair (drop 1 (exponents circuit.now.parts)) messages.now.layers }
+    requires shape { HaveShape ProofForm.Pair (drop 1 (exponents circuit.now.parts))
+        messages.now.layers }
     requires has { IsTrue (C.source.has (C.state challenges.old)
         (challenge_count (claim_in ProofForm.Pair circuit.now.parts inputs.now outputs.now))) }
     ensures verdict { IfOk result (λ verdict.
@@ -140,52 +137,14 @@ pub fn check_as<C: Challenges>(
         C.state challenges.new ≡ (answer_from stated C.source (C.state challenges.old) qs).state) }
     ensures memory { IfErr result (λ _. C.state challenges.new ≡ C.state challenges.old) }
 {
-    let wirings = wirings(alloc, circuit)?;
-    let width = circuit.coordinates(0) + 3 * width_below(circuit);
-    let mut room = vec![in alloc; Ext::zero(); width]?;
-    let verdict = check_in(
-        form, circuit, &wirings, inputs, outputs, messages, &mut room, challenges,
+    let mut room = CheckRoom::new(alloc, circuit)?;
+    let verdict = room.check(
+        form,
+        circuit,
+        inputs,
+        outputs,
+        messages.layers.as_slice(),
+        challenges,
     );
     Ok(verdict)
-}
-
-// Checks the messages, and keeps challenges and points in `room`.
-fn check_in<C: Challenges>(
-    form: ProofForm,
-    circuit: &Circuit,
-    wirings: &[LayerWiring],
-    inputs: &[Fp],
-    outputs: &[Fp],
-    messages: &Messages,
-    room: &mut [Ext],
-    challenges: &mut C,
-) -> Verdict
-    requires wirings { AreWiringsOf circuit.now.parts wirings.now }
-    requires inputs { length inputs.now ≡ circuit.now.parts.inputs }
-    requires outputs { length outputs.now ≡ circuit.now.parts.outputs }
-    requires shape { HaveShape form (drop 1 (exponents circuit.now.parts)) messages.now.layers }
-    requires has { IsTrue (C.source.has (C.state challenges.old)
-        (challenge_count (claim_in form circuit.now.parts inputs.now outputs.now))) }
-    requires room { length room.old ≡ exponent_at circuit.now.parts 0 + 3 * total_exponent
-        (layers_of circuit.now.parts) }
-    ensures { record { verdict = result; state = C.state challenges.new }
-        ≡ answer_from (claim_in form circuit.now.parts inputs.now outputs.now) C.source
-        (C.state challenges.old) (all_messages messages.now.layers) }
-{
-    let (point, room) = room.split_at_mut(circuit.coordinates(0));
-    draw_point(point, challenges);
-    let claim = values_extension(outputs, point);
-    let place = Standing::One(point);
-    check_layers(
-        form,
-        messages.layers.as_slice(),
-        circuit,
-        wirings,
-        inputs,
-        0,
-        claim,
-        &place,
-        room,
-        challenges,
-    )
 }

@@ -1,18 +1,17 @@
-use Rattle.std.proofs.Common.{◌≡◌, ℕ, ◌^◌, List, length, map, IsTrue, arith, ◌∙◌, ap, sym, subst}
+use Rattle.std.proofs.Common.{◌≡◌, ℕ, ◌^◌, length, map, IsTrue, arith, ◌∙◌, ap, sym, subst}
 use Rattle.field_ext.specs.Field.{k_ops, embed_k}
 use Rattle.field_ext.specs.Multilinear.{extension_at}
 use Rattle.circuit_core.specs.Parts.{padded_values}
 use Rattle.circuit_core.specs.Sound.{exponent_at}
-use Rattle.gkr_layers.specs.Layers.{layers_of, lower_exponents, message_count}
+use Rattle.gkr_layers.specs.Layers.{layers_of, message_count}
 use Rattle.circuit_core.proofs.Sizes.{size_of}
 use Rattle.transcript_fs.specs.Source.{Source, point_draws, state_after_point, draws}
-use Rattle.proof_wire.specs.declared.messages.LayerMessages.{LayerMessages}
 use Rattle.gkr_layers.specs.Equations.{equations, answer}
 use Rattle.gkr_layers.specs.Acceptance.{CircuitClaim, claim_in}
-use Rattle.proof_wire.specs.Lists.{all_messages, HaveShape}
+use Rattle.proof_wire.specs.Lists.{all_messages}
 use Rattle.transcript_fs.proofs.Draws.{has_front, has_after_point}
 use Rattle.gkr_layers.proofs.Shapes.{have_shape, messages_height, outputs_room}
-use Rattle.gkr_verify.proofs.verifier.check_in.Goals as goal
+use Rattle.gkr_verify.proofs.room.check_in.Goals as goal
 use Rattle.gkr_layers.specs.Places.Place.{At}
 
 pub draw_point-requires : goal.draw_point-requires
@@ -30,12 +29,12 @@ values_extension-claim-requires-clause-fits g c =
 
 pub check_layers-requires-clause-layer : goal.check_layers-requires-clause-layer
 check_layers-requires-clause-layer g c =
-    let count = messages_height c.args.form c.args.circuit.now.parts c.args.messages.now c.requires.shape in
-    omega (arith, count, ap length c.as_slice.ensures)
+    let count = messages_height c.args.form c.args.circuit.now.parts (record { layers = c.args.messages.now }) c.requires.shape in
+    omega (arith, count)
 
 pub check_layers-requires-clause-shape : goal.check_layers-requires-clause-shape
 check_layers-requires-clause-shape g c =
-    subst (λ (ms : List LayerMessages). HaveShape c.args.form (lower_exponents (layers_of c.args.circuit.now.parts)) ms) (sym c.as_slice.ensures) (have_shape c.args.form c.args.circuit.now.parts c.args.messages.now c.requires.shape)
+    have_shape c.args.form c.args.circuit.now.parts (record { layers = c.args.messages.now }) c.requires.shape
 
 pub check_layers-requires-clause-has : goal.check_layers-requires-clause-has
 check_layers-requires-clause-has g c =
@@ -51,12 +50,12 @@ returns g c =
     let s = g.C.Challenges.state c.args.challenges.now in
     let circuit = c.args.circuit.now in
     let k : ℕ = exponent_at circuit.parts 0 in
-    let qs = all_messages c.args.messages.now.layers in
+    let qs = all_messages c.args.messages.now in
     let stated : CircuitClaim = claim_in c.args.form circuit.parts c.args.inputs.now c.args.outputs.now in
     let count = c.split_at_mut-point.ensures.front_len ∙ c.coordinates.ensures.value in
     let z : c.draw_point.new.point ≡ point_draws source s k = c.draw_point.ensures.point ∙ ap (point_draws source s) count in
     let after : g.C.Challenges.state c.draw_point.new.challenges ≡ state_after_point source s k = c.draw_point.ensures.state ∙ ap (state_after_point source s) count in
     let width = ap (λ (n : ℕ). 2 ^ n) (c.draw_point.auto.point ∙ count) ∙ sym (size_of circuit 0 (omega arith)).0 in
     c.check_layers.ensures
-    ∙ (λ i. answer source (after i) (equations c.args.form 0 stated.layers stated.input_table (At c.draw_point.new.point) (c.values_extension-claim.ensures i) (all_messages (c.as_slice.ensures i)) (draws source (after i) (all_messages (c.as_slice.ensures i)))) (all_messages (c.as_slice.ensures i)))
+    ∙ (λ i. answer source (after i) (equations c.args.form 0 stated.layers stated.input_table (At c.draw_point.new.point) (c.values_extension-claim.ensures i) qs (draws source (after i) qs)) qs)
     ∙ (λ i. answer source (state_after_point source s k) (equations c.args.form 0 stated.layers stated.input_table (At (z i)) (extension_at k_ops k_ops (λ x. x) (map embed_k (padded_values (width i) c.args.outputs.now)) (z i)) qs (draws source (state_after_point source s k) qs)) qs)
