@@ -1,0 +1,9 @@
+pub mod ElementSteps
+pub mod IntakeSteps
+pub mod LayoutSteps
+pub mod SpelledSteps
+pub mod VerifierSteps
+pub mod SessionLaws
+pub mod HonestList
+pub mod CourseSteps
+pub mod ProverSteps

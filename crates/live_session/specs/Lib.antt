@@ -1,0 +1,11 @@
+pub mod Elements
+pub mod Layout
+pub mod Intake
+pub mod Verifying
+pub mod Ending
+pub mod VerifierState
+pub mod Proving
+pub mod Stops
+pub mod ProverState
+pub mod Begun
+pub mod OnCourse

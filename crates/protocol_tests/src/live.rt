@@ -1,0 +1,236 @@
+//! Live sessions of the circuit that copies, by hand.
+
+use circuit_core::Circuit;
+use circuit_eval::layer_values;
+use field_ext::{Ext, Fp};
+use gkr_verify::{Verdict, challenge_count};
+use io_edge::OpenGate;
+use live_session::{LiveFault, LiveProver, LiveVerifier, Progress, ProverStop};
+use std::marker::Sync;
+use std::process::Abort;
+use std::test::Fail;
+use std::thread::Threads;
+use test_circuits::{copy, number, numbers};
+
+const COPIED: [i32; 8] = [0, -5, 15, 120, -80, -40, 15, 5];
+
+const WORDS: [i32; 4] = [2, 3, 4, 6];
+
+/// The bytes of the elements of these numbers.
+fn spelled<R: AllocGlobal>(rt: &R, ns: &[i32]) -> Result<Vec<u8>, Fail> {
+    let mut bytes = Vec::new(rt.alloc());
+    for n in ns {
+        bytes.extend_from_slice(&number(*n).to_bytes())?;
+    }
+    Ok(bytes)
+}
+
+/// What a verifier of one output answers to bytes in pieces, to the last of them, and how much it has sent then.
+fn answered<R: Abort + AllocGlobal>(
+    rt: &R,
+    circuit: &Circuit,
+    output: u64,
+    bytes: &[u8],
+    piece: usize,
+) -> Result<(Result<Progress, LiveFault>, usize), Fail> {
+    let inputs = [Fp::reduce(5)];
+    let outputs = [Fp::reduce(output)];
+    let words = numbers(rt.alloc(), &WORDS)?;
+    assert!(rt; circuit.inputs() == 1);
+    assert!(rt; circuit.outputs() == 1);
+    assert!(rt; words.len() == challenge_count(circuit));
+    assert!(rt; 0 < piece);
+    let mut verifier = LiveVerifier::start(rt.alloc(), circuit, &inputs, &outputs, &words)?;
+    let mut answer = verifier.feed(&[]);
+    for part in bytes.chunks(piece) {
+        answer = verifier.feed(part);
+    }
+    let sent = verifier.sent().len();
+    Ok((answer, sent))
+}
+
+/// A prover of the copied 5 that was fed these bytes in pieces: what it has sent, and its verdict, or why it stopped.
+fn proved<R: Abort + AllocGlobal + Threads + Sync>(
+    rt: &R,
+    circuit: &Circuit,
+    bytes: &[u8],
+    piece: usize,
+) -> Result<Result<(Vec<u8>, Option<bool>), ProverStop>, Fail> {
+    let inputs = [Fp::reduce(5)];
+    assert!(rt; circuit.inputs() == 1);
+    assert!(rt; 0 < piece);
+    let values = layer_values(rt, rt.alloc(), circuit, &inputs)?;
+    let prover = LiveProver::start(rt.alloc(), circuit, &values)?;
+    let mut prover = match prover.feed(rt, rt.alloc(), &[], 1, &OpenGate) {
+        Ok(next) => next,
+        Err(stop) => return Ok(Err(stop)),
+    };
+    for part in bytes.chunks(piece) {
+        match prover.feed(rt, rt.alloc(), part, 1, &OpenGate) {
+            Ok(next) => prover = next,
+            Err(stop) => return Ok(Err(stop)),
+        }
+    }
+    let sent = Vec::from_slice(rt.alloc(), prover.sent())?;
+    Ok(Ok((sent, prover.verdict())))
+}
+
+#[test]
+fn answers_alike_for_any_pieces(rt: HostRuntime) -> Result<(), Fail> {
+    let Ok(circuit) = copy(rt.alloc()) else {
+        return Err(Fail::new("no circuit"));
+    };
+    let messages = spelled(&rt, &COPIED)?;
+    let mut words = spelled(&rt, &WORDS)?;
+    words.push(1)?;
+    let end = Verdict::Sum {
+        layer: 0,
+        round: 1,
+        had: number(10),
+        claim: number(12),
+    };
+    for piece in [1, 2, 7, 8, 9, 63, 65536] {
+        assert_eq!(rt;
+            answered(&rt, &circuit, 5, &messages, piece)?,
+            (Ok(Progress::Ended(Verdict::Accepted)), 33)
+        );
+        assert_eq!(rt;
+            answered(&rt, &circuit, 6, &messages, piece)?,
+            (Ok(Progress::Ended(end)), 33)
+        );
+        let Ok((sent, verdict)) = proved(&rt, &circuit, &words, piece)? else {
+            return Err(Fail::new("a stop"));
+        };
+        assert_eq!(rt; sent.as_slice(), messages.as_slice());
+        assert_eq!(rt; verdict, Some(true));
+    }
+    Ok(())
+}
+
+/// Each message is due once all challenges before it are there, and each challenge once the message before it is: the verifier
+/// has sent 8 bytes at its start, and 8 more behind each message of 24, 24 and 16 bytes.
+#[test]
+fn sends_what_is_due(rt: HostRuntime) -> Result<(), Fail> {
+    let Ok(circuit) = copy(rt.alloc()) else {
+        return Err(Fail::new("no circuit"));
+    };
+    let messages = spelled(&rt, &COPIED)?;
+    assert!(rt; messages.len() == 64);
+    for (fed, sent) in [(0, 8), (23, 8), (24, 16), (47, 16), (48, 24), (63, 24)] {
+        assert!(rt; fed <= messages.len());
+        assert_eq!(rt;
+            answered(&rt, &circuit, 5, &messages[..fed], 65536)?,
+            (Ok(Progress::Waiting), sent)
+        );
+    }
+    assert_eq!(rt;
+        answered(&rt, &circuit, 5, &messages, 65536)?,
+        (Ok(Progress::Ended(Verdict::Accepted)), 33)
+    );
+    let mut words = spelled(&rt, &WORDS)?;
+    words.push(0)?;
+    assert!(rt; words.len() == 33);
+    for (fed, sent, told) in [
+        (0, 0, None),
+        (7, 0, None),
+        (8, 24, None),
+        (16, 48, None),
+        (24, 64, None),
+        (32, 64, None),
+        (33, 64, Some(false)),
+    ] {
+        assert!(rt; fed <= words.len());
+        let Ok((bytes, verdict)) = proved(&rt, &circuit, &words[..fed], 65536)? else {
+            return Err(Fail::new("a stop"));
+        };
+        assert!(rt; messages.starts_with(&bytes));
+        assert_eq!(rt; bytes.len(), sent);
+        assert_eq!(rt; verdict, told);
+    }
+    Ok(())
+}
+
+/// The elements of these bytes, of which one half is the prime.
+fn out_of_range<R: Abort + AllocGlobal>(
+    rt: &R,
+    count: usize,
+    half: usize,
+) -> Result<Vec<u8>, Fail> {
+    let of_prime = [255, 255, 255, 127];
+    let mut bytes = Vec::new(rt.alloc());
+    for i in 0..count {
+        let is_there = half / 2 == i;
+        bytes.extend_from_slice(if is_there && half % 2 == 0 {
+            &of_prime
+        } else {
+            &[0; 4]
+        })?;
+        bytes.extend_from_slice(if is_there && half % 2 == 1 {
+            &of_prime
+        } else {
+            &[0; 4]
+        })?;
+    }
+    Ok(bytes)
+}
+
+#[test]
+fn tells_the_first_fault(rt: HostRuntime) -> Result<(), Fail> {
+    let Ok(circuit) = copy(rt.alloc()) else {
+        return Err(Fail::new("no circuit"));
+    };
+    for half in 0..16 {
+        let mut bytes = out_of_range(&rt, 8, half)?;
+        let at = half / 2 * 8;
+        // Nothing is sent behind the fault: 8 bytes at the start, and 8 more behind each message of three elements.
+        let range = (Err(LiveFault::Range { at }), 8 + half / 6 * 8);
+        for piece in [1, 9, 65536] {
+            assert_eq!(rt; answered(&rt, &circuit, 5, &bytes, piece)?, range);
+        }
+        // Bytes behind the messages change nothing.
+        bytes.push(0)?;
+        assert_eq!(rt; answered(&rt, &circuit, 5, &bytes, 65536)?, range);
+    }
+    let first = [255, 255, 255, 127, 0, 0, 0, 0];
+    for piece in [1, 2, 7, 8, 9, 63, 65536] {
+        assert_eq!(rt;
+            answered(&rt, &circuit, 5, &first, piece)?,
+            (Err(LiveFault::Range { at: 0 }), 8)
+        );
+    }
+    let mut messages = spelled(&rt, &COPIED)?;
+    messages.extend_from_slice(&[0, 0])?;
+    let extra = (Err(LiveFault::Extra { at: 64 }), 33);
+    assert_eq!(rt; answered(&rt, &circuit, 5, &messages, 1)?, extra);
+    assert_eq!(rt; answered(&rt, &circuit, 5, &messages, 65536)?, extra);
+    Ok(())
+}
+
+#[test]
+fn stops_a_prover_at_the_first_fault(rt: HostRuntime) -> Result<(), Fail> {
+    let Ok(circuit) = copy(rt.alloc()) else {
+        return Err(Fail::new("no circuit"));
+    };
+    for half in 0..8 {
+        let mut bytes = out_of_range(&rt, 4, half)?;
+        bytes.extend_from_slice(&[2, 0])?;
+        for piece in [1, 7, 65536] {
+            let stopped = proved(&rt, &circuit, &bytes, piece)?;
+            assert!(rt; matches!(&stopped, Err(ProverStop::Range { at }) if *at == half / 2 * 8));
+        }
+    }
+    for (last, stop) in [
+        (&[2, 0], ProverStop::Range { at: 32 }),
+        (&[255, 1], ProverStop::Range { at: 32 }),
+        (&[1, 0], ProverStop::Extra { at: 33 }),
+        (&[0, 2], ProverStop::Extra { at: 33 }),
+    ] {
+        let mut words = spelled(&rt, &WORDS)?;
+        words.extend_from_slice(last)?;
+        for piece in [1, 8, 65536] {
+            let stopped = proved(&rt, &circuit, &words, piece)?;
+            assert!(rt; matches!(&stopped, Err(e) if *e == stop));
+        }
+    }
+    Ok(())
+}
