@@ -1,8 +1,8 @@
 mod AcceptedOutputs
 mod LayerSizes
 mod PlacesForgotten
-mod ProvedCases
-mod ProvedOutputs
+pub mod ProvedCases
+pub mod ProvedOutputs
 mod ProvedSizes
 mod ProvedText
 mod Statements

@@ -54,7 +54,7 @@ real_behind n [] = real_front n []
 real_behind n (x ∷ xs) = real_front n xs
 
 module _ (c : SoundCircuit) (inputs : List F) (tables : List (List K)) (are : AreTables c.parts inputs tables) where
-  outputs_read : (items : List K) (n : ℕ) (outputs : List F) → items ≡ slice_index_or tables 0 [] → n ≡ c.parts.outputs → outputs ≡ map (λ (x : K). x.re) (take n (drop 1 items)) →
+  pub outputs_read : (items : List K) (n : ℕ) (outputs : List F) → items ≡ slice_index_or tables 0 [] → n ≡ c.parts.outputs → outputs ≡ map (λ (x : K). x.re) (take n (drop 1 items)) →
       outputs ≡ take c.parts.outputs (drop 1 (layer_values c.parts inputs 0))
   outputs_read items n outputs of many read =
       read

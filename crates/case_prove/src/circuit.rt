@@ -1,7 +1,8 @@
 //! The circuit of a case.
 
-ghost use Rattle.std.specs.Prelude.{◌≡◌, ◌+◌, ◌≤◌, map, IfOk, IfErr};
+ghost use Rattle.std.specs.Prelude.{◌≡◌, ◌+◌, ◌≤◌, length, map, IfOk, IfErr};
 ghost use Rattle.std.specs.List.{range_with_len};
+ghost use Rattle.arr_compile.specs.Circuits.{IsCompiled};
 ghost use Rattle.circuit_core.specs.Parts.{height};
 ghost use Rattle.case_prove.specs.Circuits.{IsLaidOut, RefusesCircuit, sizes_of, layer_size, product_weight, products as layer_products, products_of};
 
@@ -20,6 +21,22 @@ pub fn circuit_case(alloc: Global, case: &Case) -> Result<CircuitSizes, Refused>
     ensures sizes { IfOk result (λ sizes. IsLaidOut case.now sizes) }
     ensures refused { IfErr result (λ refused. RefusesCircuit case.now refused) }
 {
+    let circuit = match circuit_of(alloc, case) {
+        Ok(circuit) => circuit,
+        Err(refused) => return Err(refused),
+    };
+    match circuit_sizes(alloc, &circuit) {
+        Ok(sizes) => Ok(sizes),
+        Err(_) => Err(Refused::Memory),
+    }
+}
+
+/// The circuit of the case's program, which has as many inputs as the case. It is refused as `circuit_case` refuses the case.
+pub fn circuit_of(alloc: Global, case: &Case) -> Result<Circuit, Refused>
+    ensures compiled { IfOk result (λ circuit. IsCompiled case.now.program circuit.parts) }
+    ensures counted { IfOk result (λ circuit. length case.now.inputs ≡ circuit.parts.inputs) }
+    ensures refused { IfErr result (λ refused. RefusesCircuit case.now refused) }
+{
     let compiled = match compile(alloc, case.program()) {
         Ok(compiled) => compiled,
         Err(refused) => return Err(program_refused(refused)),
@@ -29,10 +46,7 @@ pub fn circuit_case(alloc: Global, case: &Case) -> Result<CircuitSizes, Refused>
     if have != need {
         return Err(Refused::Input { have, need });
     }
-    match circuit_sizes(alloc, &compiled.circuit) {
-        Ok(sizes) => Ok(sizes),
-        Err(_) => Err(Refused::Memory),
-    }
+    Ok(compiled.circuit)
 }
 
 /// The sizes of a circuit and of its proofs.

@@ -1,6 +1,7 @@
 //! The proof of a case.
 
 ghost use Rattle.std.specs.Prelude.{◌≡◌, ◌<◌, ◌^◌, length, map, take, drop, IfOk, IfErr};
+ghost use Rattle.circuit_core.specs.Parts.{layer_values};
 ghost use Rattle.circuit_core.specs.Sound.{exponents};
 ghost use Rattle.circuit_eval.specs.Tables.{AreTables};
 ghost use Rattle.transcript_fs.specs.Transcript.{transcript};
@@ -9,12 +10,13 @@ ghost use Rattle.gkr_layers.specs.Honest.{AreHonestMessages};
 ghost use Rattle.phase_run.specs.Work.{IsWorkerCount};
 ghost use Rattle.arr_compile.specs.Circuits.{IsCompiled};
 ghost use Rattle.case_prove.specs.Circuits.{RefusesCircuit};
+ghost use Rattle.case_prove.specs.Evaluated.{IsEvaluated};
 ghost use Rattle.case_prove.specs.Proved.{IsProved};
 ghost use Rattle.case_prove.specs.Started.{start_of};
 
-use crate::refused::{Refused, program_refused};
+use crate::circuit::circuit_of;
+use crate::refused::Refused;
 use crate::started::transcript_of;
-use arr_compile::compile;
 use arr_compile::laws::circuit_computes;
 use case_text::Case;
 use circuit_core::Circuit;
@@ -46,16 +48,11 @@ pub fn prove_case<R: Threads + Sync, G: Gate>(
     ensures proved { IfOk result (λ proved. IsProved kind case.now proved) }
     ensures refused { IfErr result (λ refused. RefusesCircuit case.now refused) }
 {
-    let compiled = match compile(alloc, case.program()) {
-        Ok(compiled) => compiled,
-        Err(refused) => return Err(program_refused(refused)),
+    let circuit = match circuit_of(alloc, case) {
+        Ok(circuit) => circuit,
+        Err(refused) => return Err(refused),
     };
-    let have = case.inputs().len() as u64;
-    let need = u64::from(compiled.circuit.inputs());
-    if have != need {
-        return Err(Refused::Input { have, need });
-    }
-    match prove_claim(rt, alloc, case, &compiled.circuit, kind, workers, gate) {
+    match prove_claim(rt, alloc, case, &circuit, kind, workers, gate) {
         Ok(proved) => Ok(proved),
         Err(_) => Err(Refused::Memory),
     }
@@ -76,9 +73,8 @@ fn prove_claim<R: Threads + Sync, G: Gate>(
     requires workers { IsWorkerCount workers }
     ensures { IfOk result (λ proved. IsProved kind case.now proved) }
 {
-    circuit_computes();
     let values = layer_values(rt, alloc, circuit, case.inputs())?;
-    let outputs = real_parts(alloc, values.table(0), circuit.outputs() as usize)?;
+    let outputs = meant_outputs(alloc, case, circuit, &values)?;
     let form = kind.form();
     let messages = honest_messages(
         rt, alloc, case, circuit, &values, &outputs, form, workers, gate,
@@ -87,6 +83,27 @@ fn prove_claim<R: Threads + Sync, G: Gate>(
     let program = Vec::from_slice(alloc, case.program())?;
     let inputs = Vec::from_slice(alloc, case.inputs())?;
     Ok(Case::new(program, inputs, Some(outputs), Some(proof)))
+}
+
+/// The program's meaning on the case's inputs, where the program is laid out as this circuit and its layers have these values:
+/// what stands in its output layer.
+pub fn meant_outputs(
+    alloc: Global,
+    case: &Case,
+    circuit: &Circuit,
+    values: &Values,
+) -> Result<Vec<Fp>, AllocError>
+    requires compiled { IsCompiled case.now.program circuit.now.parts }
+    requires counted { length case.now.inputs ≡ circuit.now.parts.inputs }
+    requires tables { AreTables circuit.now.parts case.now.inputs values.now }
+    ensures meaning { IfOk result (λ outputs. IsEvaluated case.now outputs.items) }
+    ensures as_many { IfOk result
+        (λ outputs. length outputs.items ≡ circuit.now.parts.outputs) }
+    ensures stand { IfOk result (λ outputs. outputs.items
+        ≡ take (length outputs.items) (drop 1 (layer_values circuit.now.parts case.now.inputs 0))) }
+{
+    circuit_computes();
+    real_parts(alloc, values.table(0), circuit.outputs() as usize)
 }
 
 /// The parts without `i` of so many values of a table, from position 1 on.

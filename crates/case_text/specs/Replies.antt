@@ -9,6 +9,7 @@ use Rattle.proof_wire.specs.declared.refused.BadProof.TheVariants as proofs
 use Rattle.case_text.specs.declared.refusal.DueKind.{DueKind}
 use Rattle.case_text.specs.declared.refusal.DueKind.TheVariants as kinds
 use Rattle.case_text.specs.declared.demo.DemoSummary.{DemoSummary}
+use Rattle.case_text.specs.declared.session.SessionSizes.{SessionSizes}
 use Rattle.case_text.specs.declared.sizes.LayerSize.{LayerSize}
 use Rattle.case_text.specs.declared.verdict.VerdictLine.{VerdictLine}
 use Rattle.case_text.specs.declared.verdict.VerdictLine.TheVariants as verdicts
@@ -184,6 +185,12 @@ abbrev pub audit_text : AuditLines → List ℕ
 audit_text a = concat (verdict_text a.verdict ∷ meaning_text a.same ∷ message_text a.message
     ∷ challenge_text a.challenge ∷ [])
 
+-- the lines of a session that ended with a proof that is accepted
+abbrev pub session_text : SessionSizes → List ℕ
+session_text s = concat (line_text (codes "session ") s.challenges
+    ∷ line_text (codes "to prover ") s.to_prover ∷ line_text (codes "to verifier ") s.to_verifier
+    ∷ codes "accepted" ∷ (10 ∷ []) ∷ [])
+
 abbrev pub reply_text : Reply → List ℕ
 reply_text (replies.Outputs values) = codes "output " ++ counted_text values
 reply_text replies.Usage = codes "refused usage" ++ 10 ∷ []
@@ -197,6 +204,7 @@ reply_text (replies.Wide height width) = pair_text (codes "refused program wide 
 reply_text (replies.InputCount have need) = pair_text (codes "refused count input ") have need
 reply_text (replies.Circuit sizes) = sizes_text sizes
 reply_text (replies.OutputCount have need) = pair_text (codes "refused count output ") have need
+reply_text (replies.WordCount have need) = pair_text (codes "refused count words ") have need
 reply_text (replies.Proof bad) = bad_proof_text bad
 reply_text (replies.Proved c) = lower_case_text c
 reply_text (replies.Demo summary) = demo_text summary
@@ -204,3 +212,4 @@ reply_text (replies.Served jobs) = served_text jobs
 reply_text (replies.History history) = history_text history
 reply_text (replies.Verdict verdict) = verdict_text verdict
 reply_text (replies.Audit audit) = audit_text audit
+reply_text (replies.Session sizes) = session_text sizes

@@ -16,6 +16,7 @@ mod parts;
 mod refusal;
 mod rule;
 mod served;
+mod session;
 mod sizes;
 mod stop;
 
@@ -25,7 +26,7 @@ pub use form::Form;
 pub use history::{HistoryLine, ServedHistory, write_history};
 pub use outputs::Outputs;
 pub use parts::{decimal, word};
-pub use reading::{case_of, read_case};
+pub use reading::{case_of, counted, read_case};
 pub use reply::{Reply, write_reply};
 
 pub mod laws;
@@ -37,6 +38,7 @@ mod writing;
 pub use refusal::{BadCase, CaseRefused, DueKind};
 pub use rule::Rule;
 pub use served::{ServedJob, ServedJobs, write_served};
+pub use session::SessionSizes;
 pub use sizes::{CircuitSizes, LayerSize};
 pub use stop::{ReadError, Stop, stop_at};
 pub use verdict::{AuditLines, MessagePlace, VerdictLine};

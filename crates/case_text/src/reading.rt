@@ -49,9 +49,10 @@ fn values(alloc: Global, count: u32, bytes: &[u8]) -> Result<(Vec<Fp>, &[u8]), R
     Ok((values, rest))
 }
 
-/// Takes a count and as many values.
+/// Takes a count from the front and as many values on its line, and answers them with what follows. It stops at the first byte
+/// that isn't due, or at the end; memory may run out.
 #[tactic(auto, unfolding(crate::specs::Reading::counted_at))]
-fn counted(alloc: Global, bytes: &[u8]) -> Result<(Vec<Fp>, &[u8]), ReadError>
+pub fn counted(alloc: Global, bytes: &[u8]) -> Result<(Vec<Fp>, &[u8]), ReadError>
     ensures { Gives (λ x. (x.0.items, x.1.now)) result (counted_at bytes.now) }
 {
     let (count, rest) = decimal(Rule::value_count(), bytes)?;

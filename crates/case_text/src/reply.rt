@@ -9,6 +9,7 @@ use crate::history::{ServedHistory, write_history};
 use crate::outputs::Outputs;
 use crate::refusal::{BadCase, DueKind};
 use crate::served::{ServedJobs, write_served};
+use crate::session::{SessionSizes, put_session};
 use crate::sizes::{CircuitSizes, LayerSize};
 use crate::verdict::{AuditLines, VerdictLine, put_audit, put_verdict};
 use crate::writing::{hex_text, put_counted, put_number, write_case};
@@ -38,6 +39,8 @@ pub enum Reply {
     InputCount { have: u64, need: u64 },
     /// The number of outputs isn't the program's.
     OutputCount { have: u64, need: u64 },
+    /// The number of words isn't twice that of the challenges.
+    WordCount { have: u64, need: u64 },
     /// The bytes of the proof are none of the circuit's shape.
     Proof(BadProof),
     /// The sizes of the program's circuit.
@@ -54,6 +57,8 @@ pub enum Reply {
     Verdict(VerdictLine),
     /// What an audit says of a proof.
     Audit(AuditLines),
+    /// Both ends of a session ran to its end, and the proof is accepted.
+    Session(SessionSizes),
 }
 
 /// How the kind is told.
@@ -251,6 +256,9 @@ pub fn write_reply(alloc: Global, reply: &Reply) -> Result<Vec<u8>, AllocError>
         Reply::OutputCount { have, need } => {
             put_pair(&mut out, b"refused count output ", *have, *need)?;
         }
+        Reply::WordCount { have, need } => {
+            put_pair(&mut out, b"refused count words ", *have, *need)?;
+        }
         Reply::Proof(bad) => put_bad_proof(&mut out, *bad)?,
         Reply::Circuit(sizes) => put_sizes(&mut out, sizes)?,
         Reply::Proved(case) => return write_case(alloc, case),
@@ -259,6 +267,7 @@ pub fn write_reply(alloc: Global, reply: &Reply) -> Result<Vec<u8>, AllocError>
         Reply::History(history) => return write_history(alloc, history),
         Reply::Verdict(verdict) => put_verdict(&mut out, *verdict)?,
         Reply::Audit(audit) => put_audit(&mut out, *audit)?,
+        Reply::Session(sizes) => put_session(&mut out, *sizes)?,
         Reply::InputCount { have, need } => {
             put_pair(&mut out, b"refused count input ", *have, *need)?;
         }

@@ -9,6 +9,7 @@ mod lays_out;
 mod proves;
 mod refuses;
 mod serves;
+mod sessions;
 mod tells;
 mod verifies;
 mod works;

@@ -53,6 +53,8 @@ answer c (replies.OutputCount have need) is = no_audit (refusal Line c (replies.
 answer c (replies.Proof bad) is = no_audit (refusal Line c (replies.Proof bad) is)
 answer c (replies.Verdict line) is = absurd is
 answer c (replies.Audit lines) is = with_lines c lines is
+answer c (replies.WordCount have need) is = absurd is
+answer c (replies.Session sizes) is = absurd is
 
 one_answer : IsOne → IsOneProof → OneAudit → (c : Content) {a b : Reply} → Answer c a → Answer c b → a ≡ b
 one_answer one proofs audits c (no_audit is) (no_audit is') = one_refusal one proofs Line c is is'

@@ -51,6 +51,8 @@ answer c (replies.OutputCount have need) is = absurd is
 answer c (replies.Proof bad) is = absurd is
 answer c (replies.Verdict line) is = absurd is
 answer c (replies.Audit lines) is = absurd is
+answer c (replies.WordCount have need) is = absurd is
+answer c (replies.Session sizes) is = absurd is
 
 pub same_counts : IsOne → (c : Content) (have have' need need' : ℕ) → IsCircuitMiscounted c have need → IsCircuitMiscounted c have' need' → replies.InputCount have need ≡ replies.InputCount have' need'
 same_counts one c have have' need need' is is' =

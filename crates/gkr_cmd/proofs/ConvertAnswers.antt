@@ -68,6 +68,8 @@ answer version c (replies.OutputCount have need) is = no_proof (refusal Line c (
 answer version c (replies.Proof bad) is = no_proof (refusal Line c (replies.Proof bad) is)
 answer version c (replies.Verdict line) is = with_line version c line is
 answer version c (replies.Audit lines) is = absurd is
+answer version c (replies.WordCount have need) is = absurd is
+answer version c (replies.Session sizes) is = absurd is
 
 -- the sums of a case, by any two readings of its proof
 same_sums : IsOne → IsOneProof → (c : Content) (p q : Parts) (o r : List F) (m n : Messages) → HasProof Line c p o m → HasProof Line c q r n → own_sums c p o m ≡ own_sums c q r n

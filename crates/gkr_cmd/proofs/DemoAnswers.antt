@@ -69,6 +69,8 @@ answer number (replies.OutputCount have need) is = absurd is
 answer number (replies.Proof bad) is = absurd is
 answer number (replies.Verdict line) is = absurd is
 answer number (replies.Audit lines) is = absurd is
+answer number (replies.WordCount have need) is = absurd is
+answer number (replies.Session sizes) is = absurd is
 
 one_answer : IsOne → IsOneProved → (number : ℕ) {a b : Reply} → Answer number a → Answer number b → a ≡ b
 one_answer one proofs number (told s is) (told t is') = ap replies.Demo (same_summary one proofs number s t is is')

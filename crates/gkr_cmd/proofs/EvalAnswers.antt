@@ -47,6 +47,8 @@ answer c (replies.OutputCount have need) is = absurd is
 answer c (replies.Proof bad) is = absurd is
 answer c (replies.Verdict line) is = absurd is
 answer c (replies.Audit lines) is = absurd is
+answer c (replies.WordCount have need) is = absurd is
+answer c (replies.Session sizes) is = absurd is
 
 same_refusal : IsOne → (text : List ℕ) (kind kind' : ProgramKind) (at at' : ℕ) → IsRefusedAs text at kind → IsRefusedAs text at' kind' → replies.Program kind at ≡ replies.Program kind' at'
 same_refusal one text kind kind' at at' is is' =

@@ -28,6 +28,8 @@ use Rattle.gkr_cmd.proofs.ProvedCases.{accepted_text, proved_of}
 use Rattle.gkr_cmd.proofs.Replied.{demo_done_of, done_of, history_reply_of, input_of, no_more, script_reply_of, whole_front}
 use Rattle.gkr_cmd.proofs.HistoryReplies.{tells}
 use Rattle.gkr_cmd.proofs.ScriptReplies.{serves}
+use Rattle.gkr_cmd.proofs.SessionAnswers.{session_told, words_of, writes_session}
+use Rattle.gkr_cmd.proofs.SessionReplies.{session_reply_of}
 
 -- the reply that the run made
 record Made (run : Run) (reply : Reply) : Type 0 where
@@ -164,6 +166,17 @@ headline_of laws run whole =
           let w = some.wrote in
           writes_converted laws version input content some.reply run.before.written run.after.written
           (converted_of version command input some.reply asks.named (w.made.is_reply input (input_of (Convert version) command left input asks.named asks.told)) (sym w.status ∙ done)) read w.written;
+      in_session = λ input piece workers asks replies.
+          let w = (whole replies).wrote in
+          let is = session_reply_of piece workers command left (whole replies).reply asks.named (w.made.is_reply) input asks.told in (
+            λ done. words_of input (whole replies).reply (session_told input (whole replies).reply is (sym w.status ∙ done)),
+            λ has. w.status ∙ laws.in_session input (whole replies).reply is has,
+          );
+      session_text = λ input piece workers content asks read done.
+          let some = whole (done_replies run.ended done) in
+          let w = some.wrote in
+          let is = session_reply_of piece workers command left some.reply asks.named (w.made.is_reply) input asks.told in
+          writes_session input content some.reply run.before.written run.after.written (session_told input some.reply is (sym w.status ∙ done)) read w.written;
       proved = λ input workers kind asks case replies.
           let w = (whole replies).wrote in
           w.status ∙ done_of Plain (Prove workers kind) HasCircuit (laws.provable kind) command input (whole replies).reply asks.named (w.made.is_reply input (input_of (Prove workers kind) command left input asks.named asks.told)) case;

@@ -46,3 +46,5 @@ tells input (replies.OutputCount have need) is script read within = absurd is
 tells input (replies.Proof bad) is script read within = absurd is
 tells input (replies.Verdict line) is script read within = absurd is
 tells input (replies.Audit lines) is script read within = absurd is
+tells input (replies.WordCount have need) is script read within = absurd is
+tells input (replies.Session sizes) is script read within = absurd is

@@ -16,6 +16,8 @@ mod ProvedCases
 mod InputReads
 mod Replied
 mod ScriptReplies
+mod SessionReplies
+mod SessionAnswers
 mod HistoryReplies
 mod SumLevels
 mod VerifyAnswers

@@ -12,12 +12,12 @@ use Rattle.case_text.specs.declared.reply.Reply.{Reply}
 use Rattle.case_text.specs.declared.reply.Reply.TheVariants as replies
 use Rattle.gkr_cmd.specs.declared.status.Status.TheVariants.{Done}
 use Rattle.gkr_words.specs.declared.words.Command.{Command}
-use Rattle.gkr_words.specs.declared.words.Command.TheVariants.{OfCase, Demo, Serve, ServeHistory}
+use Rattle.gkr_words.specs.declared.words.Command.TheVariants.{OfCase, Demo, Serve, ServeHistory, Session}
 use Rattle.gkr_words.specs.declared.words.CaseCommand.{CaseCommand}
 use Rattle.gkr_words.specs.declared.words.CaseCommand.TheVariants.{Eval, Circuit, Prove, Verify, Audit, Convert}
 use Rattle.gkr_words.specs.Commands.{PrintsHistory, case_limit, command_of}
 use Rattle.gkr_cmd.proofs.ScriptReplies.{one_script}
-use Rattle.gkr_cmd.specs.Replies.{IsWithinLimit, IsOfCase, IsNoCase, IsTooLong, IsCaseReply, IsAnswer, IsAuditAnswer, IsConvertAnswer, IsEvalAnswer, IsCircuitAnswer, IsDemoAnswer, IsVerifyAnswer, form_of, IsCommandReply, IsReply, status_of}
+use Rattle.gkr_cmd.specs.Replies.{IsWithinLimit, IsOfCase, IsNoCase, IsTooLong, IsCaseReply, IsAnswer, IsAuditAnswer, IsConvertAnswer, IsEvalAnswer, IsCircuitAnswer, IsDemoAnswer, IsVerifyAnswer, form_of, IsCommandReply, IsReply, IsSessionReply, status_of}
 use Rattle.case_prove.specs.Answers.{IsProveAnswer}
 
 -- a case has at most one answer
@@ -48,6 +48,8 @@ found form answers input (replies.OutputCount have need) is = of_case is.content
 found form answers input (replies.Proof bad) is = of_case is.content is.within is.read is.holds
 found form answers input (replies.Verdict line) is = of_case is.content is.within is.read is.holds
 found form answers input (replies.Audit lines) is = of_case is.content is.within is.read is.holds
+found form answers input (replies.WordCount have need) is = of_case is.content is.within is.read is.holds
+found form answers input (replies.Session sizes) is = of_case is.content is.within is.read is.holds
 
 same_case : (r : Result Content BadCase) (c d : Content) → r ≡ Ok c → r ≡ Ok d → c ≡ d
 same_case r c d is is' = cc
@@ -82,6 +84,7 @@ pub record OneEach : Type 0 where
   pub verify : OneAnswer IsVerifyAnswer
   pub audit : OneAnswer IsAuditAnswer
   pub convert : (version : ProofVersion) → OneAnswer (IsConvertAnswer version)
+  pub session : (input : List ℕ) (a b : Reply) → IsSessionReply input a → IsSessionReply input b → a ≡ b
   pub demo : (number : ℕ) (a b : Reply) → IsDemoAnswer number a → IsDemoAnswer number b → a ≡ b
 
 one_of_each : OneEach → (command : CaseCommand) → OneAnswer (IsAnswer command)
@@ -100,6 +103,7 @@ one_of_command one (Some (OfCase command)) input a b told is is' =
 one_of_command one (Some (Demo number workers)) input a b told is is' = one.demo number a b is is'
 one_of_command one (Some (Serve workers provers clients)) input a b told is is' = one_script (one.prove (ByLines One)) input a b is is'
 one_of_command one (Some (ServeHistory workers provers clients)) input a b told is is' = absurd (told tt)
+one_of_command one (Some (Session piece workers)) input a b told is is' = one.session input a b is is'
 
 pub one_reply : OneEach → (words : List (List ℕ)) (input : List ℕ) (a b : Reply) → ¬ PrintsHistory (command_of words) → IsReply words input a → IsReply words input b → a ≡ b
 one_reply one words input a b told is is' = one_of_command one (command_of words) input a b told is is'

@@ -54,6 +54,8 @@ refusal form c (replies.OutputCount have need) is = outputs_miscounted have need
 refusal form c (replies.Proof bad) is = bad_proof bad is
 refusal form c (replies.Verdict line) is = absurd is
 refusal form c (replies.Audit lines) is = absurd is
+refusal form c (replies.WordCount have need) is = absurd is
+refusal form c (replies.Session sizes) is = absurd is
 
 pub one_value : {A : Type 0} (o : Option A) (a b : A) → o ≡ Some a → o ≡ Some b → a ≡ b
 one_value o a b is is' = cc

@@ -50,6 +50,8 @@ answer kind c (replies.OutputCount have need) is = absurd is
 answer kind c (replies.Proof bad) is = absurd is
 answer kind c (replies.Verdict line) is = absurd is
 answer kind c (replies.Audit lines) is = absurd is
+answer kind c (replies.WordCount have need) is = absurd is
+answer kind c (replies.Session sizes) is = absurd is
 
 -- the inputs of a case that is proved are counted
 not_miscounted : (kind : ProofKind) → IsOne → IsOneProved → (c p : Content) (have need : ℕ) → IsProved kind c p → IsCircuitMiscounted c have need → ⊥

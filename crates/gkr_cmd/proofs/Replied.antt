@@ -31,7 +31,7 @@ use Rattle.gkr_cmd.specs.declared.reply_error.ReplyError.{ReplyError}
 use Rattle.gkr_cmd.specs.declared.status.Status.{Status}
 use Rattle.gkr_cmd.specs.declared.status.Status.TheVariants as statuses
 use Rattle.gkr_words.specs.declared.words.Command.{Command}
-use Rattle.gkr_words.specs.declared.words.Command.TheVariants.{OfCase, Demo, Serve, ServeHistory}
+use Rattle.gkr_words.specs.declared.words.Command.TheVariants.{OfCase, Demo, Serve, ServeHistory, Session}
 use Rattle.gkr_words.specs.declared.words.CaseCommand.{CaseCommand}
 use Rattle.gkr_words.specs.declared.words.CaseCommand.TheVariants.{Eval, Circuit, Prove, Verify, Audit, Convert}
 use Rattle.io_edge.specs.Written.{Grows}
@@ -46,7 +46,7 @@ front_of : (most : ℕ) (left new : Option (List ℕ)) (bytes input : List ℕ) 
 front_of most None new bytes input h e = absurd cc
 front_of most (Some told) new bytes input h e = let same : told ≡ input = cc in h.0 ∙ ap (take most) same
 
-longer : (most : ℕ) (left new : Option (List ℕ)) (bytes : List ℕ) → ReadsUpTo (most + 1) left new bytes → most < length bytes → (input : List ℕ) → left ≡ Some input → IsTooLong most input most
+pub longer : (most : ℕ) (left new : Option (List ℕ)) (bytes : List ℕ) → ReadsUpTo (most + 1) left new bytes → most < length bytes → (input : List ℕ) → left ≡ Some input → IsTooLong most input most
 longer most left new bytes h long input e =
     let front = front_of (most + 1) left new bytes input h e in
     record { limit_is = refl; longer = omega (arith, ap length front, length-take (most + 1) input) }
@@ -60,6 +60,7 @@ service_told (Some (Serve workers provers clients)) left input service told = to
 service_told (Some (ServeHistory workers provers clients)) left input service told = told
 service_told (Some (OfCase command)) left input service told = absurd service
 service_told (Some (Demo number workers)) left input service told = absurd service
+service_told (Some (Session piece workers)) left input service told = absurd service
 service_told None left input service told = absurd service
 
 pub service_too_long : (command : Option Command) (left new : Option (List ℕ)) (bytes : List ℕ) → IsService command → ReadsUpTo (script_limit + 1) left new bytes → script_limit < length bytes → (input : List ℕ) → IsInput command left input → IsCommandReply command input (replies.TooLong script_limit)
@@ -67,6 +68,7 @@ service_too_long (Some (Serve workers provers clients)) left new bytes service h
 service_too_long (Some (ServeHistory workers provers clients)) left new bytes service h long input told = longer script_limit left new bytes h long input told
 service_too_long (Some (OfCase command)) left new bytes service h long input told = absurd service
 service_too_long (Some (Demo number workers)) left new bytes service h long input told = absurd service
+service_too_long (Some (Session piece workers)) left new bytes service h long input told = absurd service
 service_too_long None left new bytes service h long input told = absurd service
 
 whole : (most : ℕ) (left new : Option (List ℕ)) (bytes : List ℕ) → ReadsUpTo (most + 1) left new bytes → length bytes ≤ most → (input : List ℕ) → left ≡ Some input → bytes ≡ input
@@ -76,7 +78,7 @@ whole most left new bytes h short input e =
     front ∙ take_all (most + 1) input (omega arith)
 
 -- the reply to what was read is the reply to the input
-replied_whole : (most : ℕ) (P : List ℕ → Reply → Type 0) (left new : Option (List ℕ)) (bytes : List ℕ) (result : Result Reply ReplyError) → ReadsUpTo (most + 1) left new bytes → length bytes ≤ most
+pub replied_whole : (most : ℕ) (P : List ℕ → Reply → Type 0) (left new : Option (List ℕ)) (bytes : List ℕ) (result : Result Reply ReplyError) → ReadsUpTo (most + 1) left new bytes → length bytes ≤ most
     → IfOk result (λ reply. P bytes reply) → IfOk result (λ reply. (input : List ℕ) → left ≡ Some input → P input reply)
 replied_whole most P left new bytes result h short replied =
     IfOk-weaker result _ _ (λ reply is input told. subst (λ read. P read reply) (whole most left new bytes h short input told) is) replied
@@ -111,6 +113,8 @@ script_named input (replies.OutputCount have need) is = absurd is
 script_named input (replies.Proof bad) is = absurd is
 script_named input (replies.Verdict line) is = absurd is
 script_named input (replies.Audit lines) is = absurd is
+script_named input (replies.WordCount have need) is = absurd is
+script_named input (replies.Session sizes) is = absurd is
 
 -- the reply of `serve --history` doesn't refuse the words
 history_named : (input : List ℕ) (reply : Reply) → IsHistoryReply input reply → status_of reply ≢ statuses.Usage
@@ -131,6 +135,8 @@ history_named input (replies.OutputCount have need) is = absurd is
 history_named input (replies.Proof bad) is = absurd is
 history_named input (replies.Verdict line) is = absurd is
 history_named input (replies.Audit lines) is = absurd is
+history_named input (replies.WordCount have need) is = absurd is
+history_named input (replies.Session sizes) is = absurd is
 
 -- nor does that of either
 pub service_named : (command : Option Command) (input : List ℕ) (result : Result Reply ReplyError) → IsService command → IfOk result (λ reply. IsCommandReply command input reply) → IfOk result (λ reply. status_of reply ≢ statuses.Usage)
@@ -138,6 +144,7 @@ service_named (Some (Serve workers provers clients)) input result service replie
 service_named (Some (ServeHistory workers provers clients)) input result service replied = IfOk-weaker result _ _ (λ reply is. history_named input reply is) replied
 service_named (Some (OfCase command)) input result service replied = absurd service
 service_named (Some (Demo number workers)) input result service replied = absurd service
+service_named (Some (Session piece workers)) input result service replied = absurd service
 service_named None input result service replied = absurd service
 
 -- a service reads a script
@@ -146,6 +153,7 @@ service_limit (Some (Serve workers provers clients)) service = refl
 service_limit (Some (ServeHistory workers provers clients)) service = refl
 service_limit (Some (OfCase command)) service = absurd service
 service_limit (Some (Demo number workers)) service = absurd service
+service_limit (Some (Session piece workers)) service = absurd service
 service_limit None service = absurd service
 
 -- a named command's input is told by its source
@@ -153,6 +161,7 @@ pub input_of : (named : CaseCommand) (command : Option Command) (left : Option (
 input_of named (Some (Demo number workers)) left input is told = absurd cc
 input_of named (Some (Serve workers provers clients)) left input is told = absurd cc
 input_of named (Some (ServeHistory workers provers clients)) left input is told = absurd cc
+input_of named (Some (Session piece workers)) left input is told = absurd cc
 input_of named None left input is told = absurd cc
 input_of named (Some (OfCase command)) left input is told = told
 
@@ -202,6 +211,8 @@ replied (replies.Verdict (told.Sum layer round had claim)) = tt
 replied (replies.Verdict (told.End layer had want)) = tt
 replied (replies.Verdict (told.Input had want)) = tt
 replied (replies.Audit lines) = tt
+replied (replies.WordCount have need) = tt
+replied (replies.Session sizes) = tt
 
 -- a reply to an input doesn't refuse the words
 pub named : (form : Form) (answers : Content → Reply → Type 0) (input : List ℕ) (reply : Reply) → IsCaseReply form answers input reply → status_of reply ≢ statuses.Usage
@@ -225,6 +236,8 @@ named form answers input (replies.Verdict (told.Sum layer round had claim)) is =
 named form answers input (replies.Verdict (told.End layer had want)) is = λ e. cc
 named form answers input (replies.Verdict (told.Input had want)) is = λ e. cc
 named form answers input (replies.Audit lines) is = λ e. cc
+named form answers input (replies.WordCount have need) is = λ e. cc
+named form answers input (replies.Session sizes) is = λ e. cc
 
 -- what is made of a refusal of `eval` is its answer
 pub eval_refused : (refused : Refused) (c : Content) → Refuses c refused → IfOk (refused_reply refused) (λ reply. IsEvalAnswer c reply)
@@ -275,6 +288,8 @@ demo_named number (replies.OutputCount have need) is = absurd is
 demo_named number (replies.Proof bad) is = absurd is
 demo_named number (replies.Verdict line) is = absurd is
 demo_named number (replies.Audit lines) is = absurd is
+demo_named number (replies.WordCount have need) is = absurd is
+demo_named number (replies.Session sizes) is = absurd is
 
 -- what is made of a refusal of `verify` is its answer
 pub verify_refused : (refused : Refused) (c : Content) → RefusesVerify c refused → IfOk (refused_reply refused) (λ reply. IsVerifyAnswer c reply)
@@ -358,6 +373,8 @@ answers_a_case command c (replies.OutputCount have need) is = tt
 answers_a_case command c (replies.Proof bad) is = tt
 answers_a_case command c (replies.Verdict line) is = tt
 answers_a_case command c (replies.Audit lines) is = tt
+answers_a_case command c (replies.WordCount have need) is = tt
+answers_a_case command c (replies.Session sizes) is = tt
 
 of_case : (form : Form) (answers : Content → Reply → Type 0) (input : List ℕ) (reply : Reply) → IsOfACase reply → IsOfCase form input (λ c. answers c reply) → IsCaseReply form answers input reply
 of_case form answers input (replies.Outputs values) of is = is
@@ -377,6 +394,8 @@ of_case form answers input (replies.OutputCount have need) of is = is
 of_case form answers input (replies.Proof bad) of is = is
 of_case form answers input (replies.Verdict line) of is = is
 of_case form answers input (replies.Audit lines) of is = is
+of_case form answers input (replies.WordCount have need) of is = is
+of_case form answers input (replies.Session sizes) of is = is
 
 -- what a command says of the case that the input spells is its reply to the input
 pub answered : (command : CaseCommand) (input : List ℕ) (c : Content) (result : Result Reply ReplyError) → IsWithinLimit input → reading (form_of command) input ≡ Ok c

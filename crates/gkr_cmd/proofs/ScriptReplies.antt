@@ -41,6 +41,8 @@ found input (replies.OutputCount have need) is = absurd is
 found input (replies.Proof bad) is = absurd is
 found input (replies.Verdict line) is = absurd is
 found input (replies.Audit lines) is = absurd is
+found input (replies.WordCount have need) is = absurd is
+found input (replies.Session sizes) is = absurd is
 
 same_script : (r : Result (List ScriptJob) BadCase) (a b : List ScriptJob) → r ≡ Ok a → r ≡ Ok b → a ≡ b
 same_script r a b is is' = cc

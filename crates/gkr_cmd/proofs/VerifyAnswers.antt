@@ -53,6 +53,8 @@ answer c (replies.OutputCount have need) is = no_verdict (refusal (proof_form c)
 answer c (replies.Proof bad) is = no_verdict (refusal (proof_form c) c (replies.Proof bad) is)
 answer c (replies.Verdict line) is = with_line c line is
 answer c (replies.Audit lines) is = absurd is
+answer c (replies.WordCount have need) is = absurd is
+answer c (replies.Session sizes) is = absurd is
 
 -- a case with a verdict has a proof in the form that its fourth byte names
 form_read : IsOneProof → (c : Content) (v : Verdict) (is : IsVerdictOn c v) → is.form ≡ proof_form c

@@ -14,18 +14,19 @@ use Rattle.case_text.specs.declared.verdict.VerdictLine.TheVariants.{Accepted}
 use Rattle.gkr_cmd.specs.declared.status.Status.{Status}
 use Rattle.gkr_cmd.specs.declared.status.Status.TheVariants as statuses
 use Rattle.gkr_words.specs.declared.words.Command.{Command}
-use Rattle.gkr_words.specs.declared.words.Command.TheVariants.{OfCase, Demo, Serve, ServeHistory}
+use Rattle.gkr_words.specs.declared.words.Command.TheVariants.{OfCase, Demo, Serve, ServeHistory, Session}
 use Rattle.gkr_words.specs.declared.words.CaseCommand.TheVariants.{Eval, Circuit, Prove, Verify, Audit, Convert}
 use Rattle.script_text.specs.declared.script.MarkedJob.{MarkedJob}
 use Rattle.script_text.specs.declared.script.ScriptJob.{ScriptJob}
 use Rattle.script_text.specs.Scripts.{history_script_reading, script_reading}
+use Rattle.session_text.specs.Sessions.{SessionContent, session_reading}
 use Rattle.gkr_words.specs.Commands.{ReadsCase, command_of, input_limit, read_room, script_limit}
 use Rattle.gkr_cmd.specs.Reached.{IsReadUpTo, ReadsWithin}
-use Rattle.gkr_cmd.specs.Replies.{IsOfCase}
+use Rattle.gkr_cmd.specs.Replies.{IsOfCase, IsOfSession}
 use Rattle.case_prove.specs.Verified.{HasAcceptedProof}
-use Rattle.gkr_cmd.specs.Runs.{EndsWithReply, HasCircuit, HasLineProof, IsConvertible, IsEvaluable, IsInput}
+use Rattle.gkr_cmd.specs.Runs.{EndsWithReply, HasCircuit, HasLineProof, HasWords, IsConvertible, IsEvaluable, IsInput}
 use Rattle.gkr_cmd.specs.Runs.{IsReplied, WritesAudit, WritesConverted, WritesHistory, WritesHonestProof}
-use Rattle.gkr_cmd.specs.Runs.{WritesNoMore, WritesReplies}
+use Rattle.gkr_cmd.specs.Runs.{WritesNoMore, WritesReplies, WritesSession}
 
 -- What the source and the sink of a run tell at one moment: the bytes that are left, the calls that
 -- read and the bytes that were written, where they tell them, and how often each has failed.
@@ -91,6 +92,16 @@ pub record Headline (run : Run) : Type 0 where
       → Asks run (OfCase (Convert version)) input → reading Full input ≡ Ok content
       → run.ended ≡ statuses.Done
       → WritesConverted version content run.before.written run.after.written
+  -- `session`, with pieces of any size, answers exactly the cases whose program has a circuit with
+  -- as many inputs, with two words for each challenge.
+  pub in_session : (input : List ℕ) (piece workers : ℕ) → Asks run (Session piece workers) input
+      → IsReplied run.ended → (run.ended ≡ statuses.Done) ↔ IsOfSession input HasWords
+  -- It then writes how many bytes each end of the session was sent until both were at its end,
+  -- where the verifier accepts: a function of the text alone.
+  pub session_text : (input : List ℕ) (piece workers : ℕ) (content : SessionContent)
+      → Asks run (Session piece workers) input → session_reading input ≡ Ok content
+      → run.ended ≡ statuses.Done
+      → WritesSession content run.before.written run.after.written
   -- A case whose program has a circuit with as many inputs is proved.
   pub proved : (input : List ℕ) (workers : ℕ) (kind : ProofKind)
       → Asks run (OfCase (Prove workers kind)) input

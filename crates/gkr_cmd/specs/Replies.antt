@@ -31,7 +31,7 @@ use Rattle.gkr_cmd.specs.declared.status.Status.TheVariants as statuses
 use Rattle.gkr_words.specs.declared.words.CaseCommand.{CaseCommand}
 use Rattle.gkr_words.specs.declared.words.CaseCommand.TheVariants as commands
 use Rattle.gkr_words.specs.declared.words.Command.{Command}
-use Rattle.gkr_words.specs.declared.words.Command.TheVariants.{OfCase, Demo, Serve, ServeHistory}
+use Rattle.gkr_words.specs.declared.words.Command.TheVariants.{OfCase, Demo, Serve, ServeHistory, Session}
 use Rattle.case_prove.specs.Answers.{IsProveAnswer}
 use Rattle.case_text.specs.Histories.{History}
 use Rattle.case_text.specs.Served.{Served}
@@ -39,6 +39,8 @@ use Rattle.script_text.specs.declared.script.MarkedJob.{MarkedJob}
 use Rattle.script_text.specs.declared.script.ScriptJob.{ScriptJob}
 use Rattle.script_text.specs.Scripts.{history_script_reading, script_reading}
 use Rattle.script_prove.specs.Served.{AreServed, IsServedHistory}
+use Rattle.session_text.specs.Sessions.{SessionContent, session_reading}
+use Rattle.session_prove.specs.Sessions.{IsSession, IsWordMiscounted}
 use Rattle.gkr_words.specs.Commands.{case_limit, command_of, script_limit}
 use Rattle.gkr_cmd.specs.Demo.{IsDemo}
 
@@ -148,6 +150,36 @@ abbrev pub IsDemoAnswer : ℕ → Reply → Type 0
 IsDemoAnswer number (replies.Demo summary) = IsDemo number summary
 IsDemoAnswer number reply = ⊥
 
+-- The input is a session's text, and this holds of its case and words.
+pub record IsOfSession (input : List ℕ) (P : SessionContent → Type 0) : Type 0 where
+  pub within : IsWithinLimit input
+  pub content : SessionContent
+  pub read : session_reading input ≡ Ok content
+  pub holds : P content
+
+-- The input is within the limit and no session's text, for this reason at this place.
+pub record IsNoSession (input : List ℕ) (bad : BadCase) : Type 0 where
+  pub within : IsWithinLimit input
+  pub read : session_reading input ≡ Err bad
+
+-- when a reply is what `session` says of a case and its words
+abbrev pub IsSessionAnswer : SessionContent → Reply → Type 0
+IsSessionAnswer s (replies.Program kind at) = IsRefusedAs s.case.program at kind
+IsSessionAnswer s (replies.Deep levels) = IsTooLarge s.case.program (layout.Deep levels)
+IsSessionAnswer s (replies.Wide height width) =
+    IsTooLarge s.case.program (layout.Wide height width)
+IsSessionAnswer s (replies.InputCount have need) = IsCircuitMiscounted s.case have need
+IsSessionAnswer s (replies.WordCount have need) = IsWordMiscounted s.case s.words have need
+IsSessionAnswer s (replies.Session sizes) = IsSession s.case s.words sizes
+IsSessionAnswer s reply = ⊥
+
+-- when a reply is the one of `session`, which is the same for pieces of any size
+abbrev pub IsSessionReply : List ℕ → Reply → Type 0
+IsSessionReply input replies.Usage = ⊥
+IsSessionReply input (replies.TooLong limit) = IsTooLong case_limit input limit
+IsSessionReply input (replies.Case bad) = IsNoSession input bad
+IsSessionReply input reply = IsOfSession input (λ s. IsSessionAnswer s reply)
+
 -- The input is within the limit and no script's text, for this reason at this place.
 pub record IsNoScript (input : List ℕ) (bad : BadCase) : Type 0 where
   pub within : length input ≤ script_limit
@@ -196,6 +228,7 @@ IsCommandReply (Some (Demo number workers)) input reply = IsDemoAnswer number re
 IsCommandReply (Some (Serve workers provers clients)) input reply = IsScriptReply input reply
 IsCommandReply (Some (ServeHistory workers provers clients)) input reply =
     IsHistoryReply input reply
+IsCommandReply (Some (Session piece workers)) input reply = IsSessionReply input reply
 
 -- A reply to the words, and to the input of the command that they name.
 abbrev pub IsReply : List (List ℕ) → List ℕ → Reply → Type 0
@@ -226,6 +259,8 @@ status_of (replies.Served jobs) = statuses.Done
 status_of (replies.History history) = statuses.Done
 status_of (replies.Verdict line) = verdict_status line
 status_of (replies.Audit audit) = statuses.Done
+status_of (replies.WordCount have need) = statuses.BadCount
+status_of (replies.Session sizes) = statuses.Done
 
 -- the number that the program ends with
 abbrev pub code_of : Status → ℕ

@@ -20,9 +20,9 @@ use Rattle.case_text.specs.declared.reply.Reply.{Reply}
 use Rattle.gkr_layers.specs.declared.verdict.Verdict.TheVariants as verdicts
 use Rattle.gkr_cmd.specs.declared.status.Status.TheVariants as statuses
 use Rattle.gkr_cmd.specs.Replies.{IsAuditAnswer, IsCaseReply, IsCircuitAnswer, IsConvertAnswer, IsDemoAnswer}
-use Rattle.gkr_cmd.specs.Replies.{IsEvalAnswer, IsOfCase}
+use Rattle.gkr_cmd.specs.Replies.{IsEvalAnswer, IsOfCase, IsOfSession, IsSessionReply}
 use Rattle.gkr_cmd.specs.Replies.{IsVerifyAnswer, status_of}
-use Rattle.gkr_cmd.specs.Runs.{HasCircuit, HasLineProof, IsConvertible, IsEvaluable}
+use Rattle.gkr_cmd.specs.Runs.{HasCircuit, HasLineProof, HasWords, IsConvertible, IsEvaluable}
 
 pub record RunLaws : Type 0 where
   pub evaluable : (input : List ℕ) (reply : Reply) → IsCaseReply Plain IsEvalAnswer input reply
@@ -38,6 +38,8 @@ pub record RunLaws : Type 0 where
       → IsOfCase Full input HasAcceptedProof → status_of reply ≡ statuses.Done
   pub audited : (input : List ℕ) (reply : Reply) → IsCaseReply Full IsAuditAnswer input reply
       → IsOfCase Full input HasLineProof → status_of reply ≡ statuses.Done
+  pub in_session : (input : List ℕ) (reply : Reply) → IsSessionReply input reply
+      → IsOfSession input HasWords → status_of reply ≡ statuses.Done
   pub one_audit : (c : Content) (audit other : Audit) → IsAudited c audit → IsAudited c other
       → audit ≡ other
   pub audit_verdict : (c : Content) (audit : Audit) → IsAudited c audit

@@ -22,16 +22,19 @@ use Rattle.proof_wire.specs.declared.form.ProofForm.TheVariants.{Line}
 use Rattle.proof_wire.specs.declared.messages.Messages.{Messages}
 use Rattle.case_text.specs.Content.{Content}
 use Rattle.case_text.specs.Histories.{History}
-use Rattle.case_text.specs.Replies.{audit_text, history_text, reply_text, served_text}
+use Rattle.case_text.specs.Replies.{audit_text, history_text, reply_text, served_text, session_text}
 use Rattle.case_text.specs.Served.{Served}
+use Rattle.case_text.specs.declared.session.SessionSizes.{SessionSizes}
 use Rattle.script_text.specs.declared.script.MarkedJob.{MarkedJob}
 use Rattle.script_text.specs.declared.script.ScriptJob.{ScriptJob}
 use Rattle.script_prove.specs.Served.{AreServed, IsServedHistory}
+use Rattle.session_text.specs.Sessions.{SessionContent}
+use Rattle.session_prove.specs.Sessions.{IsPaired, IsSession}
 use Rattle.case_text.specs.Spelling.{lower_case_text}
 use Rattle.case_text.specs.declared.form.Form.TheVariants.{Full}
 use Rattle.case_text.specs.declared.reply.Reply.{Reply}
 use Rattle.gkr_words.specs.declared.words.Command.{Command}
-use Rattle.gkr_words.specs.declared.words.Command.TheVariants.{OfCase, Demo, Serve, ServeHistory}
+use Rattle.gkr_words.specs.declared.words.Command.TheVariants.{OfCase, Demo, Serve, ServeHistory, Session}
 use Rattle.gkr_cmd.specs.declared.status.Status.{Status}
 use Rattle.gkr_cmd.specs.declared.status.Status.TheVariants as statuses
 use Rattle.gkr_cmd.specs.Replies.{IsOfCase, IsReply, IsVerifyAnswer, status_of}
@@ -46,6 +49,7 @@ IsInput (Some (OfCase command)) left input = left ≡ Some input
 IsInput (Some (Demo number workers)) left input = ⊤
 IsInput (Some (Serve workers provers clients)) left input = left ≡ Some input
 IsInput (Some (ServeHistory workers provers clients)) left input = left ≡ Some input
+IsInput (Some (Session piece workers)) left input = left ≡ Some input
 
 -- A run that wrote its reply whole.
 abbrev pub IsReplied : Status → Type 0
@@ -133,6 +137,17 @@ pub record WritesConverted (version : ProofVersion) (c : Content) (before after 
 pub record IsConvertible (version : ProofVersion) (c : Content) : Type 0 where
   pub written : Content
   pub is_converted : IsConverted version c written
+
+-- A case whose program has a circuit with as many inputs, with two words for each of the circuit's challenges.
+pub record HasWords (s : SessionContent) : Type 0 where
+  pub parts : Parts
+  pub paired : IsPaired s.case s.words parts
+
+-- The run wrote the sizes of the session on this case with these words, in which the verifier accepts the program's meaning.
+pub record WritesSession (s : SessionContent) (before after : Option (List ℕ)) : Type 0 where
+  pub sizes : SessionSizes
+  pub is_session : IsSession s.case s.words sizes
+  pub written : Grows before after (session_text sizes)
 
 -- The run wrote the replies of `prove` to these jobs, in their order, and the line on all of them.
 pub record WritesReplies (script : List ScriptJob) (before after : Option (List ℕ)) : Type 0 where

@@ -5,13 +5,13 @@ ghost use Rattle.case_text.specs.Content.{Content};
 ghost use Rattle.case_text.specs.declared.form.Form.TheVariants.{Full, Plain};
 ghost use Rattle.case_text.specs.declared.reply.Reply.{Reply};
 ghost use Rattle.gkr_cmd.specs.declared.status.Status.TheVariants.{Done};
-ghost use Rattle.gkr_cmd.specs.Replies.{IsAuditAnswer, IsCaseReply, IsCircuitAnswer, IsConvertAnswer, IsDemoAnswer, IsEvalAnswer, IsVerifyAnswer, IsOfCase, IsReply, status_of};
+ghost use Rattle.gkr_cmd.specs.Replies.{IsAuditAnswer, IsCaseReply, IsCircuitAnswer, IsConvertAnswer, IsDemoAnswer, IsEvalAnswer, IsVerifyAnswer, IsOfCase, IsOfSession, IsReply, IsSessionReply, status_of};
 ghost use Rattle.proof_two.specs.declared.kind.ProofKind.{ProofKind};
 ghost use Rattle.proof_two.specs.declared.kind.ProofVersion.{ProofVersion};
 ghost use Rattle.case_prove.specs.Answers.{IsProveAnswer};
 ghost use Rattle.case_prove.specs.Converted.{IsConverted};
 ghost use Rattle.case_prove.specs.Verified.{HasAcceptedProof};
-ghost use Rattle.gkr_cmd.specs.Runs.{HasCircuit, HasLineProof, IsConvertible, IsEvaluable};
+ghost use Rattle.gkr_cmd.specs.Runs.{HasCircuit, HasLineProof, HasWords, IsConvertible, IsEvaluable};
 ghost use Rattle.gkr_cmd.specs.Demo.{demo_case};
 ghost use Rattle.gkr_words.specs.Commands.{PrintsHistory, command_of};
 
@@ -21,6 +21,7 @@ use arr_compile::laws::{
 };
 use arr_lower::laws::nodes_in_order;
 use case_prove::laws::{audit_is_one, converted_keeps, one_saying, proved_is_one};
+use session_prove::laws::one_session;
 
 /// Words and an input have at most one reply, but where the words ask for a history, which the schedule chooses.
 pub fn one_reply()
@@ -39,6 +40,7 @@ pub fn one_reply()
     proved_is_one();
     audit_is_one();
     converted_keeps();
+    one_session();
 }
 
 /// The reply to a case with an accepted program and as many inputs as it needs is its outputs.
@@ -67,6 +69,17 @@ pub fn provable_is_done()
     ensures { (kind : ProofKind) (input : List ℕ) (reply : Reply)
         → IsCaseReply Plain (IsProveAnswer kind) input reply
         → IsOfCase Plain input HasCircuit → status_of reply ≡ Done }
+{
+    one_circuit();
+    one_circuit_refusal();
+    compiled_or_refused();
+}
+
+/// The reply of `session` to a case whose program has a circuit with as many inputs, with two words for each challenge, is the
+/// session's sizes.
+pub fn session_is_done()
+    ensures { (input : List ℕ) (reply : Reply) → IsSessionReply input reply
+        → IsOfSession input HasWords → status_of reply ≡ Done }
 {
     one_circuit();
     one_circuit_refusal();

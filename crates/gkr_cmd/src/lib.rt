@@ -21,6 +21,7 @@ mod reply_error;
 mod replying;
 mod run;
 mod serving;
+mod session;
 mod status;
 mod told;
 

@@ -2,7 +2,7 @@
 
 ghost use Rattle.std.specs.Prelude.{◌≡◌, ◌≢◌, ◌↔◌, ◌+◌, List, ℕ, IfOk, IfSome, OnOk, IsErrOf, None, Some, Ok, Err};
 ghost use Rattle.io_edge.specs.Causes.{Rose};
-ghost use Rattle.gkr_words.specs.Commands.{HasWorkers, IsService, ReadsCase, case_limit, input_limit, read_room};
+ghost use Rattle.gkr_words.specs.Commands.{HasPiece, HasWorkers, IsService, ReadsCase, case_limit, input_limit, read_room};
 ghost use Rattle.gkr_cmd.specs.Reached.{IsReadUpTo, ReadsWithin};
 ghost use Rattle.gkr_cmd.specs.Replies.{IsCommandReply, status_of};
 ghost use Rattle.gkr_cmd.specs.Runs.{IsInput};
@@ -11,6 +11,7 @@ use crate::answering::answer;
 use crate::demo::demo;
 use crate::input::read_input;
 use crate::reply_error::ReplyError;
+use crate::session::run_session;
 use crate::status::Status;
 use case_text::Reply;
 use gkr_words::{CaseCommand, Command};
@@ -20,7 +21,7 @@ use std::marker::Sync;
 use std::thread::Threads;
 
 /// The most bytes of a case.
-const CASE_LIMIT: u32 = 4_194_304;
+pub(crate) const CASE_LIMIT: u32 = 4_194_304;
 
 /// The reply of a command on a case to what it reads.
 fn run_command<R: Threads + Sync, S: Source, G: Gate>(
@@ -59,6 +60,7 @@ pub fn reply_alone<R: Threads + Sync, S: Source, G: Gate>(
     gate: &G,
 ) -> Result<Reply, ReplyError>
     requires workers { IfSome command HasWorkers }
+    requires piece { IfSome command HasPiece }
     requires alone { ¬ IsService command }
     ensures reply { IfOk result (λ reply. (input : List ℕ)
         → IsInput command (S.left source.old) input → IsCommandReply command input reply) }
@@ -77,6 +79,9 @@ pub fn reply_alone<R: Threads + Sync, S: Source, G: Gate>(
         None => Ok(Reply::Usage),
         Some(Command::OfCase(command)) => run_command(rt, alloc, command, source, gate),
         Some(Command::Demo { number, workers }) => demo(rt, alloc, number, workers, gate),
+        Some(Command::Session { piece, workers }) => {
+            run_session(rt, alloc, piece, workers, source, gate)
+        }
         Some(Command::Serve { .. } | Command::ServeHistory { .. }) => unreachable!(),
     }
 }

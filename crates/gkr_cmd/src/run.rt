@@ -7,7 +7,7 @@ ghost use Rattle.gkr_cmd.specs.RunLaws.{RunLaws};
 
 use crate::laws::{
     accepted_is_done, audited_is_done, converted_replies_alike, convertible_is_done, demo_is_done,
-    evaluable_is_done, laid_out_is_done, provable_is_done,
+    evaluable_is_done, laid_out_is_done, provable_is_done, session_is_done,
 };
 use crate::output::finish;
 use crate::replying::reply_alone;
@@ -33,6 +33,7 @@ fn run_laws()
     evaluable_is_done();
     laid_out_is_done();
     provable_is_done();
+    session_is_done();
     demo_is_done();
     accepted_is_done();
     audited_is_done();

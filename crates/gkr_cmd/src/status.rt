@@ -14,11 +14,11 @@ pub enum Status {
     Rejected = 1,
     /// The words are no command.
     Usage = 2,
-    /// The input is no text of a case.
+    /// The input is no text of a case, of a session or of a script.
     BadCase = 3,
     /// The case's program is refused, or its circuit is too large.
     BadProgram = 4,
-    /// The case has another number of inputs or outputs than its program.
+    /// The case has another number of inputs or outputs than its program, or a session of words than of challenges.
     BadCount = 5,
     /// The proof's bytes spell no messages of the circuit's shape.
     BadProof = 6,
@@ -45,13 +45,16 @@ impl Status {
             | Reply::Served(_)
             | Reply::History(_)
             | Reply::Audit(_)
+            | Reply::Session(_)
             | Reply::Verdict(VerdictLine::Accepted) => Status::Done,
             Reply::Verdict(_) => Status::Rejected,
             Reply::Usage => Status::Usage,
             Reply::TooLong(_) => Status::TooLong,
             Reply::Case(_) => Status::BadCase,
             Reply::Program { .. } | Reply::Deep { .. } | Reply::Wide { .. } => Status::BadProgram,
-            Reply::InputCount { .. } | Reply::OutputCount { .. } => Status::BadCount,
+            Reply::InputCount { .. } | Reply::OutputCount { .. } | Reply::WordCount { .. } => {
+                Status::BadCount
+            }
             Reply::Proof(_) => Status::BadProof,
         }
     }

@@ -1,12 +1,12 @@
 -- Which words are which command: the walk of `clap` over the words that people write.
 use Rattle.std.proofs.Common.{◌≡◌, ◌≢◌, ◌∙◌, ◌<◌, ◌≤◌, ◌^◌, ◌++◌, Bool, true, false, ℕ, List, [], ◌∷◌, length, Option, Some, None, is_some, option_map, ap, ap₂, refl, sym, subst, inl, inr, codes, decimal, arith}
-use Rattle.std.proofs.lemmas.Bool.{cases_Bool, and_from, eqb-true, le-leb}
+use Rattle.std.proofs.lemmas.Bool.{cases_Bool, and_from, and_parts, cond-false, eqb-true, false_from_ne_true, le-leb, leb-true}
 use Rattle.std.proofs.lemmas.Fmt.{decimal_is_IsNumeral}
 use Rattle.std.proofs.lemmas.List.{append-nil, append_assoc}
 use Rattle.std.proofs.lemmas.Slice.Eq.{bytes_eq-Decides}
 use Rattle.std.specs.List.{fold}
 use Rattle.std.specs.Option.{option_map_or}
-use Rattle.std.specs.Prelude.{◌==◌, find, if◌then◌else◌, option_and_then, slice_get, unwrap_or}
+use Rattle.std.specs.Prelude.{◌==◌, ◌&&◌, find, if◌then◌else◌, nat_le, option_and_then, slice_get, unwrap_or}
 use Rattle.std.specs.Str.{bytes_eq, chars}
 use Rattle.std.specs.Str.Parse.{AllDigits}
 use Rattle.clap.specs.Faults.{bundle_fault, bundle_step_fault, check_fault, defaults_fault, entered_fault, flag_word_fault, flags_fault, level_fault, other_fault, settle_fault, step_fault, turn_fault, walk_fault, word_fault}
@@ -18,9 +18,9 @@ use Rattle.clap.specs.Words.{fault_of, subcommand_of}
 use Rattle.clap.proofs.OnLiterals.{clap_on_literals}
 use Rattle.proof_two.specs.declared.kind.ProofKind.TheVariants.{ByLines, ByPairs}
 use Rattle.proof_two.specs.declared.kind.ProofVersion.TheVariants.{One, Two}
-use Rattle.gkr_words.specs.declared.words.Command.TheVariants.{OfCase, Demo, Serve, ServeHistory}
+use Rattle.gkr_words.specs.declared.words.Command.TheVariants.{OfCase, Demo, Serve, ServeHistory, Session}
 use Rattle.gkr_words.specs.declared.words.CaseCommand.TheVariants.{Eval, Circuit, Prove, Verify, Audit, Convert}
-use Rattle.gkr_words.specs.Commands.{command_line, command_of, command_of_rows, command_unless, demo_of, if_worker_count, number_of, prove_of, workers_of}
+use Rattle.gkr_words.specs.Commands.{IsPieceSize, command_line, command_of, command_of_rows, command_unless, demo_of, if_piece_size, if_worker_count, number_of, piece_of, prove_of, session_of, workers_of}
 use Rattle.gkr_words.proofs.Numbers.{number_taken}
 use Rattle.gkr_words.proofs.WordsRead.{command_taken}
 
@@ -125,6 +125,14 @@ demo_is = record { stops = refl; passes = refl; found = refl; named = refl }
 serve_is : IsNameOf (codes "serve") (leaf (codes "serve"))
 unfolding clap_on_literals
 serve_is = record { stops = refl; passes = refl; found = refl; named = refl }
+
+session_is : IsNameOf (codes "session") (leaf (codes "session"))
+unfolding clap_on_literals
+session_is = record { stops = refl; passes = refl; found = refl; named = refl }
+
+pub session_alone : (program : Text) → command_of (program ∷ codes "session" ∷ []) ≡ None
+unfolding clap_on_literals
+session_alone program = by_leaf (codes "session") (leaf (codes "session")) session_is program [] refl
 
 pub serve_words : (program : Text) → command_of (program ∷ codes "serve" ∷ []) ≡ Some (Serve 1 1 1)
 unfolding clap_on_literals
@@ -324,6 +332,51 @@ unfolding clap_on_literals
 demo_with program n v is is' =
     by_end (codes "demo") (leaf (codes "demo")) demo_is program (n ∷ codes "--workers" ∷ v ∷ []) (at (has_workers (after_number n) v) idle 2) (demo_with_end n v is is')
 
+abbrev waits_for_piece : Held
+waits_for_piece = record nothing_held { pending = Some (codes "piece", []) }
+
+abbrev has_piece : Text → Held
+has_piece b = record nothing_held { pending = Some (codes "piece", b ∷ []) }
+
+session_end : (b : Text) → IsPlainWord b → EndsAt (leaf (codes "session")) (codes "--piece" ∷ b ∷ []) (at (has_piece b) idle 1)
+unfolding clap_on_literals
+session_end b is =
+    let s = leaf (codes "session") in
+    record {
+      ends = plain_walked s.rules waits_for_piece (option (codes "piece")) 1 b is;
+      passes = ap (λ kinds. or_else kinds []) (plain_turn s waits_for_piece (option (codes "piece")) 1 b is);
+      finishes = refl;
+    }
+
+pub session_plain : (program b : Text) → IsPlainWord b → command_of (program ∷ codes "session" ∷ codes "--piece" ∷ b ∷ []) ≡ session_of (piece_of (Some b)) (Some 1)
+unfolding clap_on_literals
+session_plain program b is = by_end (codes "session") (leaf (codes "session")) session_is program (codes "--piece" ∷ b ∷ []) (at (has_piece b) idle 1) (session_end b is)
+
+-- what the piece leaves where it is used
+abbrev after_piece : Text → Held
+after_piece b = settled (leaf (codes "session")).rules (has_piece b)
+
+session_with_end : (b v : Text) → IsPlainWord b → IsPlainWord v → EndsAt (leaf (codes "session")) (codes "--piece" ∷ b ∷ codes "--workers" ∷ v ∷ []) (at (has_workers (after_piece b) v) idle 1)
+unfolding clap_on_literals
+session_with_end b v is is' =
+    let s = leaf (codes "session") in
+    let first = plain_walked s.rules waits_for_piece (option (codes "piece")) 1 b is in
+    let held = waits_for_workers (after_piece b) in
+    record {
+      ends =
+          ap (λ w. walked s.rules [] (walked s.rules [] w (codes "--workers")) v) first ∙ plain_walked s.rules held (option (codes "workers")) 1 v is';
+      passes =
+          ap₂ (λ kinds w. or_else kinds (or_else (turn_fault s [] w (codes "--workers")) (or_else (turn_fault s [] (walked s.rules [] w (codes "--workers")) v) [])))
+          (plain_turn s waits_for_piece (option (codes "piece")) 1 b is) first
+          ∙ ap (λ kinds. or_else kinds []) (plain_turn s held (option (codes "workers")) 1 v is');
+      finishes = refl;
+    }
+
+pub session_with : (program b v : Text) → IsPlainWord b → IsPlainWord v → command_of (program ∷ codes "session" ∷ codes "--piece" ∷ b ∷ codes "--workers" ∷ v ∷ []) ≡ session_of (piece_of (Some b)) (workers_of (Some v))
+unfolding clap_on_literals
+session_with program b v is is' =
+    by_end (codes "session") (leaf (codes "session")) session_is program (codes "--piece" ∷ b ∷ codes "--workers" ∷ v ∷ []) (at (has_workers (after_piece b) v) idle 1) (session_with_end b v is is')
+
 -- ---- numbers
 
 plain_by : (word : Text) → 0 < length word → ((rest : Text) → word ≡ 45 ∷ rest → ⊥) → IsPlainWord word
@@ -371,6 +424,31 @@ pub demo_by : (program : Text) (number workers : ℕ) → number < 2 ^ 32 → 1 
 demo_by program number workers fits least most =
     demo_with program (decimal number) (decimal workers) (decimal_plain number fits) (decimal_plain workers (omega arith))
     ∙ ap₂ demo_of (number_taken (decimal number) number fits refl) (workers_taken workers least most)
+
+piece_taken : (n : ℕ) → 1 ≤ n → n ≤ 65536 → piece_of (Some (decimal n)) ≡ Some n
+piece_taken n least most =
+    ap (option_and_then if_piece_size) (number_taken (decimal n) n (omega arith) refl)
+    ∙ ap (λ b. if b then Some n else None) (and_from _ _ (le-leb 1 n least) (le-leb n 65536 most))
+
+piece_untaken : (n : ℕ) → n < 2 ^ 32 → (IsPieceSize n → ⊥) → piece_of (Some (decimal n)) ≡ None
+piece_untaken n fits other =
+    let offered : Bool = nat_le 1 n && nat_le n 65536 in
+    let refused : offered ≡ false = false_from_ne_true offered (λ t. let parts = and_parts (nat_le 1 n) (nat_le n 65536) t in other (leb-true 1 n parts.0, leb-true n 65536 parts.1)) in
+    ap (option_and_then if_piece_size) (number_taken (decimal n) n fits refl) ∙ cond-false offered (Some n) None refused
+
+pub session_of_piece : (program : Text) (piece : ℕ) → 1 ≤ piece → piece ≤ 65536 → command_of (program ∷ codes "session" ∷ codes "--piece" ∷ decimal piece ∷ []) ≡ Some (Session piece 1)
+session_of_piece program piece least most =
+    session_plain program (decimal piece) (decimal_plain piece (omega arith)) ∙ ap (λ n. session_of n (Some 1)) (piece_taken piece least most)
+
+pub session_by : (program : Text) (piece workers : ℕ) → 1 ≤ piece → piece ≤ 65536 → 1 ≤ workers → workers ≤ 64
+    → command_of (program ∷ codes "session" ∷ codes "--piece" ∷ decimal piece ∷ codes "--workers" ∷ decimal workers ∷ []) ≡ Some (Session piece workers)
+session_by program piece workers least most some few =
+    session_with program (decimal piece) (decimal workers) (decimal_plain piece (omega arith)) (decimal_plain workers (omega arith))
+    ∙ ap₂ session_of (piece_taken piece least most) (workers_taken workers some few)
+
+pub session_of_none : (program : Text) (number : ℕ) → number < 2 ^ 32 → (IsPieceSize number → ⊥) → command_of (program ∷ codes "session" ∷ codes "--piece" ∷ decimal number ∷ []) ≡ None
+session_of_none program number fits other =
+    session_plain program (decimal number) (decimal_plain number fits) ∙ ap (λ n. session_of n (Some 1)) (piece_untaken number fits other)
 
 -- ---- words that no subcommand is named by
 
@@ -464,17 +542,17 @@ is_other name word other = elim (cases_Bool (bytes_eq name word)) [
   | inr differs ↦ differs
 ]
 
-pub other_words : (program word : Text) (ws : List Text) → word ≢ codes "eval" → word ≢ codes "circuit" → word ≢ codes "prove" → word ≢ codes "verify" → word ≢ codes "audit" → word ≢ codes "convert" → word ≢ codes "demo" → word ≢ codes "serve"
+pub other_words : (program word : Text) (ws : List Text) → word ≢ codes "eval" → word ≢ codes "circuit" → word ≢ codes "prove" → word ≢ codes "verify" → word ≢ codes "audit" → word ≢ codes "convert" → word ≢ codes "demo" → word ≢ codes "serve" → word ≢ codes "session"
     → command_of (program ∷ word ∷ ws) ≡ None
 unfolding command_of
-other_words program word ws a b c d e v f g =
+other_words program word ws a b c d e v f g h =
     let none : subcommand_met (names_of line) idle word ≡ None =
-    names_by word (is_other (codes "eval") word a) (is_other (codes "circuit") word b) (is_other (codes "prove") word c) (is_other (codes "verify") word d) (is_other (codes "audit") word e) (is_other (codes "convert") word v) (is_other (codes "demo") word f) (is_other (codes "serve") word g) in
+    names_by word (is_other (codes "eval") word a) (is_other (codes "circuit") word b) (is_other (codes "prove") word c) (is_other (codes "verify") word d) (is_other (codes "audit") word e) (is_other (codes "convert") word v) (is_other (codes "demo") word f) (is_other (codes "serve") word g) (is_other (codes "session") word h) in
     unless_fails (fault_of command_line (program ∷ word ∷ ws)) (subcommand_of command_line (program ∷ word ∷ ws)) (by_dashes word ws (bytes_eq word (45 ∷ 45 ∷ [])) refl none)
   where
     names_by : (word : Text) → bytes_eq (codes "eval") word ≡ false → bytes_eq (codes "circuit") word ≡ false → bytes_eq (codes "prove") word ≡ false → bytes_eq (codes "verify") word ≡ false
-        → bytes_eq (codes "audit") word ≡ false → bytes_eq (codes "convert") word ≡ false → bytes_eq (codes "demo") word ≡ false → bytes_eq (codes "serve") word ≡ false → subcommand_met (names_of line) idle word ≡ None
-    names_by word a b c d e v f g = rw (a, b, c, d, e, v, f, g) refl
+        → bytes_eq (codes "audit") word ≡ false → bytes_eq (codes "convert") word ≡ false → bytes_eq (codes "demo") word ≡ false → bytes_eq (codes "serve") word ≡ false → bytes_eq (codes "session") word ≡ false → subcommand_met (names_of line) idle word ≡ None
+    names_by word a b c d e v f g h = rw (a, b, c, d, e, v, f, g, h) refl
 
 pub no_words : command_of [] ≡ None
 unfolding command_of clap_on_literals

@@ -1,7 +1,7 @@
 //! Which words are which command, by the definitions alone.
 
 ghost use Rattle.std.specs.Prelude.{◌≡◌, ◌≢◌, ◌<◌, ◌≤◌, ◌^◌, ◌↔◌, List, ℕ, [], ◌∷◌, None, Some, codes, decimal};
-ghost use Rattle.gkr_words.specs.Commands.{command_of, number_of};
+ghost use Rattle.gkr_words.specs.Commands.{IsPieceSize, command_of, number_of};
 
 use crate::words::{CaseCommand, Command};
 use proof_two::{ProofKind, ProofVersion};
@@ -75,6 +75,21 @@ pub fn words_with_forms()
         ∷ decimal workers ∷ []) ≡ Some (Command.OfCase (CaseCommand.Prove workers ProofKind.ByPairs)) }
 {}
 
+/// `session --piece B` names a session in pieces of B bytes, for each B from 1 to 65,536 in decimal and for no other below 2^32, by
+/// one worker or by as many as `--workers` says behind it. Without its piece it is no command.
+pub fn words_with_pieces()
+    ensures piece { (program : List ℕ) (piece : ℕ) → 1 ≤ piece → piece ≤ 65536
+        → command_of (program ∷ codes "session" ∷ codes "--piece" ∷ decimal piece ∷ [])
+        ≡ Some (Command.Session piece 1) }
+    ensures piece_by { (program : List ℕ) (piece workers : ℕ) → 1 ≤ piece → piece ≤ 65536
+        → 1 ≤ workers → workers ≤ 64
+        → command_of (program ∷ codes "session" ∷ codes "--piece" ∷ decimal piece
+        ∷ codes "--workers" ∷ decimal workers ∷ []) ≡ Some (Command.Session piece workers) }
+    ensures other { (program : List ℕ) (number : ℕ) → number < 2 ^ 32 → ¬ IsPieceSize number
+        → command_of (program ∷ codes "session" ∷ codes "--piece" ∷ decimal number ∷ []) ≡ None }
+    ensures alone { (program : List ℕ) → command_of (program ∷ codes "session" ∷ []) ≡ None }
+{}
+
 /// Words name a command only where the first behind the program's own name is a subcommand's.
 pub fn other_words()
     ensures none { command_of [] ≡ None }
@@ -82,5 +97,5 @@ pub fn other_words()
     ensures other { (program word : List ℕ) (rest : List (List ℕ)) → word ≢ codes "eval"
         → word ≢ codes "circuit" → word ≢ codes "prove" → word ≢ codes "verify"
         → word ≢ codes "audit" → word ≢ codes "convert" → word ≢ codes "demo" → word ≢ codes "serve"
-        → command_of (program ∷ word ∷ rest) ≡ None }
+        → word ≢ codes "session" → command_of (program ∷ word ∷ rest) ≡ None }
 {}

@@ -3,7 +3,7 @@
 use arr_ast::ProgramKind;
 use case_text::{
     AuditLines, BadCase, CaseRefused, DueKind, Form, MessagePlace, Outputs, Reply, ServedJob,
-    VerdictLine, read_case, write_case, write_reply, write_served,
+    SessionSizes, VerdictLine, read_case, write_case, write_reply, write_served,
 };
 use field_ext::{Ext, Fp};
 use proof_wire::BadProof;
@@ -230,6 +230,26 @@ fn tells_audits(rt: HostRuntime) -> Result<(), Fail> {
         (
             Reply::Audit(line),
             "rejected input 0,0 3,4\nmeaning same\nmessage 12 line\nchallenge none\n",
+        ),
+    ]?;
+    tells(&rt, &rows)
+}
+
+#[test]
+fn tells_sessions(rt: HostRuntime) -> Result<(), Fail> {
+    let sizes = SessionSizes {
+        challenges: 4,
+        to_prover: 33,
+        to_verifier: 64,
+    };
+    let rows = vec![in rt.alloc();
+        (
+            Reply::Session(sizes),
+            "session 4\nto prover 33\nto verifier 64\naccepted\n",
+        ),
+        (
+            Reply::WordCount { have: 0, need: 8 },
+            "refused count words 0 8\n",
         ),
     ]?;
     tells(&rt, &rows)

@@ -1,4 +1,4 @@
-//! Tests of worked texts: cases, replies and scripts, and what is done with one case.
+//! Tests of worked texts: cases, replies, scripts and sessions, and what is done with one case.
 //!
 //! They call public functions alone, and compare with texts written by hand: what no contract says.
 #![tactic(auto)]
@@ -9,3 +9,5 @@ mod cases;
 mod commands;
 #[cfg(test)]
 mod scripts;
+#[cfg(test)]
+mod sessions;

@@ -11,7 +11,7 @@ const ROOM: Room = Room {
 };
 
 /// A case that sums the numbers from 1 to 4,096.
-fn sum_case(alloc: Global) -> Result<Vec<u8>, AllocError> {
+pub(crate) fn sum_case(alloc: Global) -> Result<Vec<u8>, AllocError> {
     let mut inputs = Vec::from_slice(alloc, b"4096")?;
     for value in 1..4097u32 {
         inputs.extend_from_slice(format!(in alloc; " {}", value)?.as_bytes())?;

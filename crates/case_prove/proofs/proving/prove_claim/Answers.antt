@@ -10,7 +10,6 @@ use Rattle.gkr_layers.specs.Honest.{AreHonestMessages}
 use Rattle.case_prove.specs.Started.{start_of}
 use Rattle.case_text.specs.Content.{Content}
 use Rattle.case_prove.proofs.ProvedCases.{same_content}
-use Rattle.case_prove.proofs.ProvedOutputs.{evaluated}
 use Rattle.case_prove.proofs.ProvedSizes.{fits, kind_length}
 use Rattle.case_prove.proofs.proving.prove_claim.Goals as goal
 
@@ -18,30 +17,24 @@ pub new-requires : goal.new-requires
 new-requires g c =
     let circuit : SoundCircuit = c.args.circuit.now in
     let outputs : List F = c.in_ok-outputs.outputs.items in
-    let is =
-    evaluated c.circuit_computes.ensures.inputs c.circuit_computes.ensures.computes c.args.case.now circuit c.requires.compiled c.requires.counted _ outputs c.in_ok-values.values _ _ c.inputs.ensures.inputs c.in_ok-values.ensures
-    c.table.ensures c.outputs.ensures.value c.in_ok-outputs.ensures in
     let program : c.in_ok-program.program.items ≡ c.args.case.now.program = c.in_ok-program.ensures.items ∙ c.program.ensures.program in
     let inputs : c.in_ok-inputs.inputs.items ≡ c.args.case.now.inputs = c.in_ok-inputs.ensures.items ∙ c.inputs-2.ensures.inputs in
     let shape : HaveShape (form_in c.args.kind) (drop 1 (exponents c.args.circuit.now.parts)) c.in_ok-messages.messages.layers =
     subst (λ (form : ProofForm). HaveShape form (drop 1 (exponents c.args.circuit.now.parts)) c.in_ok-messages.messages.layers) c.form-form.ensures c.in_ok-messages.ensures.shape in
     let size : length c.in_ok-proof.proof.items ≤ 231428 = omega (arith, ap length c.in_ok-proof.ensures, kind_length c.args.kind circuit c.in_ok-messages.messages shape) in
     fits circuit c.in_ok-program.program.items c.in_ok-inputs.inputs.items outputs c.in_ok-proof.proof.items (subst (λ (xs : List ℕ). length xs ≤ 65536) (sym program) c.program.ensures.fits.program)
-    (subst (λ (xs : List F). length xs ≤ 262144) (sym inputs) c.program.ensures.fits.inputs) is.0 size
+    (subst (λ (xs : List F). length xs ≤ 262144) (sym inputs) c.program.ensures.fits.inputs) c.in_ok-outputs.ensures.as_many size
 
 pub returns : goal.returns
 returns g c =
     let circuit : SoundCircuit = c.args.circuit.now in
     let case : Content = c.args.case.now in
     let outputs : List F = c.in_ok-outputs.outputs.items in
-    let is =
-    evaluated c.circuit_computes.ensures.inputs c.circuit_computes.ensures.computes case circuit c.requires.compiled c.requires.counted _ outputs c.in_ok-values.values _ _ c.inputs.ensures.inputs c.in_ok-values.ensures
-    c.table.ensures c.outputs.ensures.value c.in_ok-outputs.ensures in
     record {
       parts = circuit.parts;
       compiled = c.requires.compiled;
       outputs = outputs;
-      evaluated = is.1;
+      evaluated = c.in_ok-outputs.ensures.meaning;
       messages = c.in_ok-messages.messages;
       of_shape = subst (λ (form : ProofForm). HaveShape form (drop 1 (exponents c.args.circuit.now.parts)) c.in_ok-messages.messages.layers) c.form-form.ensures c.in_ok-messages.ensures.shape;
       honest =

@@ -5,6 +5,7 @@ use Rattle.gkr_cmd.proofs.CircuitAnswers.{IsOne, one_circuit}
 use Rattle.gkr_cmd.proofs.EvalAnswers.{one_eval}
 use Rattle.gkr_cmd.proofs.DemoAnswers.{one_demo}
 use Rattle.gkr_cmd.proofs.ProveAnswers.{IsOneProved, one_prove}
+use Rattle.gkr_cmd.proofs.SessionAnswers.{one_session}
 use Rattle.gkr_cmd.proofs.VerifyAnswers.{one_verify}
 use Rattle.gkr_cmd.proofs.OneReply.{one_reply}
 use Rattle.gkr_cmd.proofs.laws.one_reply.Goals as goal
@@ -22,5 +23,6 @@ returns c =
       verify = one_verify circuits spelled;
       audit = one_audit circuits spelled c.audit_is_one.ensures;
       convert = one_convert circuits spelled c.converted_keeps.ensures.one;
+      session = one_session circuits c.one_session.ensures;
       demo = one_demo circuits proofs;
     })

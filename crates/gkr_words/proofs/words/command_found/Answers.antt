@@ -14,5 +14,5 @@ returns c =
     c.command_named.ensures
     ∙ (same_named c.in_ok-name.name.now (c.get_str.ensures ∙ first_value-rows found (codes "number")) (c.get_str-2.ensures ∙ first_value-rows found (codes "workers"))
     (c.get_str-3.ensures ∙ first_value-rows found (codes "provers")) (c.get_str-4.ensures ∙ first_value-rows found (codes "clients")) (c.get_str-5.ensures ∙ first_value-rows found (codes "proof")) (c.get_str-6.ensures ∙ first_value-rows found (codes "history"))
-    (c.get_str-7.ensures ∙ first_value-rows found (codes "to"))
+    (c.get_str-7.ensures ∙ first_value-rows found (codes "to")) (c.get_str-8.ensures ∙ first_value-rows found (codes "piece"))
     ∙ sym (ap (option_and_then command_of_rows) entered))

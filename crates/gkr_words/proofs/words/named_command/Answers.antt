@@ -3,8 +3,8 @@ use Rattle.std.specs.Prelude.{IfSome, option_and_then, string_bytes}
 use Rattle.clap.specs.Simple.{is_simple}
 use Rattle.clap.specs.Words.{IsAmong, fault_of, is_simple_and_free, kind_of, subcommand_of, subcommand_rows_of}
 use Rattle.clap.specs.declared.error.kind.ErrorKind.TheVariants.{OutOfMemory}
-use Rattle.gkr_words.specs.Commands.{HasWorkers, command_line, command_of_rows}
-use Rattle.gkr_words.proofs.WordsRead.{command_refused, command_taken, have_workers, line_is_free, line_is_simple, true_or_false}
+use Rattle.gkr_words.specs.Commands.{HasPiece, HasWorkers, command_line, command_of_rows}
+use Rattle.gkr_words.proofs.WordsRead.{command_refused, command_taken, have_piece, have_workers, line_is_free, line_is_simple, true_or_false}
 use Rattle.gkr_words.proofs.words.named_command.Goals as goal
 
 pub returns-in-Ok-clause-command : goal.returns-in-Ok-clause-command
@@ -29,3 +29,6 @@ returns-in-Err-2-clause-command c =
 
 pub returns-in-Ok-clause-workers : goal.returns-in-Ok-clause-workers
 returns-in-Ok-clause-workers c = subst (λ command. IfSome command HasWorkers) (sym (returns-in-Ok-clause-command c)) (have_workers (map string_bytes c.args.words.now))
+
+pub returns-in-Ok-clause-piece : goal.returns-in-Ok-clause-piece
+returns-in-Ok-clause-piece c = subst (λ command. IfSome command HasPiece) (sym (returns-in-Ok-clause-command c)) (have_piece (map string_bytes c.args.words.now))

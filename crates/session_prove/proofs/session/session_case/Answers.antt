@@ -1,0 +1,7 @@
+-- Challenges are few.
+use Rattle.std.proofs.Common.{arith}
+use Rattle.live_session.proofs.ProverSteps.{few_words}
+use Rattle.session_prove.proofs.session.session_case.Goals as goal
+
+pub overflow_mul-need : goal.overflow_mul-need
+overflow_mul-need g c = omega (arith, few_words c.in-Ok.circuit, c.challenge_count.ensures)

@@ -1,0 +1,2 @@
+mod SessionTexts
+mod Readings
