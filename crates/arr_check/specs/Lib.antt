@@ -1,11 +1,2 @@
-pub mod Agrees
-pub mod Bounds
-pub mod Counting
-pub mod Element
-pub mod Expression
-pub mod Index
-pub mod Places
 pub mod Program
-pub mod Scope
-pub mod Shape
-pub mod Statement
+pub mod Shapes

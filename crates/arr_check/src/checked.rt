@@ -2,7 +2,8 @@
 
 ghost use Rattle.std.specs.Prelude.{◌≡◌, IsTrue, is_ok};
 ghost use Rattle.arr_ast.specs.ProgramTree.{program_tree};
-ghost use Rattle.arr_check.specs.Program.{run_program, run_end, input_count};
+ghost use Rattle.arr_check.specs.Program.{run_program, run_end};
+ghost use Rattle.arr_run.specs.Program.{input_count};
 
 use arr_ast::Program;
 

@@ -2,12 +2,16 @@
 ghost use Rattle.std.specs.Prelude.{◌≡◌, ℕ};
 ghost use Rattle.arr_ast.specs.ExpressionTree.{NameTree};
 ghost use Rattle.arr_ast.specs.IndexTree.{Sum};
-ghost use Rattle.arr_check.specs.Agrees.{Answer};
-ghost use Rattle.arr_check.specs.Statement.{counted_loop, loop_in_order};
-ghost use Rattle.arr_check.specs.declared.run.Run.{Run};
+ghost use Rattle.arr_run.specs.Agrees.{Answer};
+ghost use Rattle.arr_run.specs.Statement.{State, counted_loop, loop_in_order};
+ghost use Rattle.arr_check.specs.declared.shapes.Shapes.{Shapes};
+ghost use Rattle.arr_check.specs.Shapes.{shapes};
 
 /// A loop of LO..HI runs its body HI - LO times, with its variable at LO, LO + 1 and so on up to HI - 1, in this order.
 pub fn turns_in_order()
-    ensures { (at : ℕ) (name : NameTree) (low high : Sum) (body : Run → Answer Run) (run : Run) →
-        counted_loop at name low high body run ≡ loop_in_order at name low high body run }
+    ensures { (at : ℕ) (name : NameTree) (low high : Sum)
+        (body : State (Unit {0}) Shapes → Answer (State (Unit {0}) Shapes))
+        (before : State (Unit {0}) Shapes) →
+        counted_loop shapes at name low high body before
+        ≡ loop_in_order shapes at name low high body before }
 {}

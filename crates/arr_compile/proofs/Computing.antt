@@ -3,7 +3,7 @@ use Rattle.std.proofs.Common.{◌≡◌, ◌∙◌, ◌+◌, ◌-◌, ℕ, List,
 use Rattle.std.proofs.lemmas.List.{length-map}
 use Rattle.field_ext.specs.Field.{F}
 use Rattle.arr_ast.specs.ProgramTree.{ProgramTree}
-use Rattle.arr_check.specs.Program.{input_count}
+use Rattle.arr_run.specs.Program.{input_count}
 use Rattle.arr_eval.specs.Meaning.{meaning}
 use Rattle.arr_lower.specs.Lowering.{nodes_of}
 use Rattle.circuit_core.specs.Parts.{Parts, layer_values, padded_values}
@@ -21,14 +21,17 @@ NodesMean = (program : ProgramTree) (nodes : Nodes) (inputs : List F) → nodes_
 abbrev pub OutputsStand : Type 0
 OutputsStand = (n : Nodes) (inputs : List F) → IsNodeList n → layer_values (circuit_of n) inputs 0 ≡ padded_values (size_for (1 + length n.outputs)) (output_values n inputs)
 
+abbrev pub AreLists : Type 0
+AreLists = (program : ProgramTree) (nodes : Nodes) → nodes_of program ≡ Some nodes → IsNodeList nodes
+
 pub inputs_are : InputsAre → (text : List ℕ) (parts : Parts) (is : IsCompiled text parts) → parts.inputs ≡ input_count is.tree.inputs
 inputs_are law text parts is = ap (λ (p : Parts). p.inputs) is.laid_out ∙ law is.tree is.nodes is.lowered.nodes_are
 
-pub computes : InputsAre → NodesMean → OutputsStand → (text : List ℕ) (parts : Parts) (is : IsCompiled text parts) (inputs : List F) → length inputs ≡ parts.inputs → Computes is.tree parts inputs
-computes law mean stand text parts is inputs counted = record {
+pub computes : InputsAre → AreLists → NodesMean → OutputsStand → (text : List ℕ) (parts : Parts) (is : IsCompiled text parts) (inputs : List F) → length inputs ≡ parts.inputs → Computes is.tree parts inputs
+computes law lists mean stand text parts is inputs counted = record {
   outputs = output_values is.nodes inputs;
   meaning_is = mean is.tree is.nodes inputs is.lowered.nodes_are (counted ∙ inputs_are law text parts is);
   as_many = length-map is.nodes.outputs _ ∙ sym (ap (λ (p : Parts). p.outputs) is.laid_out);
   zeros = size_for (1 + length is.nodes.outputs) - (1 + length (output_values is.nodes inputs));
-  values_are = ap (λ (p : Parts). layer_values p inputs 0) is.laid_out ∙ stand is.nodes inputs is.lowered.in_order;
+  values_are = ap (λ (p : Parts). layer_values p inputs 0) is.laid_out ∙ stand is.nodes inputs (lists is.tree is.nodes is.lowered.nodes_are);
 }

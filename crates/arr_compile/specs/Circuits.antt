@@ -3,7 +3,7 @@ use Rattle.std.specs.Prelude.{◌≡◌, ℕ, List, ◌∷◌, ◌++◌, length,
 use Rattle.field_ext.specs.Field.{F}
 use Rattle.circuit_core.specs.Parts.{Parts, layer_values, zero_f}
 use Rattle.circuit_core.specs.Sound.{greatest}
-use Rattle.node_core.specs.Nodes.{Nodes, IsNodeList}
+use Rattle.node_core.specs.Nodes.{Nodes}
 use Rattle.arr_ast.specs.ProgramTree.{ProgramTree}
 use Rattle.arr_eval.specs.Meaning.{meaning}
 use Rattle.arr_lower.specs.Lowering.{nodes_of}
@@ -16,11 +16,10 @@ use Rattle.arr_compile.specs.declared.refused.CompileRefused.{CompileRefused}
 use Rattle.arr_compile.specs.declared.refused.CompileRefused.TheVariants.{Bad, Memory}
 use Rattle.arr_compile.specs.Programs.{IsAccepted, IsRefusedAs}
 
--- The text has this tree, no check refuses it, and these are its nodes, each of which stands on earlier ones.
+-- The text has this tree, no check refuses it, and these are its nodes.
 pub record IsLowered (text : List ℕ) (tree : ProgramTree) (nodes : Nodes) : Type 0 where
   pub accepted : IsAccepted text tree
   pub nodes_are : nodes_of tree ≡ Some nodes
-  pub in_order : IsNodeList nodes
 
 -- The text's program is laid out as this circuit, within the limits of every circuit.
 pub record IsCompiled (text : List ℕ) (parts : Parts) : Type 0 where

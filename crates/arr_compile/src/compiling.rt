@@ -3,7 +3,7 @@
 ghost use Rattle.std.specs.Prelude.{◌≡◌, ◌≤◌, List, length, IfOk, IfErr};
 ghost use Rattle.field_ext.specs.Field.{F};
 ghost use Rattle.arr_ast.specs.ProgramTree.{ProgramTree};
-ghost use Rattle.arr_check.specs.Program.{input_count};
+ghost use Rattle.arr_run.specs.Program.{input_count};
 ghost use Rattle.arr_compile.specs.Programs.{IsRead};
 ghost use Rattle.arr_compile.specs.Circuits.{IsCompiled, RefusesCircuit, Computes};
 

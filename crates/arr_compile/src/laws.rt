@@ -6,7 +6,7 @@ ghost use Rattle.circuit_core.specs.Parts.{Parts};
 ghost use Rattle.circuit_core.specs.Sound.{greatest};
 ghost use Rattle.field_ext.specs.Field.{F};
 ghost use Rattle.arr_ast.specs.ProgramTree.{ProgramTree};
-ghost use Rattle.arr_check.specs.Program.{input_count};
+ghost use Rattle.arr_run.specs.Program.{input_count};
 ghost use Rattle.arr_compile.specs.declared.refused.BadProgram.{BadProgram};
 ghost use Rattle.arr_compile.specs.Programs.{IsRead, IsAccepted, IsRefusal};
 ghost use Rattle.arr_compile.specs.Circuits.{IsCompiled, IsCircuitRefusal, Computes};
@@ -91,5 +91,6 @@ pub fn circuit_is_sound()
         → 1 ≤ parts.outputs }
 {
     has_outputs();
+    nodes_in_order();
     no_fault();
 }

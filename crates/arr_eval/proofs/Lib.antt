@@ -1,12 +1,6 @@
-pub mod Goes
 pub mod InPlace
-pub mod Kept
 pub mod Lists
 pub mod NumberLaws
 pub mod Places
-pub mod ProgramGoes
-pub mod StatementRows
-pub mod There
-pub mod TurnsInOrder
-pub mod ValueRows
-pub mod ValuesSized
+pub mod Runs
+pub mod Sized

@@ -1,7 +1,7 @@
 -- What an evaluation gives: the program's meaning, or how many numbers it needs.
 use Rattle.std.specs.Prelude.{◌≡◌, ◌≢◌, List, length, Some, Result, Ok, Err}
 use Rattle.arr_ast.specs.ProgramTree.{ProgramTree}
-use Rattle.arr_check.specs.Program.{input_count}
+use Rattle.arr_run.specs.Program.{input_count}
 use Rattle.arr_eval.specs.declared.refused.EvalRefused.{EvalRefused}
 use Rattle.arr_eval.specs.declared.refused.EvalRefused.TheVariants.{InputCount, Memory}
 use Rattle.field_ext.specs.Field.{F}

@@ -1,11 +1,15 @@
 -- Values with as many elements as their shapes have places.
-use Rattle.std.specs.Prelude.{◌≡◌, ℕ, List, length, Some}
-use Rattle.arr_check.specs.Shape.{size_of}
-use Rattle.arr_eval.specs.Store.{Array, Store, array_of}
+use Rattle.std.specs.Prelude.{◌≡◌, List, length, All}
+use Rattle.arr_run.specs.declared.bound.Bound.{Bound}
+use Rattle.arr_run.specs.declared.bound.Bound.TheVariants.{Value, Turn}
+use Rattle.arr_run.specs.Scope.{Names}
+use Rattle.arr_run.specs.Shape.{size_of}
+use Rattle.field_ext.specs.Field.{F}
 
-abbrev pub IsSized : Array → Type 0
-IsSized array = length array.items ≡ size_of array.shape
+abbrev pub IsSized : Bound (List F) → Type 0
+IsSized (Value shape items) = length items ≡ size_of shape
+IsSized (Turn number) = Unit {0}
 
 -- the array of each name in scope is sized
-abbrev pub AllSized : Store → Type 0
-AllSized store = (name : ℕ) (array : Array) → array_of name store ≡ Some array → IsSized array
+abbrev pub AllSized : Names (List F) → Type 0
+AllSized names = All (λ entry. IsSized entry.1) names

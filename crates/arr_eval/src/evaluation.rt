@@ -4,10 +4,10 @@ ghost use Rattle.std.specs.Prelude.{vec_items};
 ghost use Rattle.arr_ast.specs.ProgramTree.{program_tree};
 ghost use Rattle.arr_eval.specs.Evaluated.{Evaluates};
 
-use crate::program::run_program;
+use crate::machine::Numbers;
 use crate::refused::EvalRefused;
-use crate::stopped::Stopped;
 use arr_check::Checked;
+use arr_run::{CheckRefused, run};
 use field_ext::Fp;
 use std::alloc::Global;
 
@@ -25,9 +25,17 @@ pub fn eval(alloc: Global, checked: &Checked, inputs: &[Fp]) -> Result<Vec<Fp>, 
     if have != need {
         return Err(EvalRefused::InputCount { have, need });
     }
-    match run_program(alloc, &checked.program, inputs) {
-        Ok(outputs) => Ok(outputs),
-        Err(Stopped::Memory) => Err(EvalRefused::Memory),
-        Err(Stopped::Stuck) => unreachable!(),
+    let mut numbers = Numbers {
+        alloc,
+        inputs,
+        outputs: Vec::new(alloc),
+    };
+    match run(alloc, &mut numbers, &checked.program) {
+        Ok(_) => {
+            let Numbers { outputs, .. } = numbers;
+            Ok(outputs)
+        }
+        Err(CheckRefused::Memory) => Err(EvalRefused::Memory),
+        Err(CheckRefused::Bad { .. }) => unreachable!(),
     }
 }

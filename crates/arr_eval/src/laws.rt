@@ -1,18 +1,20 @@
 //! Laws of evaluation, in the language's own words. Each function does nothing: its contract is a
 //! law that is proved.
-ghost use Rattle.std.specs.Prelude.{◌≡◌, ℕ, ◌+◌, ◌-◌, ◌*◌, ◌<◌, List, ◌++◌, length, IsTrue, is_ok, IsSome, Option};
-ghost use Rattle.std.specs.List.{range_with_len};
+ghost use Rattle.std.specs.Prelude.{◌≡◌, ℕ, ◌+◌, ◌*◌, ◌<◌, List, ◌++◌, length, Ok, IsTrue, is_ok, IsSome};
 ghost use Rattle.arr_ast.specs.IndexTree.{Sum};
 ghost use Rattle.arr_ast.specs.ExpressionTree.{NameTree, ExpressionTree};
 ghost use Rattle.arr_ast.specs.ProgramTree.{ProgramTree};
-ghost use Rattle.arr_check.specs.Bounds.{bounds_of};
+ghost use Rattle.arr_run.specs.declared.counts.Counts.{Counts};
+ghost use Rattle.arr_run.specs.Agrees.{Answer};
+ghost use Rattle.arr_run.specs.Expression.{Valued, value_of};
+ghost use Rattle.arr_run.specs.Scope.{Names};
+ghost use Rattle.arr_run.specs.Shape.{size_of};
+ghost use Rattle.arr_run.specs.Statement.{State, counted_loop, loop_in_order};
 ghost use Rattle.arr_check.specs.Program.{run_program};
 ghost use Rattle.field_ext.specs.Field.{F, add_f};
-ghost use Rattle.arr_eval.specs.Follows.{each};
-ghost use Rattle.arr_eval.specs.Meaning.{meaning, value_of, counted_loop, one_turn};
+ghost use Rattle.arr_eval.specs.Meaning.{Kept, meaning, numbers};
 ghost use Rattle.arr_eval.specs.Numbers.{element, sum_of, dot_of, transpose_of, matmul_of, row, column};
-ghost use Rattle.arr_eval.specs.Sizes.{IsSized, AllSized};
-ghost use Rattle.arr_eval.specs.Store.{Array, Store};
+ghost use Rattle.arr_eval.specs.Sizes.{AllSized};
 
 /// A program that the checks accept has a meaning, whatever its inputs are.
 pub fn has_meaning()
@@ -48,16 +50,17 @@ pub fn transposed_twice()
 /// A loop runs its body once for each number from its lower bound on, below its upper bound, in
 /// order, with the loop variable at that number.
 pub fn turns_in_order()
-    ensures { (name : NameTree) (low high : Sum) (body : Store
-        → Option Store) (store : Store) (first end : ℕ) →
-        bounds_of store.names low high ≡ Ok (first, end) →
-        counted_loop name low high body store ≡ each (one_turn name body)
-        (range_with_len first (end - first)) store }
+    ensures { (at : ℕ) (name : NameTree) (low high : Sum)
+        (body : State (List F) Kept → Answer (State (List F) Kept)) (before : State (List F) Kept) →
+        counted_loop numbers at name low high body before
+        ≡ loop_in_order numbers at name low high body before }
 {}
 
 /// Where the array of each name has as many elements as its shape has places, so has the value of
 /// each expression.
 pub fn values_are_sized()
-    ensures { (expression : ExpressionTree) (store : Store) (array : Array) → AllSized store
-        → value_of expression store ≡ Some array → IsSized array }
+    ensures { (expression : ExpressionTree) (names : Names (List F)) (counts : Counts) (kept : Kept)
+        (found : Valued (List F) Kept) → AllSized names
+        → value_of numbers expression names counts kept ≡ Ok found
+        → length found.1 ≡ size_of found.0 }
 {}

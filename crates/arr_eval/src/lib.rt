@@ -4,29 +4,20 @@
 //! elements, and so does its transpose. Addition, subtraction, multiplication and
 //! negation work element by element, modulo p; `sum`, `dot`, `matmul` and `transpose` are those of
 //! linear algebra (Strang, "Introduction to Linear Algebra", ch. 1 and 2). A loop runs its body
-//! once for each number of its range. The definition is `meaning`, in `specs/Meaning.antt`, and
-//! [`laws`] states what holds of it.
+//! once for each number of its range. The definition is `meaning`, in `specs/Meaning.antt`: the run
+//! of `arr_run` with the table `numbers`, which says what each operation does; [`laws`] states what holds of it.
 //!
 //! `input a[3]; output sum(a * a);` over 1, 2 and 3 puts out 14: `eval(alloc, &checked, &inputs)`
 //! gives `Ok` of a vector with that one element, for the `checked` that `arr_check::check` made.
 #![tactic(auto)]
 
-mod array;
 mod combined;
-mod element;
 mod evaluation;
-mod expression;
-mod input;
 pub mod laws;
+mod machine;
 mod matrix;
 mod numbers;
-mod operator;
-mod program;
-mod progress;
 mod refused;
-mod statement;
-mod stopped;
-mod store;
 
 pub use evaluation::eval;
 pub use refused::EvalRefused;

@@ -1,5 +1,3 @@
 pub mod ConstantPlaces
-pub mod Follows
 pub mod Lowering
-pub mod NodeStore
 pub mod Operations

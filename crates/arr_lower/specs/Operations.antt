@@ -1,7 +1,16 @@
 -- How the nodes of an array's elements are made, behind those made so far. A node's number is its place in the list.
 use Rattle.std.specs.Prelude.{ℕ, zero, suc, ◌+◌, ◌*◌, ◌/◌, ◌%◌, List, [], ◌∷◌, ◌++◌, length, map, take, drop, get_or, Bool, false, ◌==◌, nat_lt, if◌then◌else◌}
 use Rattle.std.specs.List.{zip, range_with_len, position_or_len}
+use Rattle.arr_ast.specs.declared.expression.Sign.{Sign}
+use Rattle.arr_ast.specs.declared.expression.Sign.TheVariants.{Plus, Minus}
+use Rattle.arr_ast.specs.declared.expression.SingleFunction.{SingleFunction}
+use Rattle.arr_ast.specs.declared.expression.SingleFunction.TheVariants.{Sum, Transpose}
+use Rattle.arr_ast.specs.declared.expression.PairFunction.{PairFunction}
+use Rattle.arr_ast.specs.declared.expression.PairFunction.TheVariants.{Scale, Dot, MatMul}
+use Rattle.arr_ast.specs.declared.shape.ShapeOf.{ShapeOf}
+use Rattle.arr_ast.specs.declared.shape.ShapeOf.TheVariants.{Matrix}
 use Rattle.field_ext.specs.Field.{F, of}
+use Rattle.arr_run.specs.Limits.{minus_one}
 use Rattle.circuit_core.specs.declared.gate.Kind.{Kind}
 use Rattle.circuit_core.specs.declared.gate.Kind.TheVariants.{Add, Mul}
 use Rattle.node_core.specs.declared.node.Node.{Node}
@@ -16,6 +25,20 @@ pub record Made : Type 0 where
 pub record MadeOne : Type 0 where
   pub item : ℕ
   pub nodes : List Node
+
+abbrev pub one_made : MadeOne → Made
+one_made one = record { items = one.item ∷ []; nodes = one.nodes }
+
+-- nodes that were made before
+abbrev pub none_made : List ℕ → List Node → Made
+none_made items nodes = record { items = items; nodes = nodes }
+
+-- so many leaves; those of a program come first, so the number of an input is its leaf's
+abbrev pub leaf_nodes : ℕ → List Node → Made
+leaf_nodes count nodes = record {
+  items = range_with_len (length nodes) count;
+  nodes = nodes ++ map Input (range_with_len (length nodes) count);
+}
 
 -- the nodes of a list, each made behind those of the elements before it
 abbrev pub made_after : {A : Type 0} → (A → List Node → MadeOne) → List A → Made → Made
@@ -43,10 +66,6 @@ constant_node value nodes = record {
   nodes = if nat_lt (constant_place value nodes) (length nodes) then nodes
       else nodes ++ Constant (of value) ∷ [];
 }
-
--- p - 1, which is -1
-abbrev pub minus_one : ℕ
-minus_one = 2147483646
 
 -- a sum or a product of two nodes
 abbrev pub operation_node : Kind → ℕ × ℕ → List Node → MadeOne
@@ -116,3 +135,19 @@ matmul_nodes n m q left right nodes =
 abbrev pub transposed_items : ℕ → ℕ → List ℕ → List ℕ
 transposed_items n m items =
     map (λ k. get_or items (k % n * m + k / n) 0) (range_with_len 0 (m * n))
+
+abbrev pub signed_nodes : Sign → List ℕ → List ℕ → List Node → Made
+signed_nodes Plus left right nodes = pairwise_nodes Add left right nodes
+signed_nodes Minus left right nodes = difference_nodes left right nodes
+
+abbrev pub single_nodes : SingleFunction → ShapeOf → List ℕ → List Node → Made
+single_nodes Sum shape items nodes = one_made (sum_node items nodes)
+single_nodes Transpose (Matrix n m) items nodes = none_made (transposed_items n m items) nodes
+single_nodes Transpose shape items nodes = none_made items nodes
+
+abbrev pub pair_nodes : PairFunction → ShapeOf → ShapeOf → List ℕ → List ℕ → List Node → Made
+pair_nodes Scale shape other left right nodes = scaled_nodes (get_or left 0 0) right nodes
+pair_nodes Dot shape other left right nodes = one_made (dot_node (zip left right) nodes)
+pair_nodes MatMul (Matrix n m) (Matrix k q) left right nodes =
+    matmul_nodes n m q left right nodes
+pair_nodes MatMul shape other left right nodes = none_made [] nodes

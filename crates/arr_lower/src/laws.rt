@@ -2,17 +2,26 @@
 //! contract is a law that is proved.
 ghost use Rattle.std.specs.Prelude.{◌≡◌, ℕ, ◌<◌, ◌≤◌, List, length, map, slice_index_or, All, IsTrue, is_ok, IsSome, Option, Some};
 ghost use Rattle.arr_ast.specs.ProgramTree.{ProgramTree};
-ghost use Rattle.arr_check.specs.Program.{input_count, run_program, run_end};
+ghost use Rattle.arr_run.specs.Program.{input_count};
+ghost use Rattle.arr_check.specs.Program.{run_program, run_end};
 ghost use Rattle.field_ext.specs.Field.{F};
 ghost use Rattle.circuit_core.specs.Parts.{zero_f};
-ghost use Rattle.node_core.specs.Nodes.{Nodes, IsFineAt, node_at, values};
+ghost use Rattle.node_core.specs.Nodes.{Nodes, IsFineAt, IsNodeList, node_at, values};
 ghost use Rattle.arr_eval.specs.Meaning.{meaning};
 ghost use Rattle.arr_lower.specs.Lowering.{nodes_of};
 
-/// A program that the checks accept has nodes.
+/// A program has nodes exactly where the checks accept it.
 pub fn has_nodes()
-    ensures { (program : ProgramTree) → IsTrue (is_ok (run_program program))
+    ensures some { (program : ProgramTree) → IsTrue (is_ok (run_program program))
         → IsSome (nodes_of program) }
+    ensures accepted { (program : ProgramTree) (nodes : Nodes) → nodes_of program ≡ Some nodes
+        → IsTrue (is_ok (run_program program)) }
+{}
+
+/// The nodes that the checks count are those that are made.
+pub fn nodes_counted()
+    ensures { (program : ProgramTree) (nodes : Nodes) → nodes_of program ≡ Some nodes
+        → length nodes.nodes ≡ (run_end program).nodes }
 {}
 
 /// The outputs of an accepted program are as many nodes as the checks count, and at least one.
@@ -23,7 +32,8 @@ pub fn has_outputs()
 {}
 
 /// The nodes of a program stand in order: each names inputs of the program and nodes before it,
-/// and each output is one of them.
+/// and each output is one of them. There is an output, and there are few enough nodes and outputs
+/// for their numbers.
 pub fn nodes_in_order()
     ensures inputs { (program : ProgramTree) (nodes : Nodes) → nodes_of program ≡ Some nodes
         → nodes.inputs ≡ input_count program.inputs }
@@ -31,6 +41,8 @@ pub fn nodes_in_order()
         (k : ℕ) → k < length nodes.nodes → IsFineAt nodes.inputs k (node_at nodes k) }
     ensures outputs { (program : ProgramTree) (nodes : Nodes) → nodes_of program ≡ Some nodes →
         All (λ output. output < length nodes.nodes) nodes.outputs }
+    ensures list { (program : ProgramTree) (nodes : Nodes) → nodes_of program ≡ Some nodes
+        → IsNodeList nodes }
 {}
 
 /// What a program puts out for its inputs are the values of its output nodes.

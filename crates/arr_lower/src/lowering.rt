@@ -1,14 +1,14 @@
 //! The nodes of a checked program.
 
-ghost use Rattle.std.specs.Prelude.{◌≡◌, Some, IfOk};
+ghost use Rattle.std.specs.Prelude.{◌≡◌, ◌<◌, ◌^◌, Some, IfOk};
 ghost use Rattle.arr_ast.specs.ProgramTree.{program_tree};
 ghost use Rattle.node_core.specs.Nodes.{IsNodeList};
 ghost use Rattle.arr_lower.specs.Lowering.{nodes_of};
 
-use crate::program::run_program;
-use crate::progress::{Lowering, Progress};
-use crate::stopped::Stopped;
+use crate::machine::Lowering;
+use crate::nodes::Nodes;
 use arr_check::Checked;
+use arr_run::{CheckRefused, run};
 use node_core::NodeList;
 use std::alloc::{AllocError, Global};
 
@@ -21,32 +21,31 @@ pub fn lower(alloc: Global, checked: &Checked) -> Result<NodeList, AllocError>
     ensures nodes { IfOk result (λ list. nodes_of (program_tree checked.now.program) ≡ Some list) }
     ensures in_order { IfOk result (λ list. IsNodeList list) }
 {
-    if checked.inputs > u64::from(u32::MAX) {
-        return Err(AllocError);
-    }
-    let inputs = checked.inputs as u32;
-    match run_program(alloc, &checked.program, inputs) {
-        Ok(progress) => list_of(checked, inputs, progress),
-        Err(Stopped::Memory) => Err(AllocError),
-        Err(Stopped::Stuck) => unreachable!(),
+    let mut lowering = Lowering {
+        alloc,
+        nodes: Nodes::new(alloc),
+        outputs: Vec::new(alloc),
+    };
+    match run(alloc, &mut lowering, &checked.program) {
+        Ok(_) => Ok(list_of(checked, lowering)),
+        Err(CheckRefused::Memory) => Err(AllocError),
+        Err(CheckRefused::Bad { .. }) => unreachable!(),
     }
 }
 
 // The list of what a run has made.
-fn list_of(checked: &Checked, inputs: u32, progress: Progress) -> Result<NodeList, AllocError>
-    requires { nodes_of (program_tree checked.now.program) ≡ Some (record {
-      inputs = inputs;
-      nodes = progress.lowering.nodes;
-      outputs = progress.outputs;
+fn list_of(checked: &Checked, lowering: Lowering) -> NodeList
+    requires few { checked.now.inputs < 2 ^ 32 }
+    requires made { nodes_of (program_tree checked.now.program) ≡ Some (record {
+      inputs = checked.now.inputs;
+      nodes = lowering.nodes;
+      outputs = lowering.outputs;
     }) }
-    ensures nodes { IfOk result (λ list. nodes_of (program_tree checked.now.program) ≡ Some list) }
-    ensures in_order { IfOk result (λ list. IsNodeList list) }
+    ensures nodes { nodes_of (program_tree checked.now.program) ≡ Some result }
+    ensures in_order { IsNodeList result }
 {
-    let Progress { lowering, outputs } = progress;
-    let Lowering { nodes, .. } = lowering;
+    let inputs = checked.inputs as u32;
+    let Lowering { nodes, outputs, .. } = lowering;
     let nodes = nodes.finish();
-    if nodes.len() > u32::MAX as usize || outputs.len() > u32::MAX as usize {
-        return Err(AllocError);
-    }
-    Ok(NodeList::of(inputs, nodes, outputs))
+    NodeList::of(inputs, nodes, outputs)
 }

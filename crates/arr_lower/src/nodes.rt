@@ -1,10 +1,10 @@
 //! The nodes made so far.
 
-ghost use Rattle.std.specs.Prelude.{◌≡◌, [], ◌∷◌, ◌++◌, None, Bool, false, IfOk, OnOk, length};
+ghost use Rattle.std.specs.Prelude.{◌≡◌, ◌+◌, ◌<◌, ◌^◌, [], ◌∷◌, ◌++◌, None, Bool, false, IfOk, OnOk, length};
 ghost use Rattle.std.specs.List.{position};
 ghost use Rattle.field_ext.specs.Field.{F};
 ghost use Rattle.node_core.specs.declared.node.Node.TheVariants as node;
-ghost use Rattle.arr_lower.specs.Operations.{is_constant, constant_node, operation_node};
+ghost use Rattle.arr_lower.specs.Operations.{is_constant, constant_node, operation_node, leaf_nodes};
 
 use circuit_core::{CircuitGate, Kind};
 use field_ext::Fp;
@@ -17,7 +17,7 @@ use std::marker::Model;
 ///
 /// A map from each constant to its node stands beside the list, so a constant is found in time
 /// logarithmic in their number. A node's number is a `u32`: where there are as many nodes as that
-/// has numbers, a call answers as for want of memory. The checks let far fewer pass.
+/// has numbers, a call answers as for want of memory. The checks let far fewer pass, as a law says.
 #[derive(Drop)]
 pub struct Nodes {
     nodes: Vec<Node>,
@@ -67,10 +67,7 @@ impl Nodes {
         ensures number { IfOk result (λ item. item ≡ length self.old) }
         ensures nodes { OnOk result (self.new ≡ self.old ++ node.Constant constant ∷ []) }
     {
-        if self.nodes.len() >= u32::MAX as usize {
-            return Err(AllocError);
-        }
-        let place = self.nodes.len() as u32;
+        let place = self.next()?;
         self.nodes.push(Node::Constant(constant))?;
         match self.places.insert(constant.value(), place) {
             Ok(_) => Ok(place),
@@ -91,11 +88,12 @@ impl Nodes {
         self.add(Node::Operation(CircuitGate { kind, left, right }))
     }
 
-    /// An input's leaf, which is made.
-    pub fn input(&mut self, number: u32) -> Result<u32, AllocError>
+    /// A leaf, which is made, of the input that has its number.
+    pub fn leaf(&mut self) -> Result<u32, AllocError>
         ensures number { IfOk result (λ item. item ≡ length self.old) }
-        ensures nodes { OnOk result (self.new ≡ self.old ++ node.Input number ∷ []) }
+        ensures nodes { OnOk result (self.new ≡ self.old ++ node.Input (length self.old) ∷ []) }
     {
+        let number = self.next()?;
         self.add(Node::Input(number))
     }
 
@@ -105,12 +103,20 @@ impl Nodes {
         ensures number { IfOk result (λ item. item ≡ length self.old) }
         ensures nodes { OnOk result (self.new ≡ self.old ++ node ∷ []) }
     {
+        let place = self.next()?;
+        self.nodes.push(node)?;
+        Ok(place)
+    }
+
+    // The number of the next node.
+    fn next(&self) -> Result<u32, AllocError>
+        ensures number { IfOk result (λ item. item ≡ length self.now) }
+        ensures room { IfOk result (λ item. item + 1 < 2 ^ 32) }
+    {
         if self.nodes.len() >= u32::MAX as usize {
             return Err(AllocError);
         }
-        let place = self.nodes.len() as u32;
-        self.nodes.push(node)?;
-        Ok(place)
+        Ok(self.nodes.len() as u32)
     }
 
     /// The nodes.
@@ -120,4 +126,18 @@ impl Nodes {
         let Nodes { nodes, .. } = self;
         nodes
     }
+}
+
+/// So many leaves, which are made.
+pub fn leaves(nodes: &mut Nodes, alloc: Global, count: u64) -> Result<Vec<u32>, AllocError>
+    ensures { IfOk result (λ found. leaf_nodes count nodes.old ≡ record {
+      items = found.items;
+      nodes = nodes.new;
+    }) }
+{
+    let mut found = Vec::new(alloc);
+    'each: for number in 0..count {
+        found.push(nodes.leaf()?)?;
+    }
+    Ok(found)
 }

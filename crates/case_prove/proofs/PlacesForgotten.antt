@@ -1,195 +1,350 @@
 -- A program means the same when the places of its parts are forgotten: places stand only in refusals, which meanings don't tell apart.
-use Rattle.std.proofs.Common.{◌≡◌, ℕ, ℤ, negsuc, ◌-◌, Bool, true, false, List, [], ◌∷◌, ◌++◌, map, take, drop, Option, Some, None, Ok, Err, refl, ap, sym, ◌∙◌}
-use Rattle.std.specs.Prelude.{if◌then◌else◌, option_map, nat_le, nat_abs, pos, ◌^◌, ◌*ℤ◌}
+use Rattle.std.proofs.Common.{◌≡◌, ℕ, zero, suc, ℤ, negsuc, ◌+◌, ◌-◌, ◌*◌, ◌==◌, ◌&&◌, Bool, true, false, List, [], ◌∷◌, map, length, take, Option, Some, None, Ok, Err, refl, ap, sym, ◌∙◌}
+use Rattle.std.specs.Prelude.{if◌then◌else◌, option_map, nat_le, nat_lt, nat_abs, pos, ◌^◌, ◌*ℤ◌}
+use Rattle.std.specs.FinSet as set
+use Rattle.arr_ast.specs.declared.expression.Sign.{Sign}
+use Rattle.arr_ast.specs.declared.expression.Sign.TheVariants.{Plus, Minus}
+use Rattle.arr_ast.specs.declared.expression.SingleFunction.{SingleFunction}
+use Rattle.arr_ast.specs.declared.expression.SingleFunction.TheVariants.{Sum as SumOfAll, Transpose}
+use Rattle.arr_ast.specs.declared.expression.PairFunction.{PairFunction}
+use Rattle.arr_ast.specs.declared.expression.PairFunction.TheVariants.{Scale, Dot, MatMul}
 use Rattle.arr_ast.specs.IndexTree as index
 use Rattle.arr_ast.specs.ExpressionTree.{NameTree, IndicesTree, ExpressionTree, ExpressionOf, AddedTree, NoTerm, Added, TermTree, TermOf, TimesTree, NoFactor, Times, FactorTree, Number, Name, Element, Negation, Parenthesized, Single, Pair}
 use Rattle.arr_ast.specs.ProgramTree.{StatementTree, Let, Set, SetElement, For, BlockTree, EndOfBlock, Then, TopTree, Output, Inner, InputTree, ProgramTree}
+use Rattle.arr_ast.specs.declared.program.Dimension.{Dimension}
 use Rattle.arr_ast.specs.declared.program.Dimensions.{Dimensions}
 use Rattle.arr_ast.specs.declared.program.Dimensions.TheVariants as dimensions
 use Rattle.arr_ast.specs.declared.shape.ShapeOf.{ShapeOf}
 use Rattle.arr_ast.specs.declared.shape.ShapeOf.TheVariants.{Scalar, Vector, Matrix}
-use Rattle.arr_check.specs.declared.binding.Binding.{Binding}
-use Rattle.arr_check.specs.declared.binding.Binding.TheVariants.{Value, Turn}
-use Rattle.arr_check.specs.declared.refused.CheckRefused.{CheckRefused}
-use Rattle.arr_check.specs.Agrees.{Answer, ◌>>=◌}
-use Rattle.arr_check.specs.Bounds.{turns_of, bounds_of}
-use Rattle.arr_check.specs.Element.{is_place, index_below, indices_at}
-use Rattle.arr_check.specs.Expression.{element_at}
-use Rattle.arr_check.specs.Index.{within, turn_of, signed, index_value, added_index_value, index_term_value, times_index_value, index_factor_value, index_at}
-use Rattle.arr_check.specs.Program.{declared_shape}
-use Rattle.arr_check.specs.Scope.{Names, binding_of}
-use Rattle.arr_check.specs.Shape.{size_of}
-use Rattle.field_ext.specs.Field.{F, mul_f}
-use Rattle.arr_eval.specs.Follows.{◌>>=◌ as ◌>>?◌, each}
-use Rattle.arr_eval.specs.Numbers.{element}
-use Rattle.arr_eval.specs.Store.{Array, Store, numbers_of, shape_of, with_name, with_numbers}
-use Rattle.arr_eval.specs.Meaning.{if_there, offset, element_offset, opposite_of, alike, signed as signed_value, single_value, pair_value, value_of, added_value, term_value, times_value, factor_value, turns, one_turn, with_number, after_statement, after_block, Progress, after_top, store_of, begun, meaning}
+use Rattle.arr_run.specs.declared.bound.Bound.{Bound}
+use Rattle.arr_run.specs.declared.bound.Bound.TheVariants.{Value, Turn}
+use Rattle.arr_run.specs.declared.counts.Counts.{Counts}
+use Rattle.arr_run.specs.declared.refused.CheckKind.TheVariants as kinds
+use Rattle.arr_run.specs.declared.refused.CheckRefused.{CheckRefused}
+use Rattle.arr_run.specs.declared.refused.CheckRefused.TheVariants.{Bad}
+use Rattle.arr_run.specs.Agrees.{Answer, ◌>>=◌, each}
+use Rattle.arr_run.specs.Bounds.{turns_of, bounds_of}
+use Rattle.arr_run.specs.Counting.{step_at, nodes_at, constant_at, element_number, with_constant}
+use Rattle.arr_run.specs.Element.{is_place, index_below, indices_at}
+use Rattle.arr_run.specs.Expression.{Valued, made, offset, element_at, element_value, constant_value, bound_value, signed_value, product_value, opposite_value, single_value, pair_value, value_of, added_value, term_value, times_value, factor_value}
+use Rattle.arr_run.specs.Index.{within, turn_of, signed, index_value, added_index_value, index_term_value, times_index_value, index_factor_value, index_at}
+use Rattle.arr_run.specs.Operations.{Operations}
+use Rattle.arr_run.specs.Program.{dimension_of, input_shape, outputs_at, none_counted, if_any_output, after_input, after_top, run_of, end_of}
+use Rattle.arr_run.specs.Scope.{Names, binding_of}
+use Rattle.arr_run.specs.Shape.{Shaped, size_of, same_shape, for_nodes, for_minus_one, sum_shape, product_shape, single_shape, pair_shape}
+use Rattle.arr_run.specs.Statement.{State, state, bound, if_free, target_shape, if_of, with_name, expression_at, stepped, declared, assigned, element_assigned, turns, left_block, one_turn, counted_loop, after_statement, after_block}
+use Rattle.field_ext.specs.Field.{F}
+use Rattle.arr_eval.specs.Meaning.{Kept, numbers, outputs_of, meaning}
 use Rattle.arr_parse.specs.Unplaced.{unplaced_sum, unplaced_terms, unplaced_product, unplaced_factors, unplaced_index_factor, unplaced_name, unplaced_indices, unplaced_expression, unplaced_added, unplaced_term, unplaced_times, unplaced_factor, unplaced_statement, unplaced_block, unplaced_top, unplaced_dimensions, unplaced_input, unplaced}
 
 -- ---- answers whose refusals are forgotten
 
-then_there : {A B : Type 0} (answer : Answer A) (go_on : A → Answer B) → if_there (answer >>= go_on) ≡ (if_there answer >>? λ x. if_there (go_on x))
+abbrev there : {A : Type 0} → Answer A → Option A
+there (Ok x) = Some x
+there (Err refused) = None
+
+infix 20 ◌≈◌
+abbrev ◌≈◌ : {A : Type 0} → Answer A → Answer A → Type 0
+x ≈ y = there x ≡ there y
+
+abbrev then_if : {A B : Type 0} → Option A → (A → Option B) → Option B
+then_if None go_on = None
+then_if (Some x) go_on = go_on x
+
+then_there : {A B : Type 0} (answer : Answer A) (go_on : A → Answer B) → there (answer >>= go_on) ≡ then_if (there answer) (λ x. there (go_on x))
 then_there (Ok x) go_on = refl
 then_there (Err refused) go_on = refl
 
-both_there : {A B : Type 0} (answer other : Answer A) (go_on go_on' : A → Answer B) → if_there answer ≡ if_there other → ((x : A) → if_there (go_on x) ≡ if_there (go_on' x)) →
-    if_there (answer >>= go_on) ≡ if_there (other >>= go_on')
-both_there answer other go_on go_on' same more =
-    then_there answer go_on ∙ (λ i. same i >>? λ x. more x i) ∙ sym (then_there other go_on')
+both : {A B : Type 0} (answer other : Answer A) (go_on go_on' : A → Answer B) → answer ≈ other → ((x : A) → go_on x ≈ go_on' x) → (answer >>= go_on) ≈ (other >>= go_on')
+both answer other go_on go_on' same more =
+    then_there answer go_on ∙ (λ i. then_if (same i) (λ x. more x i)) ∙ sym (then_there other go_on')
 
-if_alike : {A : Type 0} (b : Bool) (x : A) (refused refused' : CheckRefused) → if_there (if b then Ok x else Err refused) ≡ if_there (if b then Ok x else Err refused')
-if_alike true x refused refused' = refl
-if_alike false x refused refused' = refl
+either : {A : Type 0} (b : Bool) (answer other : Answer A) (refused refused' : CheckRefused) → answer ≈ other → (if b then answer else Err refused) ≈ (if b then other else Err refused')
+either true answer other refused refused' same = same
+either false answer other refused refused' same = refl
 
-both_if : {A : Type 0} (b c : Bool) (x : A) (refused refused' other other' : CheckRefused) →
-    if_there (if b then (if c then Ok x else Err refused) else Err other) ≡ if_there (if b then (if c then Ok x else Err refused') else Err other')
-both_if true c x refused refused' other other' = if_alike c x refused refused'
-both_if false c x refused refused' other other' = refl
+-- ---- counts
 
--- ---- index expressions
+step-alike : (at at' : ℕ) (counts : Counts) → step_at at' counts ≈ step_at at counts
+step-alike at at' counts = either (nat_lt counts.steps 1048576) _ _ _ _ refl
 
-within-alike : (whole whole' : ℕ) (value : ℤ) → if_there (within whole' value) ≡ if_there (within whole value)
-within-alike whole whole' value = if_alike (nat_le (nat_abs value) (2 ^ 31)) value _ _
+nodes-alike : (at at' more : ℕ) (counts : Counts) → nodes_at at' more counts ≈ nodes_at at more counts
+nodes-alike at at' more counts = either (nat_le (more + counts.nodes) 262144) _ _ _ _ refl
 
-turn_of-alike : (whole whole' at at' : ℕ) (binding : Option Binding) → if_there (turn_of whole' at' binding) ≡ if_there (turn_of whole at binding)
-turn_of-alike whole whole' at at' None = refl
-turn_of-alike whole whole' at at' (Some (Value shape)) = refl
-turn_of-alike whole whole' at at' (Some (Turn number)) = within-alike whole whole' (pos number)
+outputs-alike : (at at' more : ℕ) (counts : Counts) → outputs_at at' more counts ≈ outputs_at at more counts
+outputs-alike at at' more counts = either (nat_le (more + counts.outputs) 65535) _ _ _ _ refl
 
-mutual
-  sum-alike : (scope : Names) (whole whole' : ℕ) (tree : index.Sum) → if_there (index_value scope whole' (unplaced_sum tree)) ≡ if_there (index_value scope whole tree)
-  sum-alike scope whole whole' (index.SumOf first added) =
-      both_there _ _ _ _ (product-alike scope whole whole' first) (λ value. terms-alike scope whole whole' added value)
+constant-alike : (at at' value : ℕ) (counts : Counts) → constant_at at' value counts ≈ constant_at at value counts
+constant-alike at at' value counts = by (set.contains counts.constants (element_number value))
+  where
+    by : (known : Bool) → (if known then Ok counts else (nodes_at at' 1 counts >>= λ counts. Ok (with_constant (element_number value) counts))) ≈ (if known then Ok counts else (nodes_at at 1 counts >>= λ counts. Ok (with_constant (element_number value) counts)))
+    by true = refl
+    by false = both _ _ _ _ (nodes-alike at at' 1 counts) (λ counts. refl)
 
-  terms-alike : (scope : Names) (whole whole' : ℕ) (tree : index.Terms) (value : ℤ) → if_there (added_index_value scope whole' (unplaced_terms tree) value) ≡ if_there (added_index_value scope whole tree value)
-  terms-alike scope whole whole' index.NoTerm value = refl
-  terms-alike scope whole whole' (index.Term sign at term rest) left =
-      both_there _ _ _ _
-      (both_there _ _ _ _ (product-alike scope whole whole' term) (λ right. within-alike whole whole' (signed sign left right)))
-      (λ value. terms-alike scope whole whole' rest value)
+-- ---- shapes
 
-  product-alike : (scope : Names) (whole whole' : ℕ) (tree : index.Product) → if_there (index_term_value scope whole' (unplaced_product tree)) ≡ if_there (index_term_value scope whole tree)
-  product-alike scope whole whole' (index.ProductOf first times) =
-      both_there _ _ _ _ (factor-alike scope whole whole' first) (λ value. factors-alike scope whole whole' times value)
+for_nodes-alike : (at at' count : ℕ) (shape : ShapeOf) (counts : Counts) → for_nodes at' count shape counts ≈ for_nodes at count shape counts
+for_nodes-alike at at' count shape counts = both _ _ _ _ (nodes-alike at at' count counts) (λ counts. refl)
 
-  factors-alike : (scope : Names) (whole whole' : ℕ) (tree : index.Factors) (value : ℤ) → if_there (times_index_value scope whole' (unplaced_factors tree) value) ≡ if_there (times_index_value scope whole tree value)
-  factors-alike scope whole whole' index.NoFactor value = refl
-  factors-alike scope whole whole' (index.Times at factor rest) left =
-      both_there _ _ _ _
-      (both_there _ _ _ _ (factor-alike scope whole whole' factor) (λ right. within-alike whole whole' (left *ℤ right)))
-      (λ value. factors-alike scope whole whole' rest value)
+for_minus_one-alike : (at at' count : ℕ) (shape : ShapeOf) (counts : Counts) → for_minus_one at' count shape counts ≈ for_minus_one at count shape counts
+for_minus_one-alike at at' count shape counts = both _ _ _ _ (constant-alike at at' 2147483646 counts) (λ counts. for_nodes-alike at at' count shape counts)
 
-  factor-alike : (scope : Names) (whole whole' : ℕ) (tree : index.Factor) → if_there (index_factor_value scope whole' (unplaced_index_factor tree)) ≡ if_there (index_factor_value scope whole tree)
-  factor-alike scope whole whole' (index.Number at value) = within-alike whole whole' (pos value)
-  factor-alike scope whole whole' (index.Name at number) = turn_of-alike whole whole' at 0 (binding_of number scope)
-  factor-alike scope whole whole' (index.Parenthesized at inner) = sum-alike scope whole whole' inner
+sum_shape-alike : (sign : Sign) (at at' : ℕ) (left right : ShapeOf) (counts : Counts) → sum_shape sign at' left right counts ≈ sum_shape sign at left right counts
+sum_shape-alike Plus at at' left right counts = either (same_shape left right) _ _ _ _ (for_nodes-alike at at' (size_of left * 1) left counts)
+sum_shape-alike Minus at at' left right counts = either (same_shape left right) _ _ _ _ (for_minus_one-alike at at' (size_of left * 2) left counts)
 
--- ---- elements and bounds
+product_shape-alike : (at at' : ℕ) (left right : ShapeOf) (counts : Counts) → product_shape at' left right counts ≈ product_shape at left right counts
+product_shape-alike at at' left right counts = either (same_shape left right) _ _ _ _ (for_nodes-alike at at' (size_of left * 1) left counts)
 
-below-alike : (scope : Names) (tree : index.Sum) (dimension : ℕ) → if_there (index_below scope (unplaced_sum tree) dimension) ≡ if_there (index_below scope tree dimension)
-below-alike scope tree dimension =
-    both_there _ _ _ _ (sum-alike scope (index_at tree) (index_at (unplaced_sum tree)) tree) (λ value. if_alike (is_place value dimension) (nat_abs value) _ _)
+single_shape-alike : (function : SingleFunction) (at at' : ℕ) (shape : ShapeOf) (counts : Counts) → single_shape function at' shape counts ≈ single_shape function at shape counts
+single_shape-alike SumOfAll at at' shape counts = for_nodes-alike at at' ((size_of shape - 1) * 1) Scalar counts
+single_shape-alike Transpose at at' Scalar counts = refl
+single_shape-alike Transpose at at' (Vector n) counts = refl
+single_shape-alike Transpose at at' (Matrix n m) counts = refl
 
-indices-alike : (scope : Names) (at at' : ℕ) (second : Option index.Sum) (first : index.Sum) (shape : ShapeOf) →
-    if_there (indices_at scope at' (option_map unplaced_sum second) (unplaced_sum first) shape) ≡ if_there (indices_at scope at second first shape)
-indices-alike scope at at' None first Scalar = refl
-indices-alike scope at at' None first (Vector n) = both_there _ _ _ _ (below-alike scope first n) (λ row. refl)
-indices-alike scope at at' None first (Matrix n m) = refl
-indices-alike scope at at' (Some second) first Scalar = refl
-indices-alike scope at at' (Some second) first (Vector n) = refl
-indices-alike scope at at' (Some second) first (Matrix n m) =
-    both_there _ _ _ _ (below-alike scope first n) (λ row. both_there _ _ _ _ (below-alike scope second m) (λ column. refl))
+pair_shape-alike : (function : PairFunction) (at at' : ℕ) (left right : ShapeOf) (counts : Counts) → pair_shape function at' left right counts ≈ pair_shape function at left right counts
+pair_shape-alike Scale at at' Scalar right counts = for_nodes-alike at at' (size_of right * 1) right counts
+pair_shape-alike Scale at at' (Vector n) right counts = refl
+pair_shape-alike Scale at at' (Matrix n m) right counts = refl
+pair_shape-alike Dot at at' (Vector n) (Vector m) counts = either (n == m) _ _ _ _ (for_nodes-alike at at' ((n + n - 1) * 1) Scalar counts)
+pair_shape-alike Dot at at' (Vector n) Scalar counts = refl
+pair_shape-alike Dot at at' (Vector n) (Matrix k q) counts = refl
+pair_shape-alike Dot at at' Scalar right counts = refl
+pair_shape-alike Dot at at' (Matrix n m) right counts = refl
+pair_shape-alike MatMul at at' (Matrix n m) (Matrix k q) counts = either (m == k) _ _ _ _ (for_nodes-alike at at' ((n * q) * (m + m - 1)) (Matrix n q) counts)
+pair_shape-alike MatMul at at' (Matrix n m) Scalar counts = refl
+pair_shape-alike MatMul at at' (Matrix n m) (Vector k) counts = refl
+pair_shape-alike MatMul at at' Scalar right counts = refl
+pair_shape-alike MatMul at at' (Vector n) right counts = refl
 
-element_at-alike : (scope : Names) (at at' : ℕ) (indices : IndicesTree) (binding : Option Binding) →
-    if_there (element_at scope at' (unplaced_indices indices) binding) ≡ if_there (element_at scope at indices binding)
-element_at-alike scope at at' indices None = refl
-element_at-alike scope at at' indices (Some (Turn number)) = refl
-element_at-alike scope at at' indices (Some (Value shape)) = indices-alike scope at at' indices.second indices.first shape
+-- ---- index expressions, elements and bounds
 
-turns_of-alike : (at at' : ℕ) (low high : ℤ) → if_there (turns_of at' low high) ≡ if_there (turns_of at low high)
-turns_of-alike at at' (pos low) (pos high) = both_if (nat_le low high) (nat_le high 2147483647) (low, high) _ _ _ _
+within-alike : (whole whole' : ℕ) (value : ℤ) → within whole' value ≈ within whole value
+within-alike whole whole' value = either (nat_le (nat_abs value) (2 ^ 31)) _ _ _ _ refl
+
+turns_of-alike : (at at' : ℕ) (low high : ℤ) → turns_of at' low high ≈ turns_of at low high
+turns_of-alike at at' (pos low) (pos high) = either (nat_le low high) _ _ _ _ (either (nat_le high 2147483647) _ _ _ _ refl)
 turns_of-alike at at' (pos low) (negsuc high) = refl
 turns_of-alike at at' (negsuc low) (pos high) = refl
 turns_of-alike at at' (negsuc low) (negsuc high) = refl
 
-bounds-alike : (scope : Names) (low high : index.Sum) → if_there (bounds_of scope (unplaced_sum low) (unplaced_sum high)) ≡ if_there (bounds_of scope low high)
-bounds-alike scope low high =
-    both_there _ _ _ _ (sum-alike scope (index_at low) (index_at (unplaced_sum low)) low)
-    (λ from. both_there _ _ _ _ (sum-alike scope (index_at high) (index_at (unplaced_sum high)) high) (λ to. turns_of-alike (index_at low) (index_at (unplaced_sum low)) from to))
+module _ {A : Type 0} where
+  turn_of-alike : (whole whole' at at' : ℕ) (binding : Option (Bound A)) → turn_of whole' at' binding ≈ turn_of whole at binding
+  turn_of-alike whole whole' at at' None = refl
+  turn_of-alike whole whole' at at' (Some (Value shape array)) = refl
+  turn_of-alike whole whole' at at' (Some (Turn number)) = within-alike whole whole' (pos number)
 
-offset-alike : (name : NameTree) (indices : IndicesTree) (store : Store) → element_offset (unplaced_name name) (unplaced_indices indices) store ≡ element_offset name indices store
-offset-alike name indices store = λ i.
-    element_at-alike store.names name.at 0 indices (binding_of name.number store.names) i >>? λ place.
-    option_map shape_of (binding_of name.number store.names) >>? λ shape. Some (offset shape place)
+  mutual
+    sum-alike : (names : Names A) (whole whole' : ℕ) (tree : index.Sum) → index_value names whole' (unplaced_sum tree) ≈ index_value names whole tree
+    sum-alike names whole whole' (index.SumOf first added) =
+        both _ _ _ _ (product-alike names whole whole' first) (λ value. terms-alike names whole whole' added value)
 
--- ---- expressions
+    terms-alike : (names : Names A) (whole whole' : ℕ) (tree : index.Terms) (value : ℤ) → added_index_value names whole' (unplaced_terms tree) value ≈ added_index_value names whole tree value
+    terms-alike names whole whole' index.NoTerm value = refl
+    terms-alike names whole whole' (index.Term sign at term rest) left =
+        both _ _ _ _
+        (both _ _ _ _ (product-alike names whole whole' term) (λ right. within-alike whole whole' (signed sign left right)))
+        (λ value. terms-alike names whole whole' rest value)
 
-mutual
-  expression-alike : (tree : ExpressionTree) (store : Store) → value_of (unplaced_expression tree) store ≡ value_of tree store
-  expression-alike (ExpressionOf first added) store = λ i. term-alike first store i >>? λ left. added-alike added store left i
+    product-alike : (names : Names A) (whole whole' : ℕ) (tree : index.Product) → index_term_value names whole' (unplaced_product tree) ≈ index_term_value names whole tree
+    product-alike names whole whole' (index.ProductOf first times) =
+        both _ _ _ _ (factor-alike names whole whole' first) (λ value. factors-alike names whole whole' times value)
 
-  added-alike : (tree : AddedTree) (store : Store) (left : Array) → added_value (unplaced_added tree) store left ≡ added_value tree store left
-  added-alike NoTerm store left = refl
-  added-alike (Added sign at term rest) store left = λ i. (term-alike term store i >>? signed_value sign left) >>? λ left. added-alike rest store left i
+    factors-alike : (names : Names A) (whole whole' : ℕ) (tree : index.Factors) (value : ℤ) → times_index_value names whole' (unplaced_factors tree) value ≈ times_index_value names whole tree value
+    factors-alike names whole whole' index.NoFactor value = refl
+    factors-alike names whole whole' (index.Times at factor rest) left =
+        both _ _ _ _
+        (both _ _ _ _ (factor-alike names whole whole' factor) (λ right. within-alike whole whole' (left *ℤ right)))
+        (λ value. factors-alike names whole whole' rest value)
 
-  term-alike : (tree : TermTree) (store : Store) → term_value (unplaced_term tree) store ≡ term_value tree store
-  term-alike (TermOf first times) store = λ i. value-alike first store i >>? λ left. times-alike times store left i
+    factor-alike : (names : Names A) (whole whole' : ℕ) (tree : index.Factor) → index_factor_value names whole' (unplaced_index_factor tree) ≈ index_factor_value names whole tree
+    factor-alike names whole whole' (index.Number at value) = within-alike whole whole' (pos value)
+    factor-alike names whole whole' (index.Name at number) = turn_of-alike whole whole' at 0 (binding_of number names)
+    factor-alike names whole whole' (index.Parenthesized at inner) = sum-alike names whole whole' inner
 
-  times-alike : (tree : TimesTree) (store : Store) (left : Array) → times_value (unplaced_times tree) store left ≡ times_value tree store left
-  times-alike NoFactor store left = refl
-  times-alike (Times at factor rest) store left = λ i. (value-alike factor store i >>? alike mul_f left) >>? λ left. times-alike rest store left i
+  below-alike : (names : Names A) (tree : index.Sum) (dimension : ℕ) → index_below names (unplaced_sum tree) dimension ≈ index_below names tree dimension
+  below-alike names tree dimension =
+      both _ _ _ _ (sum-alike names (index_at tree) (index_at (unplaced_sum tree)) tree) (λ value. either (is_place value dimension) _ _ _ _ refl)
 
-  value-alike : (tree : FactorTree) (store : Store) → factor_value (unplaced_factor tree) store ≡ factor_value tree store
-  value-alike (Number at value) store = refl
-  value-alike (Name name) store = refl
-  value-alike (Element name indices) store = λ i. offset-alike name indices store i >>? λ place. Some (record { shape = Scalar; items = element (numbers_of name.number store) place ∷ [] })
-  value-alike (Negation at operand) store = λ i. value-alike operand store i >>? λ array. Some (opposite_of array)
-  value-alike (Parenthesized at inner) store = expression-alike inner store
-  value-alike (Single function at parenthesis argument) store = λ i. expression-alike argument store i >>? λ array. single_value function array.items array.shape
-  value-alike (Pair function at parenthesis left right) store = λ i.
-      expression-alike left store i >>? λ left. expression-alike right store i >>? λ right. pair_value function left.items right.items left.shape right.shape
+  indices-alike : (names : Names A) (at at' : ℕ) (second : Option index.Sum) (first : index.Sum) (shape : ShapeOf) →
+      indices_at names at' (option_map unplaced_sum second) (unplaced_sum first) shape ≈ indices_at names at second first shape
+  indices-alike names at at' None first Scalar = refl
+  indices-alike names at at' None first (Vector n) = both _ _ _ _ (below-alike names first n) (λ row. refl)
+  indices-alike names at at' None first (Matrix n m) = refl
+  indices-alike names at at' (Some second) first Scalar = refl
+  indices-alike names at at' (Some second) first (Vector n) = refl
+  indices-alike names at at' (Some second) first (Matrix n m) =
+      both _ _ _ _ (below-alike names first n) (λ row. both _ _ _ _ (below-alike names second m) (λ column. refl))
 
--- ---- statements
+  element_at-alike : (names : Names A) (at at' : ℕ) (indices : IndicesTree) (binding : Option (Bound A)) → element_at names at' (unplaced_indices indices) binding ≈ element_at names at indices binding
+  element_at-alike names at at' indices None = refl
+  element_at-alike names at at' indices (Some (Turn number)) = refl
+  element_at-alike names at at' indices (Some (Value shape array)) = both _ _ _ _ (indices-alike names at at' indices.second indices.first shape) (λ place. refl)
 
-mutual
-  statement-alike : (tree : StatementTree) (store : Store) → after_statement (unplaced_statement tree) store ≡ after_statement tree store
-  statement-alike (Let at name value) store = λ i. expression-alike value store i >>? λ array. Some (with_name name.number (Value array.shape) array.items store)
-  statement-alike (Set name value) store = λ i. expression-alike value store i >>? λ array. Some (with_numbers name.number array.items store)
-  statement-alike (SetElement name indices value) store = λ i.
-      offset-alike name indices store i >>? λ place. expression-alike value store i >>? λ array. Some (with_number name place (element array.items 0) store)
-  statement-alike (For at name low high body) store = λ i.
-      bounds-alike store.names low high i >>? λ (first, end). turns (end - first) first (one_turn name (λ before. block-alike body before i)) store
+  bounds-alike : (names : Names A) (low high : index.Sum) → bounds_of names (unplaced_sum low) (unplaced_sum high) ≈ bounds_of names low high
+  bounds-alike names low high =
+      both _ _ _ _ (sum-alike names (index_at low) (index_at (unplaced_sum low)) low)
+      (λ from. both _ _ _ _ (sum-alike names (index_at high) (index_at (unplaced_sum high)) high) (λ to. turns_of-alike (index_at low) (index_at (unplaced_sum low)) from to))
 
-  block-alike : (tree : BlockTree) (store : Store) → after_block (unplaced_block tree) store ≡ after_block tree store
-  block-alike EndOfBlock store = refl
-  block-alike (Then statement rest) store = λ i. statement-alike statement store i >>? λ after. block-alike rest after i
+  free-alike : (at at' : ℕ) (binding : Option (Bound A)) → if_free at' binding ≈ if_free at binding
+  free-alike at at' None = refl
+  free-alike at at' (Some binding) = refl
 
--- ---- programs
+  target-alike : (at at' : ℕ) (binding : Option (Bound A)) → target_shape at' binding ≈ target_shape at binding
+  target-alike at at' None = refl
+  target-alike at at' (Some (Turn number)) = refl
+  target-alike at at' (Some (Value shape array)) = refl
 
-top-alike : (tree : TopTree) (progress : Progress) → after_top (unplaced_top tree) progress ≡ after_top tree progress
-top-alike (Output at value) progress = λ i. expression-alike value progress.store i >>? λ array. Some (record progress { outputs = progress.outputs ++ array.items })
-top-alike (Inner statement) progress = λ i. statement-alike statement progress.store i >>? λ store. Some (record progress { store = store })
+of-alike : (shape : ShapeOf) (at at' : ℕ) (found : ShapeOf) → if_of shape at' found ≈ if_of shape at found
+of-alike shape at at' found = either (same_shape shape found) _ _ _ _ refl
 
-tops-alike : (trees : List TopTree) (progress : Progress) → each after_top (map unplaced_top trees) progress ≡ each after_top trees progress
-tops-alike [] progress = refl
-tops-alike (tree ∷ trees) progress = λ i. top-alike tree progress i >>? λ after. tops-alike trees after i
+dimension-alike : (at at' size : ℕ) → dimension_of (record { at = at'; size = size }) ≈ dimension_of (record { at = at; size = size })
+dimension-alike at at' size = either (nat_le 1 size && nat_le size 4096) _ _ _ _ refl
 
-declared-alike : (tree : Dimensions) → declared_shape (unplaced_dimensions tree) ≡ declared_shape tree
-declared-alike dimensions.Scalar = refl
-declared-alike (dimensions.Vector n) = refl
-declared-alike (dimensions.Matrix n m) = refl
+shape-alike : (tree : Dimensions) → input_shape (unplaced_dimensions tree) ≈ input_shape tree
+shape-alike dimensions.Scalar = refl
+shape-alike (dimensions.Vector n) = both _ _ _ _ (dimension-alike n.at 0 n.size) (λ n. refl)
+shape-alike (dimensions.Matrix n m) = both _ _ _ _ (dimension-alike n.at 0 n.size) (λ n. both _ _ _ _ (dimension-alike m.at 0 m.size) (λ m. refl))
 
-inputs-alike : (trees : List InputTree) (numbers : List F) (store : Store) → store_of (map unplaced_input trees) numbers store ≡ store_of trees numbers store
-inputs-alike [] numbers store = refl
-inputs-alike (tree ∷ trees) numbers store =
-    inputs-alike trees _ _
-    ∙ ap (λ shape. store_of trees (drop (size_of shape) numbers) (with_name tree.name.number (Value shape) (take (size_of shape) numbers) store)) (declared-alike tree.dimensions)
+module _ {A S : Type 0} (operations : Operations A S) where
+  -- ---- expressions
+
+  made-alike : (shaped shaped' : Shaped) (make : S → A × S) (kept : S) → shaped' ≈ shaped → made shaped' make kept ≈ made shaped make kept
+  made-alike shaped shaped' make kept same = both _ _ _ _ same (λ found. refl)
+
+  constant_value-alike : (at at' value : ℕ) (counts : Counts) (kept : S) → constant_value operations at' value counts kept ≈ constant_value operations at value counts kept
+  constant_value-alike at at' value counts kept = made-alike _ _ (operations.constant value) kept (both _ _ _ _ (constant-alike at at' value counts) (λ counts. refl))
+
+  bound-alike : (at at' : ℕ) (binding : Option (Bound A)) (counts : Counts) (kept : S) → bound_value operations at' binding counts kept ≈ bound_value operations at binding counts kept
+  bound-alike at at' None counts kept = refl
+  bound-alike at at' (Some (Turn number)) counts kept = constant_value-alike at at' number counts kept
+  bound-alike at at' (Some (Value shape array)) counts kept = refl
+
+  mutual
+    expression-alike : (tree : ExpressionTree) (names : Names A) (counts : Counts) (kept : S) → value_of operations (unplaced_expression tree) names counts kept ≈ value_of operations tree names counts kept
+    expression-alike (ExpressionOf first added) names counts kept = both _ _ _ _ (term-alike first names counts kept) (λ left. added-alike added names left)
+
+    added-alike : (tree : AddedTree) (names : Names A) (left : Valued A S) → added_value operations (unplaced_added tree) names left ≈ added_value operations tree names left
+    added-alike NoTerm names left = refl
+    added-alike (Added sign at term rest) names left =
+        both _ _ _ _
+        (both _ _ _ _ (term-alike term names left.2 left.3) (λ right. made-alike _ _ (operations.signed sign left.1 right.1) right.3 (sum_shape-alike sign at 0 left.0 right.0 right.2)))
+        (λ left. added-alike rest names left)
+
+    term-alike : (tree : TermTree) (names : Names A) (counts : Counts) (kept : S) → term_value operations (unplaced_term tree) names counts kept ≈ term_value operations tree names counts kept
+    term-alike (TermOf first times) names counts kept = both _ _ _ _ (value-alike first names counts kept) (λ left. times-alike times names left)
+
+    times-alike : (tree : TimesTree) (names : Names A) (left : Valued A S) → times_value operations (unplaced_times tree) names left ≈ times_value operations tree names left
+    times-alike NoFactor names left = refl
+    times-alike (Times at factor rest) names left =
+        both _ _ _ _
+        (both _ _ _ _ (value-alike factor names left.2 left.3) (λ right. made-alike _ _ (operations.product left.1 right.1) right.3 (product_shape-alike at 0 left.0 right.0 right.2)))
+        (λ left. times-alike rest names left)
+
+    value-alike : (tree : FactorTree) (names : Names A) (counts : Counts) (kept : S) → factor_value operations (unplaced_factor tree) names counts kept ≈ factor_value operations tree names counts kept
+    value-alike (Number at value) names counts kept = constant_value-alike at 0 value counts kept
+    value-alike (Name name) names counts kept = bound-alike name.at 0 (binding_of name.number names) counts kept
+    value-alike (Element name indices) names counts kept = both _ _ _ _ (element_at-alike names name.at 0 indices (binding_of name.number names)) (λ found. refl)
+    value-alike (Negation at operand) names counts kept =
+        both _ _ _ _ (value-alike operand names counts kept) (λ found. made-alike _ _ (operations.opposite found.1) found.3 (for_minus_one-alike at 0 (size_of found.0 * 1) found.0 found.2))
+    value-alike (Parenthesized at inner) names counts kept = expression-alike inner names counts kept
+    value-alike (Single function at parenthesis argument) names counts kept =
+        both _ _ _ _ (expression-alike argument names counts kept) (λ found. made-alike _ _ (operations.single function found.0 found.1) found.3 (single_shape-alike function at 0 found.0 found.2))
+    value-alike (Pair function at parenthesis left right) names counts kept =
+        both _ _ _ _ (expression-alike left names counts kept) (λ left.
+        both _ _ _ _ (expression-alike right names left.2 left.3) (λ right. made-alike _ _ (operations.pair function left.0 right.0 left.1 right.1) right.3 (pair_shape-alike function at 0 left.0 right.0 right.2)))
+
+  -- ---- statements
+
+  stepped-alike : (at at' : ℕ) (go_on go_on' : State A S → Answer (State A S)) (before : State A S) → ((after : State A S) → go_on' after ≈ go_on after) → stepped operations at' go_on' before ≈ stepped operations at go_on before
+  stepped-alike at at' go_on go_on' before same = both _ _ _ _ (step-alike at at' before.counts) (λ counts. same (state before.names counts before.kept))
+
+  turns-alike : (left turn : ℕ) (body body' : ℕ → State A S → Answer (State A S)) (before : State A S) → ((turn : ℕ) (before : State A S) → body' turn before ≈ body turn before) →
+      turns operations left turn body' before ≈ turns operations left turn body before
+  turns-alike zero turn body body' before same = refl
+  turns-alike (suc left) turn body body' before same = both _ _ _ _ (same turn before) (λ after. turns-alike left (turn + 1) body body' after same)
+
+  loop-alike : (at : ℕ) (name : NameTree) (low high : index.Sum) (body body' : State A S → Answer (State A S)) (before : State A S) → ((before : State A S) → body' before ≈ body before) →
+      counted_loop operations 0 (unplaced_name name) (unplaced_sum low) (unplaced_sum high) body' before ≈ counted_loop operations at name low high body before
+  loop-alike at name low high body body' before same =
+      both _ _ _ _ (free-alike name.at 0 (bound name before.names)) (λ free.
+      both _ _ _ _ (bounds-alike before.names low high) (λ bounds.
+      turns-alike (bounds.1 - bounds.0) bounds.0 (one_turn operations at name body) (one_turn operations 0 (unplaced_name name) body') before (λ turn before.
+      both _ _ _ _ (step-alike at 0 before.counts) (λ counts.
+      both _ _ _ _ (same (state (with_name name.number (Turn turn) before.names) counts before.kept)) (λ after. refl)))))
+
+  mutual
+    statement-alike : (tree : StatementTree) (before : State A S) → after_statement operations (unplaced_statement tree) before ≈ after_statement operations tree before
+    statement-alike (Let at name value) before =
+        stepped-alike at 0 (declared operations name value) (declared operations (unplaced_name name) (unplaced_expression value)) before (λ after.
+        both _ _ _ _ (free-alike name.at 0 (bound name after.names)) (λ free.
+        both _ _ _ _ (expression-alike value after.names after.counts after.kept) (λ found. refl)))
+    statement-alike (Set name value) before =
+        stepped-alike name.at 0 (assigned operations name value) (assigned operations (unplaced_name name) (unplaced_expression value)) before (λ after.
+        both _ _ _ _ (target-alike name.at 0 (bound name after.names)) (λ shape.
+        both _ _ _ _ (expression-alike value after.names after.counts after.kept) (λ found.
+        both _ _ _ _ (of-alike shape (expression_at value) (expression_at (unplaced_expression value)) found.0) (λ fits. refl))))
+    statement-alike (SetElement name indices value) before =
+        stepped-alike name.at 0 (element_assigned operations name indices value) (element_assigned operations (unplaced_name name) (unplaced_indices indices) (unplaced_expression value)) before (λ after.
+        both _ _ _ _ (target-alike name.at 0 (bound name after.names)) (λ shape.
+        both _ _ _ _ (indices-alike after.names name.at 0 indices.second indices.first shape) (λ place.
+        both _ _ _ _ (expression-alike value after.names after.counts after.kept) (λ found.
+        both _ _ _ _ (of-alike Scalar (expression_at value) (expression_at (unplaced_expression value)) found.0) (λ fits. refl)))))
+    statement-alike (For at name low high body) before =
+        stepped-alike at 0 (counted_loop operations at name low high (after_block operations body))
+        (counted_loop operations 0 (unplaced_name name) (unplaced_sum low) (unplaced_sum high) (after_block operations (unplaced_block body))) before
+        (λ after. loop-alike at name low high (after_block operations body) (after_block operations (unplaced_block body)) after (λ before. block-alike body before))
+
+    block-alike : (tree : BlockTree) (before : State A S) → after_block operations (unplaced_block tree) before ≈ after_block operations tree before
+    block-alike EndOfBlock before = refl
+    block-alike (Then statement rest) before = both _ _ _ _ (statement-alike statement before) (λ after. block-alike rest after)
+
+  -- ---- programs
+
+  top-alike : (tree : TopTree) (before : State A S) → after_top operations (unplaced_top tree) before ≈ after_top operations tree before
+  top-alike (Output at value) before =
+      both _ _ _ _ (step-alike at 0 before.counts) (λ counts.
+      both _ _ _ _ (expression-alike value before.names counts before.kept) (λ found.
+      both _ _ _ _ (outputs-alike at 0 (size_of found.0) found.2) (λ counts. refl)))
+  top-alike (Inner statement) before = statement-alike statement before
+
+  input-alike : (tree : InputTree) (before : State A S) → after_input operations (unplaced_input tree) before ≈ after_input operations tree before
+  input-alike tree before =
+      both _ _ _ _ (step-alike tree.at 0 before.counts) (λ counts.
+      both _ _ _ _ (free-alike tree.name.at 0 (bound tree.name before.names)) (λ free.
+      both _ _ _ _ (shape-alike tree.dimensions) (λ shape.
+      both _ _ _ _ (nodes-alike tree.name.at 0 (size_of shape * 1) counts) (λ counts. refl))))
+
+  each-alike : {X : Type 0} (step : X → State A S → Answer (State A S)) (forget : X → X) → ((x : X) (before : State A S) → step (forget x) before ≈ step x before) → (xs : List X) (before : State A S) →
+      each step (map forget xs) before ≈ each step xs before
+  each-alike step forget same [] before = refl
+  each-alike step forget same (x ∷ xs) before = both _ _ _ _ (same x before) (λ after. each-alike step forget same xs after)
+
+  any-alike : (end end' : ℕ) (after : State A S) → if_any_output end' after ≈ if_any_output end after
+  any-alike end end' after = by (after.counts.outputs == 0)
+    where
+      by : (none : Bool) → (if none then Err (Bad end' kinds.NoOutput) else Ok after) ≈ (if none then Err (Bad end kinds.NoOutput) else Ok after)
+      by true = refl
+      by false = refl
+
+  -- a run goes through for a program without its places exactly where it does with them, and leaves the same
+  end-alike : (tree : ProgramTree) (kept : S) → end_of operations (unplaced tree) kept ≈ end_of operations tree kept
+  end-alike tree kept =
+      both _ _ _ _
+      (both _ _ _ _
+      (both _ _ _ _ (each-alike (after_input operations) unplaced_input input-alike tree.inputs (state [] none_counted kept)) (λ after. each-alike (after_top operations) unplaced_top top-alike tree.statements after))
+      (λ after. any-alike tree.end 0 after))
+      (λ after. refl)
+
+outputs-there : (x y : Answer (Counts × Kept)) → x ≈ y → outputs_of x ≡ outputs_of y
+outputs-there (Ok x) (Ok y) same = let equal : ◌≡◌ {A = Counts × Kept} x y = cc in ap (λ (end : Counts × Kept). Some end.1.outputs) equal
+outputs-there (Err refused) (Err other) same = refl
+outputs-there (Ok x) (Err refused) same = cc
+outputs-there (Err refused) (Ok y) same = cc
 
 unplaced-meaning : (tree : ProgramTree) (inputs : List F) → meaning (unplaced tree) inputs ≡ meaning tree inputs
 unplaced-meaning tree inputs =
-    ap (λ progress. progress >>? λ progress. Some progress.outputs)
-    (tops-alike tree.statements (begun (map unplaced_input tree.inputs) inputs)
-    ∙ ap (λ store. each after_top tree.statements (record { store = store; outputs = [] })) (inputs-alike tree.inputs inputs (record { names = []; numbers = [] })))
+    outputs-there (end_of numbers (unplaced tree) (record { inputs = inputs; outputs = [] })) (end_of numbers tree (record { inputs = inputs; outputs = [] })) (end-alike numbers tree (record { inputs = inputs; outputs = [] }))
 
 pub places_play_no_part : (a b : ProgramTree) → unplaced a ≡ unplaced b → (inputs : List F) → meaning a inputs ≡ meaning b inputs
 places_play_no_part a b same inputs = sym (unplaced-meaning a inputs) ∙ ap (λ tree. meaning tree inputs) same ∙ unplaced-meaning b inputs

@@ -10,8 +10,9 @@ use Rattle.circuit_core.specs.Sound.{SoundCircuit, greatest}
 use Rattle.circuit_eval.specs.Tables.{AreTables}
 use Rattle.wiring_poly.proofs.Identity.{take-front}
 use Rattle.arr_ast.specs.ProgramTree.{ProgramTree}
-use Rattle.arr_check.specs.Program.{input_count}
+use Rattle.arr_run.specs.Program.{input_count}
 use Rattle.arr_eval.specs.Meaning.{meaning}
+use Rattle.arr_lower.proofs.Counted.{is-list}
 use Rattle.layer_compile.specs.Circuits.{AreKept}
 use Rattle.layer_compile.proofs.NoFault.{faultless}
 use Rattle.arr_compile.specs.Programs.{IsRead}
@@ -27,8 +28,8 @@ kept = record { height = omega arith; exponent = omega arith }
 abbrev pub sound : (text : List ℕ) (p : Parts) → IsCompiled text p → SoundCircuit
 sound text p is = record {
   parts = p;
-  faultless = subst (λ (q : Parts). IsTrue (is_none (fault_of greatest q))) (sym is.laid_out) (ap is_none (faultless greatest kept is.nodes is.lowered.in_order is.fits));
-  has_output = subst (λ (q : Parts). 1 ≤ q.outputs) (sym is.laid_out) is.lowered.in_order.has_output;
+  faultless = subst (λ (q : Parts). IsTrue (is_none (fault_of greatest q))) (sym is.laid_out) (ap is_none (faultless greatest kept is.nodes (is-list is.tree is.nodes is.lowered.nodes_are) is.fits));
+  has_output = subst (λ (q : Parts). 1 ≤ q.outputs) (sym is.laid_out) (is-list is.tree is.nodes is.lowered.nodes_are).has_output;
 }
 
 -- ---- what is read from the output layer's table

@@ -2,7 +2,7 @@
 use Rattle.std.specs.Prelude.{◌≡◌, ◌≢◌, ℕ, List, length, Some}
 use Rattle.field_ext.specs.Field.{F}
 use Rattle.arr_ast.specs.ProgramTree.{ProgramTree}
-use Rattle.arr_check.specs.Program.{input_count}
+use Rattle.arr_run.specs.Program.{input_count}
 use Rattle.arr_compile.specs.declared.refused.CompileRefused.{CompileRefused}
 use Rattle.arr_compile.specs.declared.refused.CompileRefused.TheVariants as compile
 use Rattle.arr_compile.specs.Programs.{IsAccepted, IsRefusal}

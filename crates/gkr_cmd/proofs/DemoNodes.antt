@@ -1,6 +1,6 @@
 -- The nodes of the programs of `demo`, and that they are laid out within the limits of every circuit.
-use Rattle.std.proofs.Common.{◌≡◌, ℕ, ◌+◌, ◌-◌, ◌*◌, ◌<◌, ◌≤◌, ◌^◌, Bool, true, false, not, nat_lt, le-leb, ◌&&◌, ◌==◌, List, [], ◌∷◌, ◌++◌, length, map, Option, Some, None, refl, ap, arith, All}
-use Rattle.std.specs.Prelude.{if◌then◌else◌}
+use Rattle.std.proofs.Common.{◌≡◌, ℕ, zero, suc, ◌+◌, ◌-◌, ◌*◌, ◌<◌, ◌≤◌, ◌^◌, Bool, true, false, not, nat_lt, le-leb, ◌&&◌, ◌==◌, List, [], ◌∷◌, ◌++◌, length, map, Option, Some, None, Ok, Err, refl, ap, sym, ◌∙◌, arith}
+use Rattle.std.specs.Prelude.{if◌then◌else◌, IsSome}
 use Rattle.std.specs.List.{range_with_len, filter}
 use Rattle.std.proofs.Math.Nat.{mul-le-mul}
 use Rattle.std.proofs.lemmas.List.FromFn.{length-range_with_len, length-map-range_with_len}
@@ -18,18 +18,32 @@ use Rattle.layer_compile.specs.Rows.{row, stands}
 use Rattle.layer_compile.proofs.Refusals.{accepted}
 use Rattle.gkr_cmd.proofs.SumLevels.{IsLow, length-adds, leaf-low, leaves-low, matmul-low, sum-low}
 use Rattle.arr_ast.specs.declared.expression.SingleFunction.TheVariants.{Sum}
+use Rattle.arr_ast.specs.declared.expression.PairFunction.TheVariants.{MatMul}
+use Rattle.arr_ast.specs.declared.program.Dimensions.TheVariants as dimensions
+use Rattle.arr_ast.specs.declared.shape.ShapeOf.{ShapeOf}
 use Rattle.arr_ast.specs.declared.shape.ShapeOf.TheVariants.{Matrix}
-use Rattle.arr_ast.specs.ExpressionTree.{NoTerm, NoFactor}
-use Rattle.arr_check.specs.declared.binding.Binding.TheVariants.{Value}
-use Rattle.arr_eval.specs.Follows.{◌>>=◌, each}
+use Rattle.arr_ast.specs.ExpressionTree.{ExpressionOf, NoTerm, TermOf, NoFactor, Pair}
+use Rattle.arr_ast.specs.ProgramTree.{TopTree, Output, InputTree}
+use Rattle.arr_run.specs.declared.bound.Bound.TheVariants.{Value}
+use Rattle.arr_run.specs.declared.counts.Counts.{Counts}
+use Rattle.arr_run.specs.declared.refused.CheckKind.TheVariants as kinds
+use Rattle.arr_run.specs.declared.refused.CheckRefused.TheVariants.{Bad}
+use Rattle.arr_run.specs.Agrees.{Answer, ◌>>=◌, each}
+use Rattle.arr_run.specs.Counting.{step_at, nodes_at}
+use Rattle.arr_run.specs.Expression.{Valued, value_of, added_value, times_value, single_value}
+use Rattle.arr_run.specs.Program.{after_input, after_top, if_any_output, input_count, input_shape, none_counted, outputs_at, run_of}
+use Rattle.arr_run.specs.Scope.{Names, binding_of}
+use Rattle.arr_run.specs.Shape.{size_of, pair_shape, single_shape}
+use Rattle.arr_run.specs.Statement.{State, state, if_free}
+use Rattle.arr_run.proofs.Answered.{bind_ok, same_ok}
+use Rattle.arr_run.proofs.InputNodes.{input_shape-declared}
 use Rattle.node_core.specs.declared.node.Node.{Node}
 use Rattle.node_core.specs.declared.node.Node.TheVariants.{Input}
-use Rattle.node_core.specs.Nodes.{Nodes, IsNodeList, IsFineAt, node_at}
-use Rattle.arr_lower.specs.NodeStore.{NodeStore}
+use Rattle.node_core.specs.Nodes.{Nodes}
 use Rattle.arr_lower.specs.Operations.{Made, MadeOne, matmul_nodes, sum_node}
-use Rattle.arr_lower.specs.Lowering.{Lowered, of_shape, single_array, added_array, times_array_of, after_top, nodes_of}
-use Rattle.arr_lower.proofs.HasSizes.{is_equal}
-use Rattle.gkr_cmd.proofs.DemoPrograms.{demo_tree, accepted as text_accepted}
+use Rattle.arr_lower.specs.Lowering.{Kept, nodes, nodes_at_end, nodes_of}
+use Rattle.arr_lower.proofs.Counted.{has_nodes}
+use Rattle.gkr_cmd.proofs.DemoPrograms.{demo_tree, tree_of, digits_of, square_at, name_at, size_at, alone, total_at, accepted as text_accepted}
 
 abbrev count : ℕ → ℕ
 count n = 0 + n * n + n * n
@@ -52,34 +66,152 @@ total n = sum_node (product n).items (product n).nodes
 pub demo_nodes : ℕ → Nodes
 demo_nodes n = record { inputs = count n; nodes = (total n).nodes; outputs = (total n).item ∷ [] }
 
-store : ℕ → NodeStore
-store n = record {
-  names = (1, Value (Matrix n n)) ∷ (10, Value (Matrix n n)) ∷ [];
-  items = lefts n ∷ rights n ∷ [];
-}
+-- ---- the run makes them
 
-test : ℕ → Bool
-test n = (n == n) && ((length (lefts n) == n * n) && (length (rights n) == n * n))
+abbrev none_made : Kept
+none_made = record { nodes = []; outputs = [] }
 
-and_true : (a b : Bool) → a ≡ true → b ≡ true → (a && b) ≡ true
-and_true a b e f = cc
+-- an input of a square matrix
+input-is : (at number at' at1 at2 n : ℕ) (before after : State (List ℕ) Kept) →
+    after_input nodes (record { at = at; name = name_at at' number; dimensions = dimensions.Matrix (size_at at1 n) (size_at at2 n) }) before ≡ Ok after →
+    (after.names ≡ before.names ++ (number, Value (Matrix n n) (range_with_len (length before.kept.nodes) (n * n))) ∷ [])
+    × (after.kept ≡ record before.kept { nodes = before.kept.nodes ++ map Input (range_with_len (length before.kept.nodes) (n * n)) })
+input-is at number at' at1 at2 n before after e =
+    let stepped = bind_ok (step_at at before.counts) _ after e in
+    let free = bind_ok (if_free at' (binding_of number before.names)) _ after stepped.2 in
+    let shaped = bind_ok (input_shape (dimensions.Matrix (size_at at1 n) (size_at at2 n))) _ after free.2 in
+    let counted = bind_ok (nodes_at at' (size_of shaped.0 * 1) stepped.0) _ after shaped.2 in
+    let declared : shaped.0 ≡ Matrix n n = input_shape-declared (dimensions.Matrix (size_at at1 n) (size_at at2 n)) shaped.0 shaped.1 in
+    let same = same_ok _ after counted.2 in (
+      sym (ap (λ (r : State (List ℕ) Kept). r.names) same)
+          ∙ ap (λ (shape : ShapeOf). before.names ++ (number, Value shape (range_with_len (length before.kept.nodes) (size_of shape))) ∷ []) declared,
+      sym (ap (λ (r : State (List ℕ) Kept). r.kept) same)
+          ∙ ap (λ (shape : ShapeOf). record before.kept { nodes = before.kept.nodes ++ map Input (range_with_len (length before.kept.nodes) (size_of shape)) }) declared,
+    )
 
-passes : (n : ℕ) → test n ≡ true
-unfolding test
-passes n =
-    and_true (n == n) _ (is_equal n n refl)
-    (and_true (length (lefts n) == n * n) (length (rights n) == n * n) (is_equal (length (lefts n)) (n * n) (length-range_with_len 0 (n * n))) (is_equal (length (rights n)) (n * n) (length-range_with_len (0 + n * n) (n * n))))
+abbrev product_of : ℕ → List ℕ → List ℕ → List Node → Made
+product_of n a b before = matmul_nodes n n n a b before
 
-pub nodes_are : (n : ℕ) → nodes_of (demo_tree n) ≡ Some (demo_nodes n)
-unfolding demo_tree test product total demo_nodes store
-nodes_are n =
-    let multiplied : Bool → Option Lowered = λ passed. if passed then Some (of_shape (Matrix n n) (product n)) else None in
-    let all : Bool → Option Nodes = λ passed.
-    ((((((((multiplied passed >>= times_array_of NoFactor (store n)) >>= added_array NoTerm (store n))
-    >>= λ found. single_array Sum found.array.items found.array.shape found.nodes) >>= times_array_of NoFactor (store n)) >>= added_array NoTerm (store n))
-    >>= λ found. Some (record { lowering = record { store = store n; nodes = found.nodes }; outputs = [] ++ found.array.items }))
-    >>= each after_top []) >>= λ progress. Some (record { inputs = count n; nodes = progress.lowering.nodes; outputs = progress.outputs })) in
-    ap all (passes n)
+abbrev total_of : ℕ → List ℕ → List ℕ → List Node → MadeOne
+total_of n a b before = sum_node (product_of n a b before).items (product_of n a b before).nodes
+
+abbrev both_names : ℕ → List ℕ → List ℕ → Names (List ℕ)
+both_names n a b = (1, Value (Matrix n n) a) ∷ (10, Value (Matrix n n) b) ∷ []
+
+product-is : (at at' at1 at2 n : ℕ) (a b : List ℕ) (counts : Counts) (kept : Kept) (found : Valued (List ℕ) Kept) →
+    value_of nodes (ExpressionOf (TermOf (Pair MatMul at at' (alone at1 1) (alone at2 10)) NoFactor) NoTerm) (both_names n a b) counts kept ≡ Ok found →
+    (found.1 ≡ (product_of n a b kept.nodes).items) × (found.3 ≡ record kept { nodes = (product_of n a b kept.nodes).nodes })
+product-is at at' at1 at2 n a b counts kept found e =
+    let last = bind_ok _ (added_value nodes NoTerm (both_names n a b)) found e in
+    let first = bind_ok _ (times_value nodes NoFactor (both_names n a b)) last.0 last.1 in
+    let shaped = bind_ok (pair_shape MatMul at (Matrix n n) (Matrix n n) counts) _ first.0 first.1 in
+    let same : first.0 ≡ found = same_ok first.0 last.0 first.2 ∙ same_ok last.0 found last.2 in
+    let made = same_ok _ first.0 shaped.2 ∙ same in
+    (sym (ap (λ (v : Valued (List ℕ) Kept). v.1) made), sym (ap (λ (v : Valued (List ℕ) Kept). v.3) made))
+
+total-is : (at n : ℕ) (a b : List ℕ) (counts : Counts) (kept : Kept) (found : Valued (List ℕ) Kept) → value_of nodes (total_at at) (both_names n a b) counts kept ≡ Ok found →
+    (found.1 ≡ (total_of n a b kept.nodes).item ∷ []) × (found.3 ≡ record kept { nodes = (total_of n a b kept.nodes).nodes })
+total-is at n a b counts kept found e =
+    let last = bind_ok _ (added_value nodes NoTerm (both_names n a b)) found e in
+    let first = bind_ok _ (times_value nodes NoFactor (both_names n a b)) last.0 last.1 in
+    let inner = bind_ok _ (single_value nodes Sum at) first.0 first.1 in
+    let shaped = bind_ok (single_shape Sum at inner.0.0 inner.0.2) _ first.0 inner.2 in
+    let same : first.0 ≡ found = same_ok first.0 last.0 first.2 ∙ same_ok last.0 found last.2 in
+    let made = same_ok _ first.0 shaped.2 ∙ same in
+    let product = product-is (at + 4) (at + 10) (at + 11) (at + 13) n a b counts kept inner.0 inner.1 in (
+      sym (ap (λ (v : Valued (List ℕ) Kept). v.1) made) ∙ (λ i. (sum_node (product.0 i) (product.1 i).nodes).item ∷ []),
+      sym (ap (λ (v : Valued (List ℕ) Kept). v.3) made) ∙ (λ i. record (product.1 i) { nodes = (sum_node (product.0 i) (product.1 i).nodes).nodes }),
+    )
+
+output-is : (at at' n : ℕ) (a b : List ℕ) (counts : Counts) (kept : Kept) (after : State (List ℕ) Kept) → after_top nodes (Output at (total_at at')) (state (both_names n a b) counts kept) ≡ Ok after →
+    after.kept ≡ record { nodes = (total_of n a b kept.nodes).nodes; outputs = kept.outputs ++ (total_of n a b kept.nodes).item ∷ [] }
+output-is at at' n a b counts kept after e =
+    let stepped = bind_ok (step_at at counts) _ after e in
+    let valued = bind_ok (value_of nodes (total_at at') (both_names n a b) stepped.0 kept) _ after stepped.2 in
+    let counted = bind_ok (outputs_at at (size_of valued.0.0) valued.0.2) _ after valued.2 in
+    let same = same_ok _ after counted.2 in
+    let total = total-is at' n a b stepped.0 kept valued.0 valued.1 in
+    sym (ap (λ (r : State (List ℕ) Kept). r.kept) same) ∙ (λ i. record (total.1 i) { outputs = (total.1 i).outputs ++ total.0 i })
+
+one_top : (top : TopTree) (before after : State (List ℕ) Kept) → each (after_top nodes) (top ∷ []) before ≡ Ok after → after_top nodes top before ≡ Ok after
+one_top top before after e =
+    let first = bind_ok (after_top nodes top before) (each (after_top nodes) []) after e in
+    first.1 ∙ ap Ok (same_ok first.0 after first.2)
+
+any-kept : (end : ℕ) (before after : State (List ℕ) Kept) → if_any_output end before ≡ Ok after → before ≡ after
+any-kept end before after e = by (before.counts.outputs == 0) e
+  where
+    by : (none : Bool) → (if none then Err (Bad end kinds.NoOutput) else Ok before) ≡ Ok after → before ≡ after
+    by true e = cc
+    by false e = same_ok before after e
+
+-- leaves behind leaves
+leaves-behind : (first more count : ℕ) → map Input (range_with_len first more) ++ map Input (range_with_len (first + more) count) ≡ map Input (range_with_len first (more + count))
+leaves-behind first zero count =
+    let from : first + zero ≡ first = omega arith in
+    let many : count ≡ zero + count = omega arith in
+    λ i. map Input (range_with_len (from i) (many i))
+leaves-behind first (suc more) count =
+    let from : first + suc more ≡ first + 1 + more = omega arith in
+    let many : suc (more + count) ≡ suc more + count = omega arith in
+    ap (λ (rest : List Node). Input first ∷ rest)
+    (ap (λ (k : ℕ). map Input (range_with_len (first + 1) more) ++ map Input (range_with_len k count)) from ∙ leaves-behind (first + 1) more count)
+    ∙ ap (λ (k : ℕ). map Input (range_with_len first k)) many
+
+abbrev kept_of : List Node → Kept
+kept_of made = record { nodes = made; outputs = [] }
+
+abbrev kept_total : ℕ → Kept
+kept_total n = record { nodes = (total n).nodes; outputs = (total n).item ∷ [] }
+
+made-is : (n digits : ℕ) (after : State (List ℕ) Kept) → run_of nodes (tree_of n digits) none_made ≡ Ok after → after.kept ≡ kept_total n
+unfolding product total
+made-is n digits after e =
+    let long : ℕ = 13 + 2 * digits in
+    let one_input : InputTree = square_at 0 1 n digits in
+    let two_input : InputTree = square_at long 10 n digits in
+    let top : TopTree = Output (2 * long) (total_at (2 * long + 7)) in
+    let end : ℕ = 2 * long + 24 in
+    let start : State (List ℕ) Kept = state [] none_counted none_made in
+    let whole = bind_ok (each (after_input nodes) (one_input ∷ two_input ∷ []) start >>= each (after_top nodes) (top ∷ [])) (if_any_output end) after e in
+    let begun = bind_ok (each (after_input nodes) (one_input ∷ two_input ∷ []) start) (each (after_top nodes) (top ∷ [])) whole.0 whole.1 in
+    let first = bind_ok (after_input nodes one_input start) (each (after_input nodes) (two_input ∷ [])) begun.0 begun.1 in
+    let second = bind_ok (after_input nodes two_input first.0) (each (after_input nodes) []) begun.0 first.2 in
+    let one = input-is 0 1 (0 + 6) (0 + 8) (0 + 10 + digits) n start first.0 first.1 in
+    let two = input-is long 10 (long + 6) (long + 8) (long + 10 + digits) n first.0 second.0 second.1 in
+    let ended : second.0 ≡ begun.0 = same_ok second.0 begun.0 second.2 in
+    let leaf : List Node = map Input (range_with_len 0 (n * n)) in
+    let many : length leaf ≡ 0 + n * n = length-map-range_with_len Input 0 (n * n) ∙ omega arith in
+    let names : begun.0.names ≡ both_names n (lefts n) (rights n) =
+    sym (ap (λ (r : State (List ℕ) Kept). r.names) ended) ∙ two.0
+    ∙ (λ i. one.0 i ++ (10, Value (Matrix n n) (range_with_len (length (one.1 i).nodes) (n * n))) ∷ [])
+    ∙ ap (λ (k : ℕ). both_names n (lefts n) (range_with_len k (n * n))) many in
+    let all : leaf ++ map Input (range_with_len (0 + n * n) (n * n)) ≡ leaves n = leaves-behind 0 (n * n) (n * n) ∙ ap (λ (k : ℕ). map Input (range_with_len 0 k)) (omega arith) in
+    let kept : begun.0.kept ≡ kept_of (leaves n) =
+    sym (ap (λ (r : State (List ℕ) Kept). r.kept) ended) ∙ two.1
+    ∙ (λ i. record (one.1 i) { nodes = (one.1 i).nodes ++ map Input (range_with_len (length (one.1 i).nodes) (n * n)) })
+    ∙ ap (λ (k : ℕ). kept_of (leaf ++ map Input (range_with_len k (n * n)))) many
+    ∙ ap kept_of all in
+    let same : begun.0 ≡ state (both_names n (lefts n) (rights n)) begun.0.counts (kept_of (leaves n)) = λ i. state (names i) begun.0.counts (kept i) in
+    let put : after_top nodes top (state (both_names n (lefts n) (rights n)) begun.0.counts (kept_of (leaves n))) ≡ Ok whole.0 =
+    ap (after_top nodes top) (sym same) ∙ one_top top begun.0 whole.0 begun.2 in
+    sym (ap (λ (r : State (List ℕ) Kept). r.kept) (any-kept end whole.0 after whole.2))
+    ∙ output-is (2 * long) (2 * long + 7) n (lefts n) (rights n) begun.0.counts (kept_of (leaves n)) whole.0 put
+
+abbrev list_of : ℕ → Kept → Nodes
+list_of inputs kept = record { inputs = inputs; nodes = kept.nodes; outputs = kept.outputs }
+
+-- a run that goes through, and what it leaves
+left : (inputs : ℕ) (wanted : Kept) (x : Answer (State (List ℕ) Kept)) → ((after : State (List ℕ) Kept) → x ≡ Ok after → after.kept ≡ wanted) →
+    IsSome (nodes_at_end inputs (x >>= λ after. Ok (after.counts, after.kept))) → nodes_at_end inputs (x >>= λ after. Ok (after.counts, after.kept)) ≡ Some (list_of inputs wanted)
+left inputs wanted (Ok after) is some = ap (λ (kept : Kept). Some (list_of inputs kept)) (is after refl)
+left inputs wanted (Err refused) is some = cc
+
+pub nodes_are : (n : ℕ) → 2 ≤ n → n ≤ 16 → nodes_of (demo_tree n) ≡ Some (demo_nodes n)
+unfolding demo_nodes demo_tree
+nodes_are n least most =
+    left (count n) (kept_total n) (run_of nodes (demo_tree n) none_made) (λ after is. made-is n (length (digits_of n)) after is)
+    (has_nodes (demo_tree n) (text_accepted n least most).checked)
 
 -- ---- they are laid out
 
@@ -137,27 +269,12 @@ fits n least most =
 
 -- ---- the case has a circuit
 
--- the nodes of a program stand on earlier ones, and its outputs are nodes
-pub record AreInOrder : Type 0 where
-  pub fine : (program : ProgramTree) (nodes : Nodes) → nodes_of program ≡ Some nodes → (k : ℕ) → k < length nodes.nodes → IsFineAt nodes.inputs k (node_at nodes k)
-  pub outputs : (program : ProgramTree) (nodes : Nodes) → nodes_of program ≡ Some nodes → All (λ output. output < length nodes.nodes) nodes.outputs
-
-in_order : AreInOrder → (n : ℕ) → IsSmall n → IsNodeList (demo_nodes n)
-unfolding demo_nodes
-in_order laws n is = record {
-  fine = laws.fine (demo_tree n) (demo_nodes n) (nodes_are n);
-  outputs_there = laws.outputs (demo_tree n) (demo_nodes n) (nodes_are n);
-  has_output = omega arith;
-  few_nodes = omega (arith, is.few);
-  few_outputs = omega arith;
-}
-
 inputs_are : (n : ℕ) → (demo_nodes n).inputs ≡ count n
 unfolding demo_nodes
 inputs_are n = refl
 
-pub has_circuit : AreInOrder → (number : ℕ) → HasCircuit (demo_case number)
-has_circuit laws number =
+pub has_circuit : (number : ℕ) → HasCircuit (demo_case number)
+has_circuit number =
     let n = demo_size number in
     let least : 2 ≤ n = omega arith in
     let most : n ≤ 16 = omega arith in
@@ -167,7 +284,7 @@ has_circuit laws number =
       compiled = record {
         tree = demo_tree n;
         nodes = demo_nodes n;
-        lowered = record { accepted = text_accepted n least most; nodes_are = nodes_are n; in_order = in_order laws n (small n least most) };
+        lowered = record { accepted = text_accepted n least most; nodes_are = nodes_are n least most };
         fits = fits n least most;
         laid_out = refl;
       };

@@ -26,10 +26,10 @@ square_of words digits = concat (words ∷ digits ∷ codes "][" ∷ digits ∷ 
 program_of : List ℕ → List ℕ
 program_of digits = concat (square_of (codes "input a[") digits ∷ square_of (codes "input b[") digits ∷ codes "output sum(matmul(a,b));" ∷ [])
 
-abbrev name_at : ℕ → ℕ → NameTree
+abbrev pub name_at : ℕ → ℕ → NameTree
 name_at at number = record { at = at; number = number }
 
-abbrev size_at : ℕ → ℕ → Dimension
+abbrev pub size_at : ℕ → ℕ → Dimension
 size_at at n = record { at = at; size = n }
 
 -- the declaration of a square matrix that stands at a place, where its size has so many digits
@@ -70,7 +70,7 @@ abbrev tokens_of : List ℕ → List Token
 tokens_of digits = or_none (tokens_from 0 0 (program_of digits))
 
 -- a number of one digit, or of two of which the first is 1
-abbrev digits_of : ℕ → List ℕ
+abbrev pub digits_of : ℕ → List ℕ
 digits_of n = if nat_lt n 10 then (48 + n) ∷ [] else 49 ∷ (38 + n) ∷ []
 
 record IsFine (n : ℕ) : Type 0 where

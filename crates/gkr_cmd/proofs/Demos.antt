@@ -9,10 +9,11 @@ use Rattle.field_ext.specs.Field.{F, of}
 use Rattle.sha2.specs.Sha256.{sha256}
 use Rattle.circuit_core.specs.Parts.{Parts, height}
 use Rattle.arr_ast.specs.ProgramTree.{ProgramTree}
-use Rattle.arr_check.specs.Program.{input_count}
+use Rattle.arr_run.specs.Program.{input_count}
 use Rattle.arr_compile.specs.Programs.{IsRead}
 use Rattle.arr_compile.specs.Circuits.{IsCompiled, Computes}
 use Rattle.arr_eval.specs.Meaning.{meaning}
+use Rattle.arr_lower.proofs.Counted.{is-list}
 use Rattle.gkr_layers.specs.declared.verdict.Verdict.TheVariants.{Accepted}
 use Rattle.case_text.specs.Content.{Content, Fits}
 use Rattle.case_text.specs.Sizes.{Sizes}
@@ -88,7 +89,7 @@ some_output laws c p is =
     accepted.counted ∙ ap (λ (t : ProgramTree). input_count t.inputs) (sym same) ∙ sym (laws.inputs c.program is.parts is.compiled) in
     let computed = laws.computes c.program is.parts is.compiled c.inputs counted in
     let outputs = same_some (meaning is.compiled.tree c.inputs) computed.outputs is.outputs computed.meaning_is (ap (λ (t : ProgramTree). meaning t c.inputs) same ∙ accepted.meaning_is) in
-    let has_one = is.compiled.lowered.in_order.has_output in
+    let has_one = (is-list is.compiled.tree is.compiled.nodes is.compiled.lowered.nodes_are).has_output in
     let as_many : length is.outputs ≡ length is.compiled.nodes.outputs =
     ap length (sym outputs) ∙ computed.as_many ∙ ap (λ (q : Parts). q.outputs) is.compiled.laid_out in
     omega (arith, has_one, as_many)

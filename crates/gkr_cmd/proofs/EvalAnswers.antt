@@ -3,7 +3,7 @@ use Rattle.std.proofs.Common.{◌≡◌, ℕ, List, length, Option, Some, refl, 
 use Rattle.field_ext.specs.Field.{F}
 use Rattle.arr_ast.specs.ProgramTree.{ProgramTree}
 use Rattle.arr_ast.specs.declared.refusal.ProgramKind.{ProgramKind}
-use Rattle.arr_check.specs.Program.{input_count}
+use Rattle.arr_run.specs.Program.{input_count}
 use Rattle.arr_compile.specs.declared.refused.BadProgram.{BadProgram}
 use Rattle.arr_compile.specs.declared.refused.BadProgram.TheVariants.{At}
 use Rattle.arr_compile.specs.Programs.{IsRead, IsAccepted, IsRefusal, IsRefusedAs}

@@ -2,7 +2,7 @@
 use Rattle.std.proofs.Common.{◌≡◌, ℕ, List, length, refl, sym, ap, ◌∙◌}
 use Rattle.circuit_core.specs.Parts.{Parts}
 use Rattle.arr_ast.specs.ProgramTree.{ProgramTree}
-use Rattle.arr_check.specs.Program.{input_count}
+use Rattle.arr_run.specs.Program.{input_count}
 use Rattle.arr_compile.specs.Programs.{IsRead}
 use Rattle.arr_compile.specs.declared.refused.BadProgram.{BadProgram}
 use Rattle.arr_compile.specs.declared.refused.BadProgram.TheVariants.{At, Deep, Wide}

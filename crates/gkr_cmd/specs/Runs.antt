@@ -2,7 +2,7 @@
 use Rattle.std.specs.Prelude.{◌≡◌, ◌↔◌, ℕ, List, [], Some, None, ⊤, Option, IsSome, IsTrue, length}
 use Rattle.io_edge.specs.Written.{Grows}
 use Rattle.arr_ast.specs.ProgramTree.{ProgramTree}
-use Rattle.arr_check.specs.Program.{input_count}
+use Rattle.arr_run.specs.Program.{input_count}
 use Rattle.arr_compile.specs.Programs.{IsAccepted}
 use Rattle.arr_compile.specs.Circuits.{IsCompiled}
 use Rattle.audit_core.specs.Audit.{names_nothing}

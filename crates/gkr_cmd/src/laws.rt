@@ -19,7 +19,6 @@ use arr_compile::laws::{
     accepted_or_refused, circuit_computes, compiled_or_refused, one_circuit, one_circuit_refusal,
     one_refusal, one_tree,
 };
-use arr_lower::laws::nodes_in_order;
 use case_prove::laws::{audit_is_one, converted_keeps, one_saying, proved_is_one};
 use session_prove::laws::one_session;
 
@@ -94,9 +93,7 @@ pub fn demo_is_done()
 /// The case of every number has a circuit, with as many inputs.
 pub fn demo_has_circuit()
     ensures { (number : ℕ) → HasCircuit (demo_case number) }
-{
-    nodes_in_order();
-}
+{}
 
 /// The reply to a case whose proof meets every equation of acceptance is that it is accepted.
 pub fn accepted_is_done()

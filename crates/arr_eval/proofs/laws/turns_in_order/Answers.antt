@@ -1,5 +1,6 @@
-use Rattle.arr_eval.proofs.TurnsInOrder.{turns_in_order}
+use Rattle.arr_run.proofs.StatementRows.{loop-in-order}
+use Rattle.arr_eval.specs.Meaning.{numbers}
 use Rattle.arr_eval.proofs.laws.turns_in_order.Goals as goal
 
 pub returns : goal.returns
-returns c = turns_in_order
+returns c = λ at name low high body before. loop-in-order numbers at name low high body before

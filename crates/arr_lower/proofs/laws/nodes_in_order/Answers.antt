@@ -1,5 +1,5 @@
--- The nodes that a program begins with stand in order, and so does each that is made behind them.
-use Rattle.arr_lower.proofs.ProgramNodes.{inputs-counted, nodes-fine, outputs-there}
+use Rattle.arr_lower.proofs.Counted.{is-list}
+use Rattle.arr_lower.proofs.Means.{inputs-counted, nodes-fine, outputs-there}
 use Rattle.arr_lower.proofs.laws.nodes_in_order.Goals as goal
 
 pub returns-clause-inputs : goal.returns-clause-inputs
@@ -10,3 +10,6 @@ returns-clause-fine c = nodes-fine
 
 pub returns-clause-outputs : goal.returns-clause-outputs
 returns-clause-outputs c = outputs-there
+
+pub returns-clause-list : goal.returns-clause-list
+returns-clause-list c = is-list

@@ -1,5 +1,5 @@
 -- Each operation makes nodes with the values that it means.
-use Rattle.arr_lower.proofs.ProgramNodes.{nodes_mean}
+use Rattle.arr_lower.proofs.Means.{nodes_mean}
 use Rattle.arr_lower.proofs.laws.nodes_mean.Goals as goal
 
 pub returns : goal.returns

@@ -1,9 +1,9 @@
-use Rattle.std.proofs.Common.{◌≡◌, ℕ, List, Some, ap, sym, ◌∙◌, arith}
+use Rattle.std.proofs.Common.{◌≡◌, ℕ, List, Some, ap, sym, ◌∙◌}
 use Rattle.arr_ast.specs.ProgramTree.{program_tree}
 use Rattle.node_core.specs.declared.node.Node.{Node}
 use Rattle.node_core.specs.Nodes.{Nodes}
-use Rattle.arr_lower.specs.Lowering.{Lowering, Progress, nodes_of}
-use Rattle.arr_lower.proofs.LowersInOrder.{is-list}
+use Rattle.arr_lower.specs.Lowering.{Kept, nodes_of}
+use Rattle.arr_lower.proofs.Counted.{is-list}
 use Rattle.arr_lower.proofs.lowering.list_of.Goals as goal
 
 abbrev list_with : ℕ → List Node → List ℕ → Nodes
@@ -11,10 +11,8 @@ list_with inputs nodes outputs = record { inputs = inputs; nodes = nodes; output
 
 pub of-requires : goal.of-requires
 of-requires c =
-    let e : nodes_of (program_tree c.args.checked.now.program) ≡ Some (list_with c.args.inputs c.finish-nodes.result.items c.progress.inside.outputs.items) =
-    c.requires
-    ∙ ap (λ (progress : Progress). Some (list_with c.args.inputs progress.lowering.nodes progress.outputs)) (sym c.progress.view_is)
-    ∙ ap (λ (lowering : Lowering). Some (list_with c.args.inputs lowering.nodes c.progress.inside.outputs.items)) (sym c.lowering.view_is)
-    ∙ ap (λ nodes. Some (list_with c.args.inputs nodes c.progress.inside.outputs.items)) (sym c.finish-nodes.ensures) in
-    is-list (program_tree c.args.checked.now.program) (list_with c.args.inputs c.finish-nodes.result.items c.progress.inside.outputs.items)
-    c.args.checked.now.accepted e (omega arith) (omega arith)
+    let e : nodes_of (program_tree c.args.checked.now.program) ≡ Some (list_with c.args.checked.now.inputs c.finish-nodes.result.items c.lowering.inside.outputs.items) =
+    c.requires.made
+    ∙ ap (λ (kept : Kept). Some (list_with c.args.checked.now.inputs kept.nodes kept.outputs)) (sym c.lowering.view_is)
+    ∙ ap (λ (nodes : List Node). Some (list_with c.args.checked.now.inputs nodes c.lowering.inside.outputs.items)) (sym c.finish-nodes.ensures) in
+    is-list (program_tree c.args.checked.now.program) (list_with c.args.checked.now.inputs c.finish-nodes.result.items c.lowering.inside.outputs.items) e

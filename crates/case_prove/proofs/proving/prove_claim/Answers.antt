@@ -10,8 +10,12 @@ use Rattle.gkr_layers.specs.Honest.{AreHonestMessages}
 use Rattle.case_prove.specs.Started.{start_of}
 use Rattle.case_text.specs.Content.{Content}
 use Rattle.case_prove.proofs.ProvedCases.{same_content}
-use Rattle.case_prove.proofs.ProvedSizes.{fits, kind_length}
+use Rattle.case_prove.proofs.ProvedSizes.{fits, few_outputs, kind_length}
 use Rattle.case_prove.proofs.proving.prove_claim.Goals as goal
+
+pub honest_messages-requires-clause-few : goal.honest_messages-requires-clause-few
+honest_messages-requires-clause-few g c κs within =
+    omega (arith, ap length c.deref.ensures.value, c.in_ok-outputs.ensures.as_many, few_outputs c.args.circuit.now)
 
 pub new-requires : goal.new-requires
 new-requires g c =

@@ -2,4 +2,4 @@ use Rattle.gkr_cmd.proofs.DemoNodes.{has_circuit}
 use Rattle.gkr_cmd.proofs.laws.demo_has_circuit.Goals as goal
 
 pub returns : goal.returns
-returns c = has_circuit (record { fine = c.nodes_in_order.ensures.fine; outputs = c.nodes_in_order.ensures.outputs })
+returns c = has_circuit

@@ -1,7 +1,0 @@
--- A list that answers where names stand in scope.
-use Rattle.std.specs.Prelude.{◌≡◌, ℕ, List, Option, None, get_or}
-use Rattle.arr_check.specs.Scope.{Names, place_of}
-
--- what the list has at a name's number is the oldest place of the name
-abbrev pub Answers : List (Option ℕ) → Names → Type 0
-Answers places names = (name : ℕ) → get_or places name None ≡ place_of name names

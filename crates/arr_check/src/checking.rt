@@ -1,0 +1,27 @@
+//! The checks of whole programs.
+
+ghost use Rattle.std.specs.Prelude.{◌≡◌, IfOk};
+ghost use Rattle.arr_ast.specs.ProgramTree.{program_tree};
+ghost use Rattle.arr_run.specs.Agrees.{Agrees};
+ghost use Rattle.arr_check.specs.Program.{run_end, run_program};
+
+use crate::checked::Checked;
+use crate::shapes::Shapes;
+use arr_ast::Program;
+use arr_run::{CheckRefused, run};
+use std::alloc::Global;
+
+/// A program that no check refuses, or the first refusal.
+pub fn check(alloc: Global, program: Program) -> Result<Checked, CheckRefused>
+    ensures exact { Agrees (λ checked. run_end (program_tree checked.program)) result
+        (run_program (program_tree program)) }
+    ensures same { IfOk result (λ checked. program_tree checked.program ≡ program_tree program) }
+{
+    let ran = run(alloc, &mut Shapes {}, &program)?;
+    Ok(Checked {
+        program,
+        inputs: ran.inputs,
+        outputs: ran.counts.outputs,
+        nodes: ran.counts.nodes,
+    })
+}

@@ -1,0 +1,12 @@
+pub mod Answered
+pub mod ExpressionRows
+pub mod IndexRows
+pub mod Inserted
+pub mod Places
+pub mod Related
+pub mod StatementRows
+pub mod InputNodes
+pub mod Elements
+pub mod Shapes
+pub mod Within
+pub mod Counted

@@ -1,0 +1,9 @@
+use Rattle.std.proofs.Common.{rules, arith, w64}
+use Rattle.std.proofs.lemmas.Int.{to_z-of_z}
+use Rattle.arr_run.proofs.index.+index.Goals as goal
+
+pub times_value-returns-clause-value : goal.times_value-returns-clause-value
+times_value-returns-clause-value g t c =
+    let left = to_z-of_z w64 c.args.left c.ranges.left in
+    let right = to_z-of_z w64 c.in_ok-right.right (first_of (search (rules, c.in_ok-right.ensures.small), grind (arith, c.in_ok-right.ensures.small))) in
+    rw c.in_ok-right.ensures.value (simp (left, right) at c.product_within.ensures.value)

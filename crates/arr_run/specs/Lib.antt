@@ -1,0 +1,13 @@
+pub mod Agrees
+pub mod Bounds
+pub mod Counting
+pub mod Element
+pub mod Expression
+pub mod Index
+pub mod Limits
+pub mod Operations
+pub mod Places
+pub mod Program
+pub mod Scope
+pub mod Shape
+pub mod Statement
