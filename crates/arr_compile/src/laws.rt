@@ -1,18 +1,24 @@
 //! What holds of readings by their definitions alone.
 
-ghost use Rattle.std.specs.Prelude.{◌≡◌, ◌≤◌, ℕ, List, length, None};
+ghost use Rattle.std.specs.Prelude.{◌≡◌, ◌≤◌, ℕ, List, ◌++◌, length, None, Ok};
 ghost use Rattle.circuit_core.specs.Faults.{fault_of};
 ghost use Rattle.circuit_core.specs.Parts.{Parts};
 ghost use Rattle.circuit_core.specs.Sound.{greatest};
 ghost use Rattle.field_ext.specs.Field.{F};
 ghost use Rattle.arr_ast.specs.ProgramTree.{ProgramTree};
+ghost use Rattle.arr_eval.specs.Meaning.{meaning};
+ghost use Rattle.arr_lex.specs.declared.token.Token.{Token};
+ghost use Rattle.arr_lex.specs.Blank.{IsWhiteSpace};
+ghost use Rattle.arr_lex.specs.Lexing.{tokens_from};
+ghost use Rattle.arr_parse.specs.Unplaced.{unplaced};
 ghost use Rattle.arr_run.specs.Program.{input_count};
 ghost use Rattle.arr_compile.specs.declared.refused.BadProgram.{BadProgram};
 ghost use Rattle.arr_compile.specs.Programs.{IsRead, IsAccepted, IsRefusal};
 ghost use Rattle.arr_compile.specs.Circuits.{IsCompiled, IsCircuitRefusal, Computes};
 
+use arr_lex::laws::{same_anywhere, spans, white_space_moves};
 use arr_lower::laws::{has_outputs, nodes_in_order, nodes_mean};
-use arr_parse::laws::one_program_tree;
+use arr_parse::laws::{one_program_tree, one_tree_of_words};
 use layer_compile::laws::{no_fault, outputs_stand};
 
 /// A text has at most one tree.
@@ -35,6 +41,39 @@ pub fn accepted_or_refused()
         → ¬ IsRefusal text bad }
 {
     one_tree();
+}
+
+/// Programs that differ in no more than the places of their parts and the lengths of their texts mean the same.
+pub fn places_play_no_part()
+    ensures { (a b : ProgramTree) → unplaced a ≡ unplaced b → (inputs : List F)
+        → meaning a inputs ≡ meaning b inputs }
+{}
+
+/// White space between tokens changes no tree: texts that have other white space at one place after whole tokens have the
+/// same tree, but for places.
+pub fn white_space()
+    ensures { (front back blanks others : List ℕ) (tokens : List Token)
+        → tokens_from 0 0 front ≡ Ok tokens → IsWhiteSpace blanks → IsWhiteSpace others →
+        (a b : ProgramTree) → IsRead (front ++ (blanks ++ back)) a
+        → IsRead (front ++ (others ++ back)) b → unplaced a ≡ unplaced b }
+{
+    spans();
+    same_anywhere();
+    white_space_moves();
+    one_tree_of_words();
+}
+
+/// White space between tokens changes no meaning: texts that have other white space at one place after whole tokens put out
+/// the same for the same inputs.
+pub fn white_space_means_nothing()
+    ensures { (front back blanks others : List ℕ) (tokens : List Token)
+        → tokens_from 0 0 front ≡ Ok tokens → IsWhiteSpace blanks → IsWhiteSpace others →
+        (a b : ProgramTree) → IsRead (front ++ (blanks ++ back)) a
+        → IsRead (front ++ (others ++ back)) b → (inputs : List F)
+        → meaning a inputs ≡ meaning b inputs }
+{
+    places_play_no_part();
+    white_space();
 }
 
 /// A text has at most one circuit.

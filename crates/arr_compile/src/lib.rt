@@ -3,7 +3,8 @@
 //!
 //! The whole text is lexed, then all of its tokens are read, and then the tree is checked by its run over shapes. A
 //! circuit is laid out from the nodes of the checked tree. The first refusal is the answer, with its kind and its place
-//! in the text, or with the sizes that are too large.
+//! in the text, or with the sizes that are too large. `laws` says that a text has one reading and one circuit, which computes
+//! what the text means, and that white space between tokens changes neither tree nor meaning.
 //!
 //! ```text
 //! read_program(alloc, b"input a; output a;")?.inputs      // 1

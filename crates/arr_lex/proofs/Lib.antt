@@ -2,3 +2,4 @@ pub mod Later
 pub mod Passed
 pub mod Runs
 pub mod Spaces
+pub mod Spans

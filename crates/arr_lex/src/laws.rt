@@ -4,6 +4,7 @@ ghost use Rattle.arr_lex.specs.Byte.{is_blank};
 ghost use Rattle.arr_lex.specs.declared.token.Token.{Token};
 ghost use Rattle.arr_lex.specs.Lexing.{tokens_from, with_front};
 ghost use Rattle.arr_lex.specs.Moved.{moved};
+ghost use Rattle.arr_lex.specs.Spans.{AreSpans};
 
 /// A text has the same tokens wherever it stands, but for their places.
 pub fn same_anywhere()
@@ -18,4 +19,11 @@ pub fn white_space_moves()
         → is_blank blank ≡ true → tokens_from 0 0 front ≡ Ok tokens →
         tokens_from 0 0 (front ++ blank ∷ back) ≡ with_front tokens
         (moved (length front + 1) (tokens_from 0 0 back)) }
+{}
+
+/// The tokens of a text are spans of it in order: each is the longest token that the bytes from its start begin with, and
+/// between them, before the first and after the last is nothing but blanks.
+pub fn spans()
+    ensures { (text : List ℕ) (tokens : List Token) → tokens_from 0 0 text ≡ Ok tokens
+        → AreSpans 0 text tokens }
 {}

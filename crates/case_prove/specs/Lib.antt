@@ -1,5 +1,4 @@
 pub mod Answers
-pub mod Blank
 pub mod Circuits
 pub mod Evaluated
 pub mod Proved

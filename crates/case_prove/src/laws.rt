@@ -1,13 +1,7 @@
-//! Laws of programs and their meanings, and of proved cases. Each is a function that does nothing and ensures the law.
+//! Laws of proved cases. Each is a function that does nothing and ensures the law.
 
-ghost use Rattle.std.specs.Prelude.{◌≡◌, ◌<◌, ◌↔◌, ℕ, List, ◌++◌, IsSome, IsTrue, Some, drop, length, Ok};
+ghost use Rattle.std.specs.Prelude.{◌≡◌, ◌<◌, ◌↔◌, ℕ, List, IsSome, IsTrue, Some, drop, length};
 ghost use Rattle.field_ext.specs.Field.{F};
-ghost use Rattle.arr_ast.specs.ProgramTree.{ProgramTree};
-ghost use Rattle.arr_compile.specs.Programs.{IsRead};
-ghost use Rattle.arr_eval.specs.Meaning.{meaning};
-ghost use Rattle.arr_lex.specs.declared.token.Token.{Token};
-ghost use Rattle.arr_lex.specs.Lexing.{tokens_from};
-ghost use Rattle.arr_parse.specs.Unplaced.{unplaced};
 ghost use Rattle.gkr_layers.specs.declared.verdict.Verdict.TheVariants.{Accepted};
 ghost use Rattle.circuit_core.specs.Parts.{Parts};
 ghost use Rattle.circuit_core.specs.Sound.{exponents};
@@ -29,48 +23,13 @@ ghost use Rattle.case_text.specs.Content.{Content, Fits};
 ghost use Rattle.case_text.specs.Spelling.{Spells, lower_case_text};
 ghost use Rattle.case_text.specs.declared.form.Form.TheVariants.{Full};
 ghost use Rattle.case_prove.specs.Audited.{IsAudited};
-ghost use Rattle.case_prove.specs.Blank.{IsWhiteSpace};
 ghost use Rattle.case_prove.specs.Proved.{IsProved};
 ghost use Rattle.case_prove.specs.Sound.{HasExceptionalChallenge, HasMeaning};
 ghost use Rattle.case_prove.specs.Verified.{IsVerdictOn, Says, proof_form};
 
 use arr_compile::laws::{circuit_computes, circuit_is_sound, one_circuit, one_tree};
-use arr_lex::laws::{same_anywhere, white_space_moves};
-use arr_parse::laws::one_tree_of_words;
 use audit_core::laws::honesty_is_unnamed;
 use gkr_layers::laws::{honest_is_accepted, honest_is_unique};
-
-/// Programs that differ in no more than the places of their parts and the lengths of their texts mean the same.
-pub fn places_play_no_part()
-    ensures { (a b : ProgramTree) → unplaced a ≡ unplaced b → (inputs : List F)
-        → meaning a inputs ≡ meaning b inputs }
-{}
-
-/// White space between tokens changes no tree: texts that have other white space at one place after whole tokens have the
-/// same tree, but for places.
-pub fn white_space()
-    ensures { (front back blanks others : List ℕ) (tokens : List Token)
-        → tokens_from 0 0 front ≡ Ok tokens → IsWhiteSpace blanks → IsWhiteSpace others →
-        (a b : ProgramTree) → IsRead (front ++ (blanks ++ back)) a
-        → IsRead (front ++ (others ++ back)) b → unplaced a ≡ unplaced b }
-{
-    same_anywhere();
-    white_space_moves();
-    one_tree_of_words();
-}
-
-/// White space between tokens changes no meaning: texts that have other white space at one place after whole tokens put out
-/// the same for the same inputs.
-pub fn white_space_means_nothing()
-    ensures { (front back blanks others : List ℕ) (tokens : List Token)
-        → tokens_from 0 0 front ≡ Ok tokens → IsWhiteSpace blanks → IsWhiteSpace others →
-        (a b : ProgramTree) → IsRead (front ++ (blanks ++ back)) a
-        → IsRead (front ++ (others ++ back)) b → (inputs : List F)
-        → meaning a inputs ≡ meaning b inputs }
-{
-    places_play_no_part();
-    white_space();
-}
 
 /// The verifier accepts what the prover gives.
 pub fn proved_is_accepted()

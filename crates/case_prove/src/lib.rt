@@ -6,8 +6,7 @@
 //! `audit_case` tells of a proof by lines what an auditor finds who runs the honest prover beside it, and `convert_case` writes
 //! such a proof in another version. The refusals come in one order: the program, the number of inputs, that of outputs, and
 //! the proof's bytes. `laws` says that what is proved is accepted, is one for its kind and has a text short enough to be read,
-//! that what is converted has the verdicts of the case, and that white space between tokens changes neither a program's tree
-//! nor its outputs.
+//! and that what is converted has the verdicts of the case.
 //!
 //! ```text
 //! the case of `input a; output a;` with the input 5       // the output 5

@@ -3,15 +3,31 @@ use Rattle.std.proofs.Common.{◌≡◌, ℕ, suc, ◌+◌, ◌-◌, ◌≤◌, 
 use Rattle.std.proofs.lemmas.List.{take-append-le, drop-append-le, map-append}
 use Rattle.arr_ast.specs.ProgramTree.{ProgramTree}
 use Rattle.arr_lex.specs.declared.token.Token.{Token}
+use Rattle.arr_lex.specs.Blank.{AreBlank, IsWhiteSpace}
 use Rattle.arr_lex.specs.Byte.{is_blank}
 use Rattle.arr_lex.specs.Lexing.{taken, with_front, token_first, tokens_from}
 use Rattle.arr_lex.specs.Moved.{moved_token, moved}
+use Rattle.arr_lex.specs.Spans.{AreSpans}
 use Rattle.arr_parse.specs.Mark.{part_of, word}
 use Rattle.arr_parse.specs.Parsed.{IsTreeOf}
 use Rattle.arr_parse.specs.Unplaced.{SameWords, unplaced}
 use Rattle.arr_compile.specs.Programs.{IsRead}
-use Rattle.case_prove.specs.Blank.{AreBlank, IsWhiteSpace}
-use Rattle.case_prove.proofs.TokensWithin.{AllWithin, tokens-within}
+
+-- ---- tokens within a text
+
+abbrev AllWithin : ℕ → List Token → Type 0
+AllWithin most [] = Unit {0}
+AllWithin most (token ∷ tokens) = (token.start ≤ token.end) × (token.end ≤ most) × AllWithin most tokens
+
+spans-within : (at : ℕ) (bytes : List ℕ) (tokens : List Token) → AreSpans at bytes tokens → AllWithin (at + length bytes) tokens
+spans-within at bytes [] spans = tt
+spans-within at bytes (token ∷ tokens) (next, rest) =
+    let begins = next.begins in
+    let some = next.some in
+    let ends = next.ends in
+    let left : token.end + length (drop (token.end - at) bytes) ≡ at + length bytes = simp length-drop (omega (arith, begins, some, ends)) in
+    let ordered : token.start ≤ token.end = omega (arith, some) in
+    (ordered, ends, subst (λ most. AllWithin most tokens) left (spans-within token.end (drop (token.end - at) bytes) tokens rest))
 
 -- ---- parts of a text of two
 
@@ -51,6 +67,9 @@ abbrev WhiteSpaceMoves : Type 0
 WhiteSpaceMoves = (front : List ℕ) (blank : ℕ) (back : List ℕ) (tokens : List Token) → is_blank blank ≡ true → tokens_from 0 0 front ≡ Ok tokens →
     tokens_from 0 0 (front ++ blank ∷ back) ≡ with_front tokens (moved (length front + 1) (tokens_from 0 0 back))
 
+abbrev Spans : Type 0
+Spans = (text : List ℕ) (tokens : List Token) → tokens_from 0 0 text ≡ Ok tokens → AreSpans 0 text tokens
+
 abbrev OneTreeOfWords : Type 0
 OneTreeOfWords = (text other : List ℕ) (tokens others : List Token) (a b : ProgramTree) → SameWords text tokens other others →
     IsTreeOf text tokens a → IsTreeOf other others b → unplaced a ≡ unplaced b
@@ -84,13 +103,13 @@ record Words (front back text : List ℕ) (tokens all : List Token) : Type 0 whe
   lexed : tokens_from 0 0 back ≡ Ok rest
   words : map (word text) all ≡ map (word front) tokens ++ map (word back) rest
 
-words-between : SameAnywhere → WhiteSpaceMoves → (front blanks back : List ℕ) (tokens all : List Token) → tokens_from 0 0 front ≡ Ok tokens → IsWhiteSpace blanks →
+words-between : Spans → SameAnywhere → WhiteSpaceMoves → (front blanks back : List ℕ) (tokens all : List Token) → tokens_from 0 0 front ≡ Ok tokens → IsWhiteSpace blanks →
     tokens_from 0 0 (front ++ (blanks ++ back)) ≡ Ok all → Words front back (front ++ (blanks ++ back)) tokens all
-words-between anywhere moves front blanks back tokens all found blank whole =
+words-between spans anywhere moves front blanks back tokens all found blank whole =
     let distance = length (front ++ blanks) in
     let behind = behind_ok distance tokens (tokens_from 0 0 back) all (sym (tokens-between anywhere moves front blanks back tokens found blank) ∙ whole) in
     let none : 0 + length front ≡ length front = omega arith in
-    let within : AllWithin (length front) tokens = subst (λ most. AllWithin most tokens) none (tokens-within front 0 0 tokens found) in
+    let within : AllWithin (length front) tokens = subst (λ most. AllWithin most tokens) none (spans-within 0 front tokens (spans front tokens found)) in
     record {
       rest = behind.0;
       lexed = behind.1;
@@ -108,10 +127,10 @@ abbrev pub WhiteSpace : Type 0
 WhiteSpace = (front back blanks others : List ℕ) (tokens : List Token) → tokens_from 0 0 front ≡ Ok tokens → IsWhiteSpace blanks → IsWhiteSpace others →
     (a b : ProgramTree) → IsRead (front ++ (blanks ++ back)) a → IsRead (front ++ (others ++ back)) b → unplaced a ≡ unplaced b
 
-pub white_space : SameAnywhere → WhiteSpaceMoves → OneTreeOfWords → WhiteSpace
-white_space anywhere moves one front back blanks others tokens found blank blank' a b read read' =
-    let first = words-between anywhere moves front blanks back tokens read.tokens found blank read.lexed in
-    let second = words-between anywhere moves front others back tokens read'.tokens found blank' read'.lexed in
+pub white_space : Spans → SameAnywhere → WhiteSpaceMoves → OneTreeOfWords → WhiteSpace
+white_space spans anywhere moves one front back blanks others tokens found blank blank' a b read read' =
+    let first = words-between spans anywhere moves front blanks back tokens read.tokens found blank read.lexed in
+    let second = words-between spans anywhere moves front others back tokens read'.tokens found blank' read'.lexed in
     let same : first.rest ≡ second.rest = one_list (tokens_from 0 0 back) first.rest second.rest first.lexed second.lexed in
     one (front ++ (blanks ++ back)) (front ++ (others ++ back)) read.tokens read'.tokens a b
     (first.words ∙ ap (λ rest. map (word front) tokens ++ map (word back) rest) same ∙ sym second.words) read.tree_of read'.tree_of

@@ -1,4 +1,4 @@
-use Rattle.case_prove.proofs.laws.white_space_means_nothing.Goals as goal
+use Rattle.arr_compile.proofs.laws.white_space_means_nothing.Goals as goal
 
 pub returns : goal.returns
 returns c = λ front back blanks others tokens found blank blank' a b read read' inputs.

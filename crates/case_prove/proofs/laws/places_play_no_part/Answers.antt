@@ -1,5 +1,0 @@
-use Rattle.case_prove.proofs.PlacesForgotten.{places_play_no_part}
-use Rattle.case_prove.proofs.laws.places_play_no_part.Goals as goal
-
-pub returns : goal.returns
-returns c = places_play_no_part
