@@ -1,5 +1,5 @@
 -- A program means the same when the places of its parts are forgotten: places stand only in refusals, which meanings don't tell apart.
-use Rattle.std.proofs.Common.{◌≡◌, ℕ, zero, suc, ℤ, negsuc, ◌+◌, ◌-◌, ◌*◌, ◌==◌, ◌&&◌, Bool, true, false, List, [], ◌∷◌, map, length, take, Option, Some, None, Ok, Err, refl, ap, sym, ◌∙◌}
+use Rattle.std.proofs.Common.{◌≡◌, ℕ, zero, suc, ℤ, negsuc, ◌+◌, ◌-◌, ◌*◌, ◌==◌, ◌&&◌, Bool, true, false, List, [], ◌∷◌, map, Option, Some, None, Ok, Err, refl, ap, sym, ◌∙◌}
 use Rattle.std.specs.Prelude.{if◌then◌else◌, option_map, nat_le, nat_lt, nat_abs, pos, ◌^◌, ◌*ℤ◌}
 use Rattle.std.specs.FinSet as set
 use Rattle.arr_ast.specs.declared.expression.Sign.{Sign}
@@ -11,7 +11,6 @@ use Rattle.arr_ast.specs.declared.expression.PairFunction.TheVariants.{Scale, Do
 use Rattle.arr_ast.specs.IndexTree as index
 use Rattle.arr_ast.specs.ExpressionTree.{NameTree, IndicesTree, ExpressionTree, ExpressionOf, AddedTree, NoTerm, Added, TermTree, TermOf, TimesTree, NoFactor, Times, FactorTree, Number, Name, Element, Negation, Parenthesized, Single, Pair}
 use Rattle.arr_ast.specs.ProgramTree.{StatementTree, Let, Set, SetElement, For, BlockTree, EndOfBlock, Then, TopTree, Output, Inner, InputTree, ProgramTree}
-use Rattle.arr_ast.specs.declared.program.Dimension.{Dimension}
 use Rattle.arr_ast.specs.declared.program.Dimensions.{Dimensions}
 use Rattle.arr_ast.specs.declared.program.Dimensions.TheVariants as dimensions
 use Rattle.arr_ast.specs.declared.shape.ShapeOf.{ShapeOf}
@@ -26,13 +25,13 @@ use Rattle.arr_run.specs.Agrees.{Answer, ◌>>=◌, each}
 use Rattle.arr_run.specs.Bounds.{turns_of, bounds_of}
 use Rattle.arr_run.specs.Counting.{step_at, nodes_at, constant_at, element_number, with_constant}
 use Rattle.arr_run.specs.Element.{is_place, index_below, indices_at}
-use Rattle.arr_run.specs.Expression.{Valued, made, offset, element_at, element_value, constant_value, bound_value, signed_value, product_value, opposite_value, single_value, pair_value, value_of, added_value, term_value, times_value, factor_value}
+use Rattle.arr_run.specs.Expression.{Valued, made, element_at, constant_value, bound_value, value_of, added_value, term_value, times_value, factor_value}
 use Rattle.arr_run.specs.Index.{within, turn_of, signed, index_value, added_index_value, index_term_value, times_index_value, index_factor_value, index_at}
 use Rattle.arr_run.specs.Operations.{Operations}
-use Rattle.arr_run.specs.Program.{dimension_of, input_shape, outputs_at, none_counted, if_any_output, after_input, after_top, run_of, end_of}
+use Rattle.arr_run.specs.Program.{dimension_of, input_shape, outputs_at, none_counted, if_any_output, after_input, after_top, end_of}
 use Rattle.arr_run.specs.Scope.{Names, binding_of}
 use Rattle.arr_run.specs.Shape.{Shaped, size_of, same_shape, for_nodes, for_minus_one, sum_shape, product_shape, single_shape, pair_shape}
-use Rattle.arr_run.specs.Statement.{State, state, bound, if_free, target_shape, if_of, with_name, expression_at, stepped, declared, assigned, element_assigned, turns, left_block, one_turn, counted_loop, after_statement, after_block}
+use Rattle.arr_run.specs.Statement.{State, state, bound, if_free, target_shape, if_of, with_name, expression_at, stepped, declared, assigned, element_assigned, turns, one_turn, counted_loop, after_statement, after_block}
 use Rattle.field_ext.specs.Field.{F}
 use Rattle.arr_eval.specs.Meaning.{Kept, numbers, outputs_of, meaning}
 use Rattle.arr_parse.specs.Unplaced.{unplaced_sum, unplaced_terms, unplaced_product, unplaced_factors, unplaced_index_factor, unplaced_name, unplaced_indices, unplaced_expression, unplaced_added, unplaced_term, unplaced_times, unplaced_factor, unplaced_statement, unplaced_block, unplaced_top, unplaced_dimensions, unplaced_input, unplaced}
@@ -90,23 +89,23 @@ for_minus_one-alike : (at at' count : ℕ) (shape : ShapeOf) (counts : Counts) �
 for_minus_one-alike at at' count shape counts = both _ _ _ _ (constant-alike at at' 2147483646 counts) (λ counts. for_nodes-alike at at' count shape counts)
 
 sum_shape-alike : (sign : Sign) (at at' : ℕ) (left right : ShapeOf) (counts : Counts) → sum_shape sign at' left right counts ≈ sum_shape sign at left right counts
-sum_shape-alike Plus at at' left right counts = either (same_shape left right) _ _ _ _ (for_nodes-alike at at' (size_of left * 1) left counts)
+sum_shape-alike Plus at at' left right counts = either (same_shape left right) _ _ _ _ (for_nodes-alike at at' (size_of left) left counts)
 sum_shape-alike Minus at at' left right counts = either (same_shape left right) _ _ _ _ (for_minus_one-alike at at' (size_of left * 2) left counts)
 
 product_shape-alike : (at at' : ℕ) (left right : ShapeOf) (counts : Counts) → product_shape at' left right counts ≈ product_shape at left right counts
-product_shape-alike at at' left right counts = either (same_shape left right) _ _ _ _ (for_nodes-alike at at' (size_of left * 1) left counts)
+product_shape-alike at at' left right counts = either (same_shape left right) _ _ _ _ (for_nodes-alike at at' (size_of left) left counts)
 
 single_shape-alike : (function : SingleFunction) (at at' : ℕ) (shape : ShapeOf) (counts : Counts) → single_shape function at' shape counts ≈ single_shape function at shape counts
-single_shape-alike SumOfAll at at' shape counts = for_nodes-alike at at' ((size_of shape - 1) * 1) Scalar counts
+single_shape-alike SumOfAll at at' shape counts = for_nodes-alike at at' (size_of shape - 1) Scalar counts
 single_shape-alike Transpose at at' Scalar counts = refl
 single_shape-alike Transpose at at' (Vector n) counts = refl
 single_shape-alike Transpose at at' (Matrix n m) counts = refl
 
 pair_shape-alike : (function : PairFunction) (at at' : ℕ) (left right : ShapeOf) (counts : Counts) → pair_shape function at' left right counts ≈ pair_shape function at left right counts
-pair_shape-alike Scale at at' Scalar right counts = for_nodes-alike at at' (size_of right * 1) right counts
+pair_shape-alike Scale at at' Scalar right counts = for_nodes-alike at at' (size_of right) right counts
 pair_shape-alike Scale at at' (Vector n) right counts = refl
 pair_shape-alike Scale at at' (Matrix n m) right counts = refl
-pair_shape-alike Dot at at' (Vector n) (Vector m) counts = either (n == m) _ _ _ _ (for_nodes-alike at at' ((n + n - 1) * 1) Scalar counts)
+pair_shape-alike Dot at at' (Vector n) (Vector m) counts = either (n == m) _ _ _ _ (for_nodes-alike at at' (n + n - 1) Scalar counts)
 pair_shape-alike Dot at at' (Vector n) Scalar counts = refl
 pair_shape-alike Dot at at' (Vector n) (Matrix k q) counts = refl
 pair_shape-alike Dot at at' Scalar right counts = refl
@@ -246,7 +245,7 @@ module _ {A S : Type 0} (operations : Operations A S) where
     value-alike (Name name) names counts kept = bound-alike name.at 0 (binding_of name.number names) counts kept
     value-alike (Element name indices) names counts kept = both _ _ _ _ (element_at-alike names name.at 0 indices (binding_of name.number names)) (λ found. refl)
     value-alike (Negation at operand) names counts kept =
-        both _ _ _ _ (value-alike operand names counts kept) (λ found. made-alike _ _ (operations.opposite found.1) found.3 (for_minus_one-alike at 0 (size_of found.0 * 1) found.0 found.2))
+        both _ _ _ _ (value-alike operand names counts kept) (λ found. made-alike _ _ (operations.opposite found.1) found.3 (for_minus_one-alike at 0 (size_of found.0) found.0 found.2))
     value-alike (Parenthesized at inner) names counts kept = expression-alike inner names counts kept
     value-alike (Single function at parenthesis argument) names counts kept =
         both _ _ _ _ (expression-alike argument names counts kept) (λ found. made-alike _ _ (operations.single function found.0 found.1) found.3 (single_shape-alike function at 0 found.0 found.2))
@@ -313,7 +312,7 @@ module _ {A S : Type 0} (operations : Operations A S) where
       both _ _ _ _ (step-alike tree.at 0 before.counts) (λ counts.
       both _ _ _ _ (free-alike tree.name.at 0 (bound tree.name before.names)) (λ free.
       both _ _ _ _ (shape-alike tree.dimensions) (λ shape.
-      both _ _ _ _ (nodes-alike tree.name.at 0 (size_of shape * 1) counts) (λ counts. refl))))
+      both _ _ _ _ (nodes-alike tree.name.at 0 (size_of shape) counts) (λ counts. refl))))
 
   each-alike : {X : Type 0} (step : X → State A S → Answer (State A S)) (forget : X → X) → ((x : X) (before : State A S) → step (forget x) before ≈ step x before) → (xs : List X) (before : State A S) →
       each step (map forget xs) before ≈ each step xs before

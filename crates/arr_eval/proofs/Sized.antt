@@ -44,17 +44,17 @@ signed-size Plus left right size l r = element_wise-size add_f left right size l
 signed-size Minus left right size l r = element_wise-size sub_f left right size l r
 
 pub single-size : (function : SingleFunction) (at : ℕ) (of shape : ShapeOf) (before counts : Counts) (items : List F) → single_shape function at of before ≡ Ok (shape, counts) → length (single function of items) ≡ size_of shape
-single-size Sum at of shape before counts items e = sym (ap size_of (for_nodes-shape at ((size_of of - 1) * 1) Scalar shape before counts e))
+single-size Sum at of shape before counts items e = sym (ap size_of (for_nodes-shape at (size_of of - 1) Scalar shape before counts e))
 single-size Transpose at (Matrix n m) shape before counts items e =
     length-map-range_with_len (transposed_at n m items) 0 (m * n) ∙ sym (ap size_of (pair_ok (shape, counts) (Matrix m n) before e).0)
 single-size Transpose at Scalar shape before counts items e = cc
 single-size Transpose at (Vector n) shape before counts items e = cc
 
 pub pair-size : (function : PairFunction) (at : ℕ) (left right shape : ShapeOf) (before counts : Counts) (a b : List F) → pair_shape function at left right before ≡ Ok (shape, counts) → length b ≡ size_of right → length (pair function left right a b) ≡ size_of shape
-pair-size Scale at Scalar right shape before counts a b e r = length-map b (mul_f (element a 0)) ∙ r ∙ sym (ap size_of (for_nodes-shape at (size_of right * 1) right shape before counts e))
+pair-size Scale at Scalar right shape before counts a b e r = length-map b (mul_f (element a 0)) ∙ r ∙ sym (ap size_of (for_nodes-shape at (size_of right) right shape before counts e))
 pair-size Dot at (Vector n) (Vector m) shape before counts a b e r =
-    let found = if_ok (n == m) (for_nodes at ((n + n - 1) * 1) Scalar before) (Bad at kinds.Shape) (shape, counts) e in
-    sym (ap size_of (for_nodes-shape at ((n + n - 1) * 1) Scalar shape before counts found.1))
+    let found = if_ok (n == m) (for_nodes at (n + n - 1) Scalar before) (Bad at kinds.Shape) (shape, counts) e in
+    sym (ap size_of (for_nodes-shape at (n + n - 1) Scalar shape before counts found.1))
 pair-size MatMul at (Matrix n m) (Matrix k q) shape before counts a b e r =
     let found = if_ok (m == k) (for_nodes at ((n * q) * (m + m - 1)) (Matrix n q) before) (Bad at kinds.Shape) (shape, counts) e in
     length-map-range_with_len (product_place m q a b) 0 (n * q) ∙ sym (ap size_of (for_nodes-shape at ((n * q) * (m + m - 1)) (Matrix n q) shape before counts found.1))
@@ -82,7 +82,7 @@ go = record {
       let found = product_shape-shape at left right shape before counts e in
       (tt, element_wise-size mul_f b b' (size_of left) first (second ∙ sym (same_shape-size left right found.0)) ∙ sym (ap size_of found.1), tt);
   opposite = λ at of shape before counts a b s t e alike stands.
-      (tt, length-map b neg_f ∙ stands ∙ sym (ap size_of (for_minus_one-shape at (size_of of * 1) of shape before counts e)), tt);
+      (tt, length-map b neg_f ∙ stands ∙ sym (ap size_of (for_minus_one-shape at (size_of of) of shape before counts e)), tt);
   single = λ function at of shape before counts a b s t e alike stands. (tt, single-size function at of shape before counts b e, tt);
   pair = λ function at left right shape before counts a a' b b' s t e alike first second. (tt, pair-size function at left right shape before counts b b' e second, tt);
   element = λ shape place a b s t within stands. refl;

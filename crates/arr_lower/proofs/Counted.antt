@@ -128,13 +128,13 @@ Given counts s t shape made = Gives shapes nodes Alike Stand Later counts s t sh
 pairs-long : (left right : List ℕ) (a b shape : ShapeOf) → length left ≡ size_of a → length right ≡ size_of b → same_shape a b ≡ true → shape ≡ a → length (zip left right) ≡ size_of shape
 pairs-long left right a b shape l r same is = zip-size left right (size_of a) l (r ∙ sym (same_shape-size a b same)) ∙ sym (ap size_of is)
 
-pairwise-given : (kind : Kind) (at : ℕ) (left right shape : ShapeOf) (before counts : Counts) (s : Shapes) (t : Kept) (a b : List ℕ) → nodes_at at (size_of left * 1) before ≡ Ok counts → same_shape left right ≡ true → shape ≡ left →
+pairwise-given : (kind : Kind) (at : ℕ) (left right shape : ShapeOf) (before counts : Counts) (s : Shapes) (t : Kept) (a b : List ℕ) → nodes_at at (size_of left) before ≡ Ok counts → same_shape left right ≡ true → shape ≡ left →
     IsCounted before t → Stand s t left tt a → Stand s t right tt b → Given counts s t shape (pairwise_nodes kind a b t.nodes)
 pairwise-given kind at left right shape before counts s t a b e same is counted first second =
     let long = pairs-long a b left right left first.0 second.0 same refl in
     let size : length (pairwise_nodes kind a b t.nodes).items ≡ size_of shape = each-size (operation_node kind) (zip a b) t.nodes ∙ long ∙ sym (ap size_of is) in
-    let adds = adds-as (length (zip a b) * 1) (size_of left * 1) t.nodes (pairwise_nodes kind a b t.nodes).nodes (ap (λ n. n * 1) long) (each-adds (operation_node kind) 1 (operation-adds kind) (zip a b) t.nodes) in
-    (nodes-counted at (size_of left * 1) before counts t (pairwise_nodes kind a b t.nodes).nodes e adds counted, (size, subst (λ (shape : ShapeOf). 1 ≤ size_of shape) (sym is) first.1), tt)
+    let adds = adds-as (length (zip a b) * 1) (size_of left) t.nodes (pairwise_nodes kind a b t.nodes).nodes (omega (arith, long)) (each-adds (operation_node kind) 1 (operation-adds kind) (zip a b) t.nodes) in
+    (nodes-counted at (size_of left) before counts t (pairwise_nodes kind a b t.nodes).nodes e adds counted, (size, subst (λ (shape : ShapeOf). 1 ≤ size_of shape) (sym is) first.1), tt)
 
 signed-given : (sign : Sign) (at : ℕ) (left right shape : ShapeOf) (before counts : Counts) (s : Shapes) (t : Kept) (a b : List ℕ) → sum_shape sign at left right before ≡ Ok (shape, counts) →
     IsCounted before t → Stand s t left tt a → Stand s t right tt b → Given counts s t shape (signed_nodes sign a b t.nodes)
@@ -149,22 +149,22 @@ signed-given Minus at left right shape before counts s t a b e counted first sec
     let adds = adds-as (length (zip a b) * 2) (size_of left * 2) factor.nodes (difference_nodes a b t.nodes).nodes (ap (λ n. n * 2) long) (each-adds (difference_node factor.item) 2 (difference-adds factor.item) (zip a b) factor.nodes) in
     (behind-minus_one at (size_of left * 2) before counts t (difference_nodes a b t.nodes).nodes (difference-counts at left right shape before counts e) adds counted, (size, subst (λ (shape : ShapeOf). 1 ≤ size_of shape) (sym found.1) first.1), tt)
 
-opposite-given : (at : ℕ) (of shape : ShapeOf) (before counts : Counts) (s : Shapes) (t : Kept) (items : List ℕ) → for_minus_one at (size_of of * 1) of before ≡ Ok (shape, counts) → IsCounted before t → Stand s t of tt items →
+opposite-given : (at : ℕ) (of shape : ShapeOf) (before counts : Counts) (s : Shapes) (t : Kept) (items : List ℕ) → for_minus_one at (size_of of) of before ≡ Ok (shape, counts) → IsCounted before t → Stand s t of tt items →
     Given counts s t shape (negated_nodes items t.nodes)
 opposite-given at of shape before counts s t items e counted stand =
-    let is = for_minus_one-shape at (size_of of * 1) of shape before counts e in
+    let is = for_minus_one-shape at (size_of of) of shape before counts e in
     let factor = constant_node minus_one t.nodes in
     let make : ℕ → List Node → MadeOne = λ item. operation_node Mul (item, factor.item) in
     let size : length (negated_nodes items t.nodes).items ≡ size_of shape = each-size make items factor.nodes ∙ stand.0 ∙ sym (ap size_of is) in
-    let adds = adds-as (length items * 1) (size_of of * 1) factor.nodes (negated_nodes items t.nodes).nodes (ap (λ n. n * 1) stand.0) (each-adds make 1 (λ item before. operation-adds Mul (item, factor.item) before) items factor.nodes) in
-    (behind-minus_one at (size_of of * 1) before counts t (negated_nodes items t.nodes).nodes (for_minus_one-counts at (size_of of * 1) of shape before counts e) adds counted, (size, subst (λ (shape : ShapeOf). 1 ≤ size_of shape) (sym is) stand.1), tt)
+    let adds = adds-as (length items * 1) (size_of of) factor.nodes (negated_nodes items t.nodes).nodes (omega (arith, stand.0)) (each-adds make 1 (λ item before. operation-adds Mul (item, factor.item) before) items factor.nodes) in
+    (behind-minus_one at (size_of of) before counts t (negated_nodes items t.nodes).nodes (for_minus_one-counts at (size_of of) of shape before counts e) adds counted, (size, subst (λ (shape : ShapeOf). 1 ≤ size_of shape) (sym is) stand.1), tt)
 
 single-given : (function : SingleFunction) (at : ℕ) (of shape : ShapeOf) (before counts : Counts) (s : Shapes) (t : Kept) (items : List ℕ) → single_shape function at of before ≡ Ok (shape, counts) → IsCounted before t → Stand s t of tt items →
     Given counts s t shape (single_nodes function of items t.nodes)
 single-given Sum at of shape before counts s t items e counted stand =
-    let is = for_nodes-shape at ((size_of of - 1) * 1) Scalar shape before counts e in
-    let adds = adds-as (length items - 1) ((size_of of - 1) * 1) t.nodes (sum_node items t.nodes).nodes (omega (arith, stand.0)) (sum-adds items t.nodes (omega (arith, stand.0, stand.1))) in (
-      nodes-counted at ((size_of of - 1) * 1) before counts t (sum_node items t.nodes).nodes (for_nodes-counts at ((size_of of - 1) * 1) Scalar shape before counts e) adds counted,
+    let is = for_nodes-shape at (size_of of - 1) Scalar shape before counts e in
+    let adds = adds-as (length items - 1) (size_of of - 1) t.nodes (sum_node items t.nodes).nodes (omega (arith, stand.0)) (sum-adds items t.nodes (omega (arith, stand.0, stand.1))) in (
+      nodes-counted at (size_of of - 1) before counts t (sum_node items t.nodes).nodes (for_nodes-counts at (size_of of - 1) Scalar shape before counts e) adds counted,
       (sym (ap size_of is), subst (λ (shape : ShapeOf). 1 ≤ size_of shape) (sym is) (omega arith)),
       tt,
     )
@@ -189,19 +189,19 @@ some-product (suc n) m rows columns = omega (arith, columns)
 pair-given : (function : PairFunction) (at : ℕ) (left right shape : ShapeOf) (before counts : Counts) (s : Shapes) (t : Kept) (a b : List ℕ) → pair_shape function at left right before ≡ Ok (shape, counts) →
     IsCounted before t → Stand s t left tt a → Stand s t right tt b → Given counts s t shape (pair_nodes function left right a b t.nodes)
 pair-given Scale at Scalar right shape before counts s t a b e counted first second =
-    let is = for_nodes-shape at (size_of right * 1) right shape before counts e in
+    let is = for_nodes-shape at (size_of right) right shape before counts e in
     let factor : ℕ = get_or a 0 0 in
     let make : ℕ → List Node → MadeOne = λ item. operation_node Mul (factor, item) in
     let size : length (scaled_nodes factor b t.nodes).items ≡ size_of shape = each-size make b t.nodes ∙ second.0 ∙ sym (ap size_of is) in
-    let adds = adds-as (length b * 1) (size_of right * 1) t.nodes (scaled_nodes factor b t.nodes).nodes (ap (λ n. n * 1) second.0) (each-adds make 1 (λ item before. operation-adds Mul (factor, item) before) b t.nodes) in
-    (nodes-counted at (size_of right * 1) before counts t (scaled_nodes factor b t.nodes).nodes (for_nodes-counts at (size_of right * 1) right shape before counts e) adds counted, (size, subst (λ (shape : ShapeOf). 1 ≤ size_of shape) (sym is) second.1), tt)
+    let adds = adds-as (length b * 1) (size_of right) t.nodes (scaled_nodes factor b t.nodes).nodes (omega (arith, second.0)) (each-adds make 1 (λ item before. operation-adds Mul (factor, item) before) b t.nodes) in
+    (nodes-counted at (size_of right) before counts t (scaled_nodes factor b t.nodes).nodes (for_nodes-counts at (size_of right) right shape before counts e) adds counted, (size, subst (λ (shape : ShapeOf). 1 ≤ size_of shape) (sym is) second.1), tt)
 pair-given Dot at (Vector n) (Vector m) shape before counts s t a b e counted first second =
-    let found = if_ok (n == m) (for_nodes at ((n + n - 1) * 1) Scalar before) (Bad at kinds.Shape) (shape, counts) e in
-    let is = for_nodes-shape at ((n + n - 1) * 1) Scalar shape before counts found.1 in
+    let found = if_ok (n == m) (for_nodes at (n + n - 1) Scalar before) (Bad at kinds.Shape) (shape, counts) e in
+    let is = for_nodes-shape at (n + n - 1) Scalar shape before counts found.1 in
     let same : n ≡ m = eqb-true n m found.0 in
     let long : length (zip a b) ≡ n = zip-size a b n first.0 (second.0 ∙ sym same) in
-    let adds = adds-as (length (zip a b) + length (zip a b) - 1) ((n + n - 1) * 1) t.nodes (dot_node (zip a b) t.nodes).nodes (omega (arith, long)) (dot-adds (zip a b) t.nodes (omega (arith, long, first.1))) in (
-      nodes-counted at ((n + n - 1) * 1) before counts t (dot_node (zip a b) t.nodes).nodes (for_nodes-counts at ((n + n - 1) * 1) Scalar shape before counts found.1) adds counted,
+    let adds = adds-as (length (zip a b) + length (zip a b) - 1) (n + n - 1) t.nodes (dot_node (zip a b) t.nodes).nodes (omega (arith, long)) (dot-adds (zip a b) t.nodes (omega (arith, long, first.1))) in (
+      nodes-counted at (n + n - 1) before counts t (dot_node (zip a b) t.nodes).nodes (for_nodes-counts at (n + n - 1) Scalar shape before counts found.1) adds counted,
       (sym (ap size_of is), subst (λ (shape : ShapeOf). 1 ≤ size_of shape) (sym is) (omega arith)),
       tt,
     )
@@ -276,8 +276,8 @@ input-some (dimensions.Matrix first second) shape e =
 begin : Begin shapes nodes Alike Stand Later (λ trees s t. Unit {0})
 begin = record {
   input = λ tree trees shape before counts s t fits e alike enough.
-      let adds = adds-as (size_of shape) (size_of shape * 1) t.nodes (leaf_nodes (size_of shape) t.nodes).nodes (omega arith) (leaves-add (size_of shape) t.nodes) in
-      ((nodes-counted tree.name.at (size_of shape * 1) before counts t (leaf_nodes (size_of shape) t.nodes).nodes e adds alike, (length-range_with_len (length t.nodes) (size_of shape), input-some tree.dimensions shape fits), tt), tt);
+      let adds = adds-as (size_of shape) (size_of shape) t.nodes (leaf_nodes (size_of shape) t.nodes).nodes (omega arith) (leaves-add (size_of shape) t.nodes) in
+      ((nodes-counted tree.name.at (size_of shape) before counts t (leaf_nodes (size_of shape) t.nodes).nodes e adds alike, (length-range_with_len (length t.nodes) (size_of shape), input-some tree.dimensions shape fits), tt), tt);
 }
 
 abbrev pub none_made : Kept

@@ -110,7 +110,7 @@ module _ (inputs : List F) where
         (element_wise-size mul_f xs ys (size_of left) first.1 (second.1 ∙ sym (same_shape-size left right found.0)) ∙ sym (ap size_of found.1));
     opposite = λ at of shape before counts xs items s t e alike stand.
         gives before counts s t shape (negated_nodes items t.nodes) (map neg_f xs) alike (negated-has inputs items t.nodes xs stand.0)
-        (length-map xs neg_f ∙ stand.1 ∙ sym (ap size_of (for_minus_one-shape at (size_of of * 1) of shape before counts e)));
+        (length-map xs neg_f ∙ stand.1 ∙ sym (ap size_of (for_minus_one-shape at (size_of of) of shape before counts e)));
     single = λ function at of shape before counts xs items s t e alike stand.
         gives before counts s t shape (single_nodes function of items t.nodes) (single function of xs) alike (single-each function of items t.nodes xs stand.0 stand.1)
         (single-size function at of shape before counts xs e);

@@ -41,18 +41,18 @@ for_minus_one-counts at count shape found before counts e =
     let parts = bind_ok (constant_at at 2147483646 before) _ (found, counts) e in
     (parts.0, parts.1, for_nodes-counts at count shape found parts.0 counts parts.2)
 
-pub sum-counts : (at : ℕ) (left right found : ShapeOf) (before counts : Counts) → sum_shape Plus at left right before ≡ Ok (found, counts) → nodes_at at (size_of left * 1) before ≡ Ok counts
+pub sum-counts : (at : ℕ) (left right found : ShapeOf) (before counts : Counts) → sum_shape Plus at left right before ≡ Ok (found, counts) → nodes_at at (size_of left) before ≡ Ok counts
 sum-counts at left right found before counts e =
-    for_nodes-counts at (size_of left * 1) left found before counts (if_ok (same_shape left right) (for_nodes at (size_of left * 1) left before) (Bad at kinds.Shape) (found, counts) e).1
+    for_nodes-counts at (size_of left) left found before counts (if_ok (same_shape left right) (for_nodes at (size_of left) left before) (Bad at kinds.Shape) (found, counts) e).1
 
 pub difference-counts : (at : ℕ) (left right found : ShapeOf) (before counts : Counts) → sum_shape Minus at left right before ≡ Ok (found, counts) →
     (middle : Counts) × (constant_at at 2147483646 before ≡ Ok middle) × (nodes_at at (size_of left * 2) middle ≡ Ok counts)
 difference-counts at left right found before counts e =
     for_minus_one-counts at (size_of left * 2) left found before counts (if_ok (same_shape left right) (for_minus_one at (size_of left * 2) left before) (Bad at kinds.Shape) (found, counts) e).1
 
-pub product-counts : (at : ℕ) (left right found : ShapeOf) (before counts : Counts) → product_shape at left right before ≡ Ok (found, counts) → nodes_at at (size_of left * 1) before ≡ Ok counts
+pub product-counts : (at : ℕ) (left right found : ShapeOf) (before counts : Counts) → product_shape at left right before ≡ Ok (found, counts) → nodes_at at (size_of left) before ≡ Ok counts
 product-counts at left right found before counts e =
-    for_nodes-counts at (size_of left * 1) left found before counts (if_ok (same_shape left right) (for_nodes at (size_of left * 1) left before) (Bad at kinds.Shape) (found, counts) e).1
+    for_nodes-counts at (size_of left) left found before counts (if_ok (same_shape left right) (for_nodes at (size_of left) left before) (Bad at kinds.Shape) (found, counts) e).1
 
 any-output : {A S : Type 0} (end : ℕ) (before after : State A S) → if_any_output end before ≡ Ok after → 1 ≤ after.counts.outputs
 any-output {A} {S} end before after e = by (before.counts.outputs == 0) refl e

@@ -8,9 +8,10 @@ use Rattle.arr_ast.specs.declared.expression.TimesFactor.{TimesFactor}
 use Rattle.arr_ast.specs.ExpressionTree.{expression_tree, added_tree, term_tree, times_tree, factor_tree}
 use Rattle.arr_run.specs.declared.counts.Counts.{Counts}
 use Rattle.arr_run.specs.Agrees.{Answer, ◌>>=◌}
-use Rattle.arr_run.specs.Expression.{Valued, value_of, added_value, added_term_value, term_value, times_value, times_factor_value, factor_value, signed_value, product_value}
+use Rattle.arr_run.specs.Expression.{Valued, value_of, added_value, term_value, times_value, factor_value, signed_value, product_value}
 use Rattle.arr_run.specs.Operations.{Operations}
 use Rattle.arr_run.specs.Scope.{Names}
+use Rattle.arr_run.specs.Steps.{added_term_value, times_factor_value}
 use Rattle.arr_run.specs.Statement.{expression_at, term_at, factor_at}
 
 module _ {A S : Type 0} (operations : Operations A S) where

@@ -8,8 +8,9 @@ use Rattle.arr_ast.specs.declared.index.AddedIndexTerm.{AddedIndexTerm, AddedInd
 use Rattle.arr_ast.specs.declared.index.TimesIndexFactor.{TimesIndexFactor}
 use Rattle.std.proofs.lemmas.Int.{to_z-of_z}
 use Rattle.arr_run.specs.Agrees.{Answer, ◌>>=◌}
-use Rattle.arr_run.specs.Index.{within, signed, index_value, added_index_value, added_index_term_value, index_term_value, times_index_value, times_factor_value, index_factor_value, index_at, index_term_at, index_factor_at}
+use Rattle.arr_run.specs.Index.{within, signed, index_value, added_index_value, index_term_value, times_index_value, index_factor_value, index_at, index_term_at, index_factor_at}
 use Rattle.arr_run.specs.Scope.{Names}
+use Rattle.arr_run.specs.Steps.{added_index_term_value, times_index_factor_value}
 use Rattle.arr_ast.specs.IndexTree.{sum_tree, terms_tree, product_tree, factors_tree, factor_tree}
 
 abbrev pub added_values : {A : Type 0} → Names A → ℕ → List AddedIndexTerm → ℤ → Answer ℤ
@@ -35,7 +36,7 @@ added_index_term_value-out scope whole term left = ap (λ t. added_index_term_va
 
 abbrev pub times_values : {A : Type 0} → Names A → ℕ → List TimesIndexFactor → ℤ → Answer ℤ
 times_values scope whole [] value = Ok value
-times_values scope whole (times ∷ factors) value = times_factor_value scope whole times value >>= λ value. times_values scope whole factors value
+times_values scope whole (times ∷ factors) value = times_index_factor_value scope whole times value >>= λ value. times_values scope whole factors value
 
 times_index_value-items : {A : Type 0} {n : _} (scope : Names A) (whole : ℕ) (times : Row_of-TimesIndexFactor n) (value : ℤ) → times_index_value scope whole (factors_tree times) value ≡ times_values scope whole (items-the_row-TimesIndexFactor n times) value
 times_index_value-items scope whole end_of-TimesIndexFactor value = refl

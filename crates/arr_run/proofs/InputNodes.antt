@@ -1,5 +1,5 @@
 -- The nodes behind the inputs are as many as the inputs have numbers.
-use Rattle.std.proofs.Common.{◌≡◌, ℕ, ◌+◌, ◌*◌, ◌&&◌, ◌≤◌, List, [], ◌∷◌, Ok, ap, sym, ◌∙◌, subst, arith}
+use Rattle.std.proofs.Common.{◌≡◌, ℕ, ◌+◌, ◌&&◌, ◌≤◌, List, [], ◌∷◌, Ok, ap, sym, ◌∙◌, subst, arith}
 use Rattle.std.specs.Prelude.{nat_lt, nat_le}
 use Rattle.std.proofs.lemmas.Bool.Decides.{nat_tests}
 use Rattle.std.proofs.lemmas.List.Sums.{sum_by-cons}
@@ -56,9 +56,9 @@ module _ {A S : Type 0} (operations : Operations A S) where
       let stepped = bind_ok (step_at input.at before.counts) _ after e in
       let free = bind_ok (if_free input.name.at (bound input.name before.names)) _ after stepped.2 in
       let shaped = bind_ok (input_shape input.dimensions) _ after free.2 in
-      let counted = bind_ok (nodes_at input.name.at (size_of shaped.0 * 1) stepped.0) _ after shaped.2 in
+      let counted = bind_ok (nodes_at input.name.at (size_of shaped.0) stepped.0) _ after shaped.2 in
       let named : after.counts.nodes ≡ counted.0.nodes = sym (ap (λ (r : State A S). r.counts.nodes) (same_ok _ after counted.2)) in
-      let more : counted.0.nodes ≡ size_of shaped.0 * 1 + stepped.0.nodes = nodes_at-adds input.name.at (size_of shaped.0 * 1) stepped.0 counted.0 counted.1 in
+      let more : counted.0.nodes ≡ size_of shaped.0 + stepped.0.nodes = nodes_at-adds input.name.at (size_of shaped.0) stepped.0 counted.0 counted.1 in
       let begun : stepped.0.nodes ≡ before.counts.nodes = step_at-keeps input.at before.counts stepped.0 stepped.1 in
       let size : size_of shaped.0 ≡ numbers_of_input input = ap size_of (input_shape-declared input.dimensions shaped.0 shaped.1) in
       omega (arith, named, more, begun, size)
@@ -81,9 +81,9 @@ module _ {A S : Type 0} (operations : Operations A S) where
       let stepped = bind_ok (step_at input.at before.counts) _ first.0 first.1 in
       let free = bind_ok (if_free input.name.at (bound input.name before.names)) _ first.0 stepped.2 in
       let shaped = bind_ok (input_shape input.dimensions) _ first.0 free.2 in
-      let counted = bind_ok (nodes_at input.name.at (size_of shaped.0 * 1) stepped.0) _ first.0 shaped.2 in
+      let counted = bind_ok (nodes_at input.name.at (size_of shaped.0) stepped.0) _ first.0 shaped.2 in
       let named : first.0.counts.nodes ≡ counted.0.nodes = sym (ap (λ (r : State A S). r.counts.nodes) (same_ok _ first.0 counted.2)) in
-      let now = nodes_at-few input.name.at (size_of shaped.0 * 1) stepped.0 counted.0 counted.1 in
+      let now = nodes_at-few input.name.at (size_of shaped.0) stepped.0 counted.0 counted.1 in
       inputs-few inputs first.0 after (omega (arith, named, now)) first.2
 
   -- a program that isn't refused has no more inputs than it may have nodes

@@ -61,7 +61,7 @@ module _ {A S B T : Type 0} (operations : Operations A S) (others : Operations B
         Alike before s t → Stands s t left a b → Stands s t right a' b' → Gives counts s t shape (operations.signed sign a a' s) (others.signed sign b b' t)
     pub product : (at : ℕ) (left right shape : ShapeOf) (before counts : Counts) (a a' : A) (b b' : B) (s : S) (t : T) → product_shape at left right before ≡ Ok (shape, counts) →
         Alike before s t → Stands s t left a b → Stands s t right a' b' → Gives counts s t shape (operations.product a a' s) (others.product b b' t)
-    pub opposite : (at : ℕ) (of shape : ShapeOf) (before counts : Counts) (a : A) (b : B) (s : S) (t : T) → for_minus_one at (size_of of * 1) of before ≡ Ok (shape, counts) →
+    pub opposite : (at : ℕ) (of shape : ShapeOf) (before counts : Counts) (a : A) (b : B) (s : S) (t : T) → for_minus_one at (size_of of) of before ≡ Ok (shape, counts) →
         Alike before s t → Stands s t of a b → Gives counts s t shape (operations.opposite a s) (others.opposite b t)
     pub single : (function : SingleFunction) (at : ℕ) (of shape : ShapeOf) (before counts : Counts) (a : A) (b : B) (s : S) (t : T) → single_shape function at of before ≡ Ok (shape, counts) →
         Alike before s t → Stands s t of a b → Gives counts s t shape (operations.single function of a s) (others.single function of b t)
@@ -79,7 +79,7 @@ module _ {A S B T : Type 0} (operations : Operations A S) (others : Operations B
   -- what they have to do for inputs, where what is kept is enough for all that are left
   pub record Begin (Enough : List InputTree → S → T → Type 0) : Type 0 where
     pub input : (tree : InputTree) (trees : List InputTree) (shape : ShapeOf) (before counts : Counts) (s : S) (t : T) → input_shape tree.dimensions ≡ Ok shape →
-        nodes_at tree.name.at (size_of shape * 1) before ≡ Ok counts → Alike before s t → Enough (tree ∷ trees) s t →
+        nodes_at tree.name.at (size_of shape) before ≡ Ok counts → Alike before s t → Enough (tree ∷ trees) s t →
         Gives counts s t shape (operations.input shape s) (others.input shape t) × Enough trees (operations.input shape s).1 (others.input shape t).1
 
   module _ (go : GoTogether) where
@@ -310,7 +310,7 @@ module _ {A S B T : Type 0} (operations : Operations A S) (others : Operations B
           element_both name.at indices counts s t names names' (binding_of name.number names) (binding_of name.number names') alike (same_turns s t names names' both) (both_found name.number s t names names' both)
       factor_both (Negation at operand) names names' counts s t both alike =
           then_both s t (factor_value operations operand names counts s) (factor_value others operand names' counts t) (opposite_value operations at) (opposite_value others at) (factor_both operand names names' counts s t both alike)
-          (λ of a b after s' t' here stands later. made_both (for_minus_one at (size_of of * 1) of after) s' t' (operations.opposite a) (others.opposite b)
+          (λ of a b after s' t' here stands later. made_both (for_minus_one at (size_of of) of after) s' t' (operations.opposite a) (others.opposite b)
           (λ shape counts' e. go.opposite at of shape after counts' a b s' t' e here stands))
       factor_both (Parenthesized at inner) names names' counts s t both alike = expression_both inner names names' counts s t both alike
       factor_both (Single function at parenthesis argument) names names' counts s t both alike =
@@ -571,7 +571,7 @@ module _ {A S B T : Type 0} (operations : Operations A S) (others : Operations B
             then_alike (BothBegun trees) (λ e. refl) (step_at tree.at counts) _ _ (λ after e.
             free_alike (BothBegun trees) (λ e. refl) tree.name.at s t (bound tree.name names) (bound tree.name names') _ _ (both_found tree.name.number s t names names' both)
             (then_alike (BothBegun trees) (λ e. refl) (input_shape tree.dimensions) _ _ (λ shape f.
-            then_alike (BothBegun trees) (λ e. refl) (nodes_at tree.name.at (size_of shape * 1) after) _ _ (λ last g.
+            then_alike (BothBegun trees) (λ e. refl) (nodes_at tree.name.at (size_of shape) after) _ _ (λ last g.
             let made = begin.input tree trees shape after last s t f g (more.stepped tree.at counts after s t e alike) enough in (
               (
                 refl,

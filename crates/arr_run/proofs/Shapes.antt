@@ -23,16 +23,16 @@ for_minus_one-shape at count shape found before counts e =
 -- a sum that isn't refused is of two equal shapes, and of theirs
 pub sum_shape-shape : (sign : Sign) (at : ℕ) (left right found : ShapeOf) (before counts : Counts) → sum_shape sign at left right before ≡ Ok (found, counts) → (same_shape left right ≡ true) × (found ≡ left)
 sum_shape-shape Plus at left right found before counts e =
-    let parts = if_ok (same_shape left right) (for_nodes at (size_of left * 1) left before) (Bad at kinds.Shape) (found, counts) e in
-    (parts.0, for_nodes-shape at (size_of left * 1) left found before counts parts.1)
+    let parts = if_ok (same_shape left right) (for_nodes at (size_of left) left before) (Bad at kinds.Shape) (found, counts) e in
+    (parts.0, for_nodes-shape at (size_of left) left found before counts parts.1)
 sum_shape-shape Minus at left right found before counts e =
     let parts = if_ok (same_shape left right) (for_minus_one at (size_of left * 2) left before) (Bad at kinds.Shape) (found, counts) e in
     (parts.0, for_minus_one-shape at (size_of left * 2) left found before counts parts.1)
 
 pub product_shape-shape : (at : ℕ) (left right found : ShapeOf) (before counts : Counts) → product_shape at left right before ≡ Ok (found, counts) → (same_shape left right ≡ true) × (found ≡ left)
 product_shape-shape at left right found before counts e =
-    let parts = if_ok (same_shape left right) (for_nodes at (size_of left * 1) left before) (Bad at kinds.Shape) (found, counts) e in
-    (parts.0, for_nodes-shape at (size_of left * 1) left found before counts parts.1)
+    let parts = if_ok (same_shape left right) (for_nodes at (size_of left) left before) (Bad at kinds.Shape) (found, counts) e in
+    (parts.0, for_nodes-shape at (size_of left) left found before counts parts.1)
 
 both_true : (a b : Bool) → (a && b) ≡ true → (a ≡ true) × (b ≡ true)
 both_true true b e = (refl, e)

@@ -3,9 +3,7 @@ use Rattle.std.specs.Prelude.{ℕ, ◌+◌, ◌*◌, Option, Some, None, Ok, Err
 use Rattle.arr_ast.specs.declared.expression.Sign.{Sign}
 use Rattle.arr_ast.specs.declared.expression.SingleFunction.{SingleFunction}
 use Rattle.arr_ast.specs.declared.expression.PairFunction.{PairFunction}
-use Rattle.arr_ast.specs.declared.expression.AddedTerm.{AddedTerm, AddedTerm'}
-use Rattle.arr_ast.specs.declared.expression.TimesFactor.{TimesFactor}
-use Rattle.arr_ast.specs.ExpressionTree.{IndicesTree, ExpressionTree, ExpressionOf, AddedTree, NoTerm, Added, TermTree, TermOf, TimesTree, NoFactor, Times, FactorTree, Number, Name, Element, Negation, Parenthesized, Single, Pair, term_tree, factor_tree}
+use Rattle.arr_ast.specs.ExpressionTree.{IndicesTree, ExpressionTree, ExpressionOf, AddedTree, NoTerm, Added, TermTree, TermOf, TimesTree, NoFactor, Times, FactorTree, Number, Name, Element, Negation, Parenthesized, Single, Pair}
 use Rattle.arr_ast.specs.declared.shape.ShapeOf.{ShapeOf}
 use Rattle.arr_ast.specs.declared.shape.ShapeOf.TheVariants.{Scalar, Matrix}
 use Rattle.arr_run.specs.declared.bound.Bound.{Bound}
@@ -71,7 +69,7 @@ module _ {A S : Type 0} (operations : Operations A S) where
 
   abbrev pub opposite_value : ℕ → Valued A S → Answer (Valued A S)
   opposite_value at found =
-      made (for_minus_one at (size_of found.0 * 1) found.0 found.2) (operations.opposite found.1)
+      made (for_minus_one at (size_of found.0) found.0 found.2) (operations.opposite found.1)
       found.3
 
   abbrev pub single_value : SingleFunction → ℕ → Valued A S → Answer (Valued A S)
@@ -119,11 +117,3 @@ module _ {A S : Type 0} (operations : Operations A S) where
     factor_value (Pair function at parenthesis left right) names counts kept =
         value_of left names counts kept >>= λ left.
         value_of right names left.2 left.3 >>= pair_value function at left
-
-  abbrev pub added_term_value : AddedTerm → Names A → Valued A S → Answer (Valued A S)
-  added_term_value (AddedTerm' sign at term) names left =
-      term_value (term_tree term) names left.2 left.3 >>= signed_value sign at left
-
-  abbrev pub times_factor_value : TimesFactor → Names A → Valued A S → Answer (Valued A S)
-  times_factor_value times names left =
-      factor_value (factor_tree times.factor) names left.2 left.3 >>= product_value times.at left

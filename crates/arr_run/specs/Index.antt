@@ -2,9 +2,7 @@
 use Rattle.std.specs.Prelude.{ℕ, ℤ, pos, ◌+ℤ◌, ◌-ℤ◌, ◌*ℤ◌, nat_abs, Option, Some, None, Ok, Err, nat_le, if◌then◌else◌}
 use Rattle.arr_ast.specs.declared.expression.Sign.{Sign}
 use Rattle.arr_ast.specs.declared.expression.Sign.TheVariants.{Plus, Minus}
-use Rattle.arr_ast.specs.declared.index.AddedIndexTerm.{AddedIndexTerm, AddedIndexTerm'}
-use Rattle.arr_ast.specs.declared.index.TimesIndexFactor.{TimesIndexFactor}
-use Rattle.arr_ast.specs.IndexTree.{Sum, SumOf, Terms, NoTerm, Term, Product, ProductOf, Factors, NoFactor, Times, Factor, Number, Name, Parenthesized, product_tree, factor_tree}
+use Rattle.arr_ast.specs.IndexTree.{Sum, SumOf, Terms, NoTerm, Term, Product, ProductOf, Factors, NoFactor, Times, Factor, Number, Name, Parenthesized}
 use Rattle.arr_run.specs.declared.bound.Bound.{Bound}
 use Rattle.arr_run.specs.declared.bound.Bound.TheVariants.{Value, Turn}
 use Rattle.arr_run.specs.declared.refused.CheckKind.TheVariants.{Unknown, IndexSize}
@@ -52,16 +50,6 @@ abbrev mutual
   index_factor_value scope whole (Number at value) = within whole (pos value)
   index_factor_value scope whole (Name at number) = turn_of whole at (binding_of number scope)
   index_factor_value scope whole (Parenthesized at inner) = index_value scope whole inner
-
-abbrev pub added_index_term_value : {A : Type 0} → Names A → ℕ → AddedIndexTerm → ℤ → Answer ℤ
-added_index_term_value scope whole (AddedIndexTerm' sign at term) left =
-    index_term_value scope whole (product_tree term) >>= λ right.
-    within whole (signed sign left right)
-
-abbrev pub times_factor_value : {A : Type 0} → Names A → ℕ → TimesIndexFactor → ℤ → Answer ℤ
-times_factor_value scope whole times left =
-    index_factor_value scope whole (factor_tree times.factor) >>= λ right.
-    within whole (left *ℤ right)
 
 abbrev pub index_factor_at : Factor → ℕ
 index_factor_at (Number at value) = at

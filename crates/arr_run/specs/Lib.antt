@@ -11,3 +11,4 @@ pub mod Program
 pub mod Scope
 pub mod Shape
 pub mod Statement
+pub mod Steps

@@ -1,5 +1,5 @@
 -- The run of programs.
-use Rattle.std.specs.Prelude.{ℕ, List, sum_by, ◌+◌, ◌*◌, ◌==◌, ◌&&◌, [], Ok, Err, nat_le, if◌then◌else◌}
+use Rattle.std.specs.Prelude.{ℕ, List, sum_by, ◌+◌, ◌==◌, ◌&&◌, [], Ok, Err, nat_le, if◌then◌else◌}
 use Rattle.std.specs.FinSet as set
 use Rattle.arr_ast.specs.declared.program.Dimension.{Dimension}
 use Rattle.arr_ast.specs.declared.program.Dimensions.{Dimensions}
@@ -56,7 +56,7 @@ module _ {A S : Type 0} (operations : Operations A S) where
       step_at input.at before.counts >>= λ counts.
       if_free input.name.at (bound input.name before.names) >>= λ free.
       input_shape input.dimensions >>= λ shape.
-      nodes_at input.name.at (size_of shape * 1) counts >>= λ counts.
+      nodes_at input.name.at (size_of shape) counts >>= λ counts.
       Ok (state (with_name input.name.number (Value shape (operations.input shape before.kept).0)
       before.names) counts (operations.input shape before.kept).1)
 

@@ -45,22 +45,22 @@ for_minus_one at count shape counts =
     constant_at at minus_one counts >>= λ counts. for_nodes at count shape counts
 
 abbrev pub sum_shape : Sign → ℕ → ShapeOf → ShapeOf → Counts → Shaped
-sum_shape Plus at left right counts = if_alike at left right (for_nodes at (size_of left * 1) left counts)
+sum_shape Plus at left right counts = if_alike at left right (for_nodes at (size_of left) left counts)
 sum_shape Minus at left right counts =
     if_alike at left right (for_minus_one at (size_of left * 2) left counts)
 
 abbrev pub product_shape : ℕ → ShapeOf → ShapeOf → Counts → Shaped
-product_shape at left right counts = if_alike at left right (for_nodes at (size_of left * 1) left counts)
+product_shape at left right counts = if_alike at left right (for_nodes at (size_of left) left counts)
 
 abbrev pub single_shape : SingleFunction → ℕ → ShapeOf → Counts → Shaped
-single_shape Sum at shape counts = for_nodes at ((size_of shape - 1) * 1) Scalar counts
+single_shape Sum at shape counts = for_nodes at (size_of shape - 1) Scalar counts
 single_shape Transpose at (Matrix n m) counts = Ok (Matrix m n, counts)
 single_shape Transpose at shape counts = Err (Bad at Shape)
 
 abbrev pub pair_shape : PairFunction → ℕ → ShapeOf → ShapeOf → Counts → Shaped
-pair_shape Scale at Scalar right counts = for_nodes at (size_of right * 1) right counts
+pair_shape Scale at Scalar right counts = for_nodes at (size_of right) right counts
 pair_shape Dot at (Vector n) (Vector m) counts =
-    if n == m then for_nodes at ((n + n - 1) * 1) Scalar counts else Err (Bad at Shape)
+    if n == m then for_nodes at (n + n - 1) Scalar counts else Err (Bad at Shape)
 pair_shape MatMul at (Matrix n m) (Matrix k q) counts =
     if m == k then for_nodes at ((n * q) * (m + m - 1)) (Matrix n q) counts else Err (Bad at Shape)
 pair_shape function at left right counts = Err (Bad at Shape)

@@ -36,8 +36,20 @@ pub fn step(counts: &mut Counts, at: usize) -> Result<(), CheckRefused>
     Ok(())
 }
 
-/// As many nodes for each element of a value.
-pub fn add_nodes(counts: &mut Counts, at: usize, size: u64, each: u64) -> Result<(), CheckRefused>
+/// So many nodes more.
+pub fn add_nodes(counts: &mut Counts, at: usize, more: u64) -> Result<(), CheckRefused>
+    ensures { Agrees (λ _. counts.new) result (nodes_at at more counts.old) }
+{
+    add_nodes_each(counts, at, more, 1)
+}
+
+/// So many nodes more for each element of a value of this size.
+pub fn add_nodes_each(
+    counts: &mut Counts,
+    at: usize,
+    size: u64,
+    each: u64,
+) -> Result<(), CheckRefused>
     ensures { Agrees (λ _. counts.new) result (nodes_at at (size * each) counts.old) }
 {
     let nodes = size
@@ -63,7 +75,7 @@ pub fn use_constant(counts: &mut Counts, at: usize, value: u32) -> Result<(), Ch
     if counts.constants.contains(number) {
         return Ok(());
     }
-    add_nodes(counts, at, 1, 1)?;
+    add_nodes(counts, at, 1)?;
     counts.constants.insert(number)?;
     Ok(())
 }

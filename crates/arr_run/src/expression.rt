@@ -3,9 +3,10 @@
 ghost use Rattle.std.specs.Prelude.{◌≡◌, Ok, option_copied};
 ghost use Rattle.arr_ast.specs.ExpressionTree.{name_tree, indices_tree, expression_tree, term_tree, factor_tree};
 ghost use Rattle.arr_run.specs.Agrees.{Agrees};
-ghost use Rattle.arr_run.specs.Expression.{value_of, added_term_value, term_value as value_of_term, times_factor_value, factor_value as value_of_factor, constant_value as value_of_constant, bound_value, element_value as value_of_element, signed_value as value_of_sum, product_value as value_of_product, opposite_value as value_of_opposite, single_value as value_of_single, pair_value as value_of_pair};
+ghost use Rattle.arr_run.specs.Expression.{value_of, term_value as value_of_term, factor_value as value_of_factor, constant_value as value_of_constant, bound_value, element_value as value_of_element, signed_value as value_of_sum, product_value as value_of_product, opposite_value as value_of_opposite, single_value as value_of_single, pair_value as value_of_pair};
 ghost use Rattle.arr_ast.specs.declared.shape.ShapeOf.TheVariants.{Scalar};
 ghost use Rattle.arr_run.specs.Scope.{binding_of};
+ghost use Rattle.arr_run.specs.Steps.{added_term_value, times_factor_value};
 
 use crate::bound::Bound;
 use crate::counts::{Counts, use_constant};
@@ -13,7 +14,7 @@ use crate::element::{offset, place_in};
 use crate::machine::Machine;
 use crate::refused::{CheckKind, CheckRefused};
 use crate::scope::Scope;
-use crate::shape::{from_minus_one, pair_shape, signed_shape, single_shape, times_shape};
+use crate::shape::{opposite_shape, pair_shape, signed_shape, single_shape, times_shape};
 use arr_ast::{
     AddedTerm, Expression, Factor, Indices, Name, PairFunction, ShapeOf, Sign, SingleFunction,
     Term, TimesFactor,
@@ -244,7 +245,7 @@ fn opposite_value<M: Machine>(
     ensures { Agrees (λ found. (found.0, found.1, counts.new, machine.new)) result
         (value_of_opposite M.operations at (found.0, found.1, counts.old, machine.old)) }
 {
-    let shape = from_minus_one(counts, at, found.0, 1)?;
+    let shape = opposite_shape(counts, at, found.0)?;
     Ok((shape, machine.opposite(found.1)?))
 }
 

@@ -3,8 +3,9 @@
 ghost use Rattle.std.specs.Prelude.{◌≡◌, ◌≤◌, ◌^◌, nat_abs, ◌*ℤ◌, IfOk};
 ghost use Rattle.arr_ast.specs.IndexTree.{sum_tree, product_tree, factor_tree};
 ghost use Rattle.arr_run.specs.Agrees.{Agrees};
-ghost use Rattle.arr_run.specs.Index.{index_value as value_of, index_term_value, added_index_term_value, times_factor_value, index_factor_value, index_at as place_of, index_term_at, index_factor_at, within as part_within, turn_of};
+ghost use Rattle.arr_run.specs.Index.{index_value as value_of, index_term_value, index_factor_value, index_at as place_of, index_term_at, index_factor_at, within as part_within, turn_of};
 ghost use Rattle.arr_run.specs.Scope.{binding_of};
+ghost use Rattle.arr_run.specs.Steps.{added_index_term_value, times_index_factor_value};
 
 use crate::bound::Bound;
 use crate::refused::{CheckKind, CheckRefused};
@@ -92,7 +93,7 @@ fn times_value<A: Drop>(
     times: &TimesIndexFactor,
 ) -> Result<i64, CheckRefused>
     requires { nat_abs left ≤ 2 ^ 31 }
-    ensures value { Agrees (λ z. z) result (times_factor_value scope.now whole times.now left) }
+    ensures value { Agrees (λ z. z) result (times_index_factor_value scope.now whole times.now left) }
     ensures small { IfOk result (λ z. nat_abs z ≤ 2 ^ 31) }
 {
     let right = factor_value(scope, whole, &times.factor)?;

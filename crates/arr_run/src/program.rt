@@ -95,7 +95,7 @@ fn run_input<M: Machine>(
     step(counts, input.at)?;
     require_free(scope, &input.name)?;
     let shape = input_shape(input.dimensions)?;
-    add_nodes(counts, input.name.at, size(shape), 1)?;
+    add_nodes(counts, input.name.at, size(shape))?;
     let array = machine.input(shape)?;
     scope.declare(input.name.number, Bound::Value(shape, array))?;
     Ok(())

@@ -6,7 +6,7 @@ ghost use Rattle.arr_run.specs.declared.refused.CheckKind.TheVariants.{Shape};
 ghost use Rattle.arr_run.specs.declared.refused.CheckRefused.TheVariants.{Bad};
 ghost use Rattle.arr_run.specs.Shape.{size_of, same_shape, for_nodes, for_minus_one, sum_shape, product_shape, single_shape as shape_of_single, pair_shape as shape_of_pair};
 
-use crate::counts::{Counts, add_nodes, use_constant};
+use crate::counts::{Counts, add_nodes, add_nodes_each, use_constant};
 use crate::refused::{CheckKind, CheckRefused};
 use arr_ast::{PairFunction, ShapeOf, Sign, SingleFunction};
 
@@ -45,18 +45,17 @@ fn misshapen(at: usize) -> CheckRefused
     }
 }
 
-/// The shape of a value that takes -1 and as many nodes for each element.
-pub fn from_minus_one(
+/// The shape of the opposite of a value of this shape.
+pub fn opposite_shape(
     counts: &mut Counts,
     at: usize,
     shape: ShapeOf,
-    each: u64,
 ) -> Result<ShapeOf, CheckRefused>
     ensures { Agrees (λ shape. (shape, counts.new)) result
-        (for_minus_one at (size_of shape * each) shape counts.old) }
+        (for_minus_one at (size_of shape) shape counts.old) }
 {
     use_constant(counts, at, MINUS_ONE)?;
-    add_nodes(counts, at, size(shape), each)?;
+    add_nodes(counts, at, size(shape))?;
     Ok(shape)
 }
 
@@ -75,10 +74,14 @@ pub fn signed_shape(
     }
     match sign {
         Sign::Plus => {
-            add_nodes(counts, at, size(left), 1)?;
+            add_nodes(counts, at, size(left))?;
             Ok(left)
         }
-        Sign::Minus => from_minus_one(counts, at, left, 2),
+        Sign::Minus => {
+            use_constant(counts, at, MINUS_ONE)?;
+            add_nodes_each(counts, at, size(left), 2)?;
+            Ok(left)
+        }
     }
 }
 
@@ -94,7 +97,7 @@ pub fn times_shape(
     if !is_alike(left, right) {
         return Err(misshapen(at));
     }
-    add_nodes(counts, at, size(left), 1)?;
+    add_nodes(counts, at, size(left))?;
     Ok(left)
 }
 
@@ -109,7 +112,7 @@ pub fn single_shape(
 {
     match (function, shape) {
         (SingleFunction::Sum, _) => {
-            add_nodes(counts, at, size(shape).saturating_sub(1), 1)?;
+            add_nodes(counts, at, size(shape).saturating_sub(1))?;
             Ok(ShapeOf::Scalar)
         }
         (SingleFunction::Transpose, ShapeOf::Matrix(n, m)) => Ok(ShapeOf::Matrix(m, n)),
@@ -130,15 +133,15 @@ pub fn pair_shape(
 {
     match (function, left, right) {
         (PairFunction::Scale, ShapeOf::Scalar, _) => {
-            add_nodes(counts, at, size(right), 1)?;
+            add_nodes(counts, at, size(right))?;
             Ok(right)
         }
         (PairFunction::Dot, ShapeOf::Vector(n), ShapeOf::Vector(m)) if n == m => {
-            add_nodes(counts, at, nodes_of_dot(n), 1)?;
+            add_nodes(counts, at, nodes_of_dot(n))?;
             Ok(ShapeOf::Scalar)
         }
         (PairFunction::MatMul, ShapeOf::Matrix(n, m), ShapeOf::Matrix(k, q)) if m == k => {
-            add_nodes(counts, at, u64::from(n) * u64::from(q), nodes_of_dot(m))?;
+            add_nodes_each(counts, at, u64::from(n) * u64::from(q), nodes_of_dot(m))?;
             Ok(ShapeOf::Matrix(n, q))
         }
         _ => Err(misshapen(at)),

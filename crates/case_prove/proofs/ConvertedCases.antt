@@ -1,10 +1,9 @@
 -- What is converted says the same messages, so that it has the same verdicts, and converting back gives the case again.
-use Rattle.std.proofs.Common.{◌≡◌, ◌⊎◌, inl, inr, ◌↔◌, ℕ, List, Option, Some, drop, refl, sym, ◌∙◌, ap, subst}
+use Rattle.std.proofs.Common.{◌≡◌, inl, inr, ◌↔◌, ℕ, List, Option, Some, drop, refl, sym, ◌∙◌, ap, subst}
 use Rattle.field_ext.specs.Field.{F}
 use Rattle.circuit_core.specs.Parts.{Parts}
 use Rattle.circuit_core.specs.Sound.{exponents}
 use Rattle.transcript_fs.specs.Transcript.{transcript}
-use Rattle.proof_wire.specs.declared.form.ProofForm.{ProofForm}
 use Rattle.proof_wire.specs.declared.form.ProofForm.TheVariants.{Line}
 use Rattle.proof_wire.specs.declared.messages.Messages.{Messages}
 use Rattle.proof_wire.specs.Lists.{HaveShape}
@@ -22,9 +21,9 @@ use Rattle.gkr_layers.specs.Equations.{first_failure}
 use Rattle.gkr_verify.specs.ShortProof.{sums_of}
 use Rattle.gkr_verify.proofs.Filled.{sums-fill}
 use Rattle.case_text.specs.Content.{Content}
-use Rattle.case_prove.specs.Converted.{IsConverted, own_sums}
+use Rattle.case_prove.specs.Converted.{IsConverted}
 use Rattle.case_prove.specs.Started.{start_of}
-use Rattle.case_prove.specs.Verified.{HasProof, IsClaim, IsVerdictOn, Says, transcript_verdict}
+use Rattle.case_prove.specs.Verified.{HasProof, IsVerdictOn, Says, transcript_verdict}
 use Rattle.case_prove.proofs.OneSaying.{apart, says_form, says_one}
 use Rattle.case_prove.proofs.ProvedCases.{OneCircuit}
 use Rattle.case_prove.proofs.ReadProofs.{one_value}

@@ -1,5 +1,5 @@
 -- A proof says messages in one form alone, and there the same messages, or it has one first trouble.
-use Rattle.std.proofs.Common.{◌≡◌, ◌⊎◌, inl, inr, ℕ, List, [], Bool, true, false, MatchBool, Option, Some, drop, refl, sym, ◌∙◌, ap, subst}
+use Rattle.std.proofs.Common.{◌≡◌, inl, inr, ℕ, List, [], Bool, true, false, MatchBool, Option, Some, drop, sym, ◌∙◌, ap, subst}
 use Rattle.std.specs.Prelude.{unwrap_or}
 use Rattle.field_ext.specs.Field.{F}
 use Rattle.circuit_core.specs.Parts.{Parts}
@@ -26,7 +26,7 @@ use Rattle.proof_two.proofs.Either.{any_faultless, any_trouble}
 use Rattle.gkr_verify.specs.ShortProof.{filled}
 use Rattle.case_text.specs.Content.{Content}
 use Rattle.case_prove.specs.Started.{start_of}
-use Rattle.case_prove.specs.Verified.{IsFilledIn, Says, proof_form}
+use Rattle.case_prove.specs.Verified.{Says, proof_form}
 use Rattle.case_prove.proofs.ReadProofs.{one_value}
 
 -- the form that the fourth byte of some bytes names

@@ -1,5 +1,5 @@
 -- A case has at most one answer of `convert`, and that to a case that can be converted is the case that is written, with the verdicts of the case.
-use Rattle.std.proofs.Common.{◌≡◌, ◌↔◌, ◌<◌, ◌∙◌, ℕ, List, drop, length, subst, Option, Some, Result, Ok, refl, sym, ap, arith}
+use Rattle.std.proofs.Common.{◌≡◌, ◌↔◌, ◌∙◌, ℕ, List, drop, subst, Option, Some, Result, Ok, refl, sym, ap, arith}
 use Rattle.io_edge.specs.Written.{Grows}
 use Rattle.field_ext.specs.Field.{F}
 use Rattle.circuit_core.specs.Parts.{Parts}
@@ -14,7 +14,7 @@ use Rattle.gkr_layers.specs.declared.verdict.Verdict.TheVariants as verdicts
 use Rattle.gkr_layers.specs.Equations.{first_failure}
 use Rattle.gkr_verify.specs.declared.sums.LayerSum.{LayerSum}
 use Rattle.gkr_verify.specs.Rounds.{layer_failure}
-use Rattle.case_text.specs.Content.{Content, Fits}
+use Rattle.case_text.specs.Content.{Content}
 use Rattle.case_text.specs.Reading.{reading}
 use Rattle.case_text.specs.Replies.{reply_text}
 use Rattle.case_text.specs.Spelling.{lower_case_text}

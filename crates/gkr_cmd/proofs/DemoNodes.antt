@@ -1,5 +1,5 @@
 -- The nodes of the programs of `demo`, and that they are laid out within the limits of every circuit.
-use Rattle.std.proofs.Common.{◌≡◌, ℕ, zero, suc, ◌+◌, ◌-◌, ◌*◌, ◌<◌, ◌≤◌, ◌^◌, Bool, true, false, not, nat_lt, le-leb, ◌&&◌, ◌==◌, List, [], ◌∷◌, ◌++◌, length, map, Option, Some, None, Ok, Err, refl, ap, sym, ◌∙◌, arith}
+use Rattle.std.proofs.Common.{◌≡◌, ℕ, zero, suc, ◌+◌, ◌-◌, ◌*◌, ◌≤◌, ◌^◌, Bool, true, false, not, nat_lt, le-leb, ◌==◌, List, [], ◌∷◌, ◌++◌, length, map, Some, None, Ok, Err, refl, ap, sym, ◌∙◌, arith}
 use Rattle.std.specs.Prelude.{if◌then◌else◌, IsSome}
 use Rattle.std.specs.List.{range_with_len, filter}
 use Rattle.std.proofs.Math.Nat.{mul-le-mul}
@@ -7,7 +7,6 @@ use Rattle.std.proofs.lemmas.List.FromFn.{length-range_with_len, length-map-rang
 use Rattle.std.proofs.lemmas.List.Filters.{length-filter_both}
 use Rattle.field_ext.specs.Field.{of}
 use Rattle.circuit_core.specs.Sound.{greatest}
-use Rattle.arr_ast.specs.ProgramTree.{ProgramTree}
 use Rattle.gkr_cmd.specs.Demo.{demo_case, demo_size}
 use Rattle.gkr_cmd.specs.Runs.{HasCircuit}
 use Rattle.circuit_core.proofs.Faultless.{unless_true}
@@ -31,7 +30,7 @@ use Rattle.arr_run.specs.declared.refused.CheckRefused.TheVariants.{Bad}
 use Rattle.arr_run.specs.Agrees.{Answer, ◌>>=◌, each}
 use Rattle.arr_run.specs.Counting.{step_at, nodes_at}
 use Rattle.arr_run.specs.Expression.{Valued, value_of, added_value, times_value, single_value}
-use Rattle.arr_run.specs.Program.{after_input, after_top, if_any_output, input_count, input_shape, none_counted, outputs_at, run_of}
+use Rattle.arr_run.specs.Program.{after_input, after_top, if_any_output, input_shape, none_counted, outputs_at, run_of}
 use Rattle.arr_run.specs.Scope.{Names, binding_of}
 use Rattle.arr_run.specs.Shape.{size_of, pair_shape, single_shape}
 use Rattle.arr_run.specs.Statement.{State, state, if_free}
@@ -80,7 +79,7 @@ input-is at number at' at1 at2 n before after e =
     let stepped = bind_ok (step_at at before.counts) _ after e in
     let free = bind_ok (if_free at' (binding_of number before.names)) _ after stepped.2 in
     let shaped = bind_ok (input_shape (dimensions.Matrix (size_at at1 n) (size_at at2 n))) _ after free.2 in
-    let counted = bind_ok (nodes_at at' (size_of shaped.0 * 1) stepped.0) _ after shaped.2 in
+    let counted = bind_ok (nodes_at at' (size_of shaped.0) stepped.0) _ after shaped.2 in
     let declared : shaped.0 ≡ Matrix n n = input_shape-declared (dimensions.Matrix (size_at at1 n) (size_at at2 n)) shaped.0 shaped.1 in
     let same = same_ok _ after counted.2 in (
       sym (ap (λ (r : State (List ℕ) Kept). r.names) same)

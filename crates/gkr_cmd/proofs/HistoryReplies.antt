@@ -9,7 +9,7 @@ use Rattle.script_text.specs.Scripts.{history_script_reading}
 use Rattle.script_prove.specs.Served.{IsServedHistory}
 use Rattle.gkr_cmd.specs.declared.status.Status.TheVariants.{Done}
 use Rattle.gkr_words.specs.Commands.{script_limit}
-use Rattle.gkr_cmd.specs.Replies.{IsHistoryReply, IsNoHistoryScript, IsToldScript, IsTooLong, status_of}
+use Rattle.gkr_cmd.specs.Replies.{IsHistoryReply, IsTooLong, status_of}
 
 -- the reply tells such a history
 pub record Tells (script : List MarkedJob) (reply : Reply) : Type 0 where

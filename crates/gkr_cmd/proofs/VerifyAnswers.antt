@@ -1,6 +1,5 @@
 -- A case has at most one answer of `verify`, and that to a case whose proof meets every equation is that it is accepted.
-use Rattle.std.proofs.Common.{◌≡◌, ◌↔◌, ℕ, List, [], length, drop, subst, Some, refl, sym, ap, ◌∙◌}
-use Rattle.std.specs.Prelude.{Option, unwrap_or}
+use Rattle.std.proofs.Common.{◌≡◌, ◌↔◌, List, drop, subst, refl, sym, ap, ◌∙◌}
 use Rattle.field_ext.specs.Field.{F}
 use Rattle.circuit_core.specs.Parts.{Parts}
 use Rattle.circuit_core.specs.Sound.{exponents}
@@ -25,7 +24,7 @@ use Rattle.gkr_cmd.specs.Replies.{IsVerdictLine, IsVerifyAnswer, status_of}
 use Rattle.gkr_cmd.specs.Told.{verdict_line}
 use Rattle.gkr_cmd.proofs.CircuitAnswers.{IsOne}
 use Rattle.gkr_cmd.proofs.OneReply.{OneAnswer}
-use Rattle.gkr_cmd.proofs.ProofRefusals.{IsOneProof, Refusal, refusal, one_refusal, not_both, read_or_memory, one_value, same_parts, same_outputs}
+use Rattle.gkr_cmd.proofs.ProofRefusals.{IsOneProof, Refusal, refusal, one_refusal, not_both, read_or_memory, same_parts, same_outputs}
 
 -- what is said of a case
 pub data Answer (c : Content) : Reply → Type 0 where

@@ -1,7 +1,6 @@
 -- What stands in the output layer is the program's meaning.
-use Rattle.std.proofs.Common.{◌≡◌, ◌∙◌, ℕ, List, length, take, drop, ap, sym, refl}
+use Rattle.std.proofs.Common.{◌∙◌, ℕ, take, drop, ap, sym, refl}
 use Rattle.std.proofs.lemmas.Result.{IfOk-weaker}
-use Rattle.field_ext.specs.Field.{F}
 use Rattle.circuit_core.specs.Parts.{layer_values}
 use Rattle.circuit_core.specs.Sound.{SoundCircuit}
 use Rattle.case_prove.proofs.ProvedOutputs.{evaluated, outputs_read}
