@@ -8,8 +8,6 @@ mod answered;
 #[cfg(test)]
 mod audits;
 #[cfg(test)]
-mod live;
-#[cfg(test)]
 mod pairs;
 #[cfg(test)]
 mod proofs;
