@@ -9,6 +9,7 @@ pub mod Naming
 pub mod OneExpression
 pub mod OneProgram
 pub mod OneTree
+pub mod ProgramRead
 pub mod Rows
 pub mod StatementRows
 pub mod Symbols

@@ -7,4 +7,5 @@ pub mod ProgramSpelling
 pub mod Grammar
 pub mod Reading
 pub mod Parsed
+pub mod Steps
 pub mod Unplaced

@@ -7,11 +7,20 @@ ghost use Rattle.arr_parse.specs.IndexSpelling.{sign_symbol, name_spelling, inde
 ghost use Rattle.arr_parse.specs.Spelling.{single_symbol, pair_symbol, expression_spelling, term_spelling, factor_spelling, added_term_spelling, times_factor_spelling};
 ghost use Rattle.arr_parse.specs.ProgramSpelling.{statement_spelling};
 
+use crate::refused::ParseRefused;
 use arr_ast::{
     AddedTerm, Expression, Factor, IndexExpression, Indices, Name, PairFunction, Sign,
     SingleFunction, Statement, Term, TimesFactor,
 };
 use std::alloc::{AllocError, Global};
+
+/// Drops what was read of a chain that is refused, away from the calls that are nested.
+#[inline(never)]
+pub fn let_go<X: Drop, Y: Drop>(refused: ParseRefused, _first: X, _further: Y) -> ParseRefused
+    ensures { result ≡ refused }
+{
+    refused
+}
 
 /// The expression of these terms.
 #[inline(never)]

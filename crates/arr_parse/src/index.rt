@@ -1,149 +1,80 @@
 //! Index expressions, from the left.
 
-ghost use Rattle.std.specs.Prelude.{◌≡◌, ℕ, ◌≤◌, List, [], ◌∷◌, ◌++◌, length, IfOk, flat_map};
-ghost use Rattle.arr_parse.specs.IndexSpelling.{index_spelling, index_term_spelling, index_factor_spelling, added_index_term_spelling, times_index_factor_spelling};
-ghost use Rattle.arr_parse.specs.Grammar.{Part, AnIndex, MoreIndexTerms, AnIndexTerm, MoreIndexFactors, AnIndexFactor};
-ghost use Rattle.arr_parse.specs.Reading.{levels as levels_of, refusal};
-ghost use Rattle.arr_parse.specs.Parsed.{IsSpelled, IsSpelledUpTo, Agrees};
+ghost use Rattle.std.specs.Prelude.{[], ◌∷◌, IfOk, OnOk, flat_map};
+ghost use Rattle.arr_parse.specs.IndexSpelling.{index_spelling, index_term_spelling, index_factor_spelling, times_index_factor_spelling};
+ghost use Rattle.arr_parse.specs.Grammar.{AnIndex, AnIndexTerm, MoreIndexFactors, AnIndexFactor};
+ghost use Rattle.arr_parse.specs.Steps.{Takes, Reads};
 
-use crate::levels::level_behind;
+use crate::cursor::Cursor;
 use crate::refused::ParseRefused;
-use crate::signs::{added_sign, behind, times_sign};
-use crate::source::Source;
 use arr_ast::{AddedIndexTerm, IndexExpression, IndexFactor, IndexTerm, TimesIndexFactor};
-use arr_lex::{Symbol, Token};
-use std::alloc::Global;
+use arr_lex::Symbol;
 
-/// The index expression that the tokens begin with, and the tokens behind it.
+/// The index expression that is due.
 #[cycle(index)]
 #[tactic(auto, using(crate::proofs::IndexRows::of_indices))]
-pub fn index_expression<'t>(
-    alloc: Global,
-    source: &Source,
-    tokens: &'t [Token],
-    levels: usize,
-) -> Result<(IndexExpression, &'t [Token]), ParseRefused>
-    requires { levels ≤ 64 }
-    ensures spelled { IfOk result
-        (λ found. IsSpelled source.now tokens.now (index_spelling found.0) found.1.now) }
-    ensures exact { (due : List Part) → levels_of due ≡ levels →
-        Agrees (λ found. refusal (length source.now.text) due found.1.now) result
-        (refusal (length source.now.text) (AnIndex ∷ due) tokens.now) }
+pub fn index_expression(cursor: &mut Cursor) -> Result<IndexExpression, ParseRefused>
+    ensures spelled { IfOk result (λ found. Takes [] cursor.old (index_spelling found) cursor.new) }
+    ensures exact { Reads (AnIndex ∷ []) cursor.old result cursor.new }
 {
-    let (first, rest) = index_term(alloc, source, tokens, levels)?;
-    let (added, rest) = added_index_terms(alloc, source, rest, levels)?;
-    Ok((IndexExpression { first, added }, rest))
-}
-
-// The further terms of an index expression.
-#[cycle(index)]
-#[tactic(auto, using(crate::proofs::IndexRows::of_indices))]
-fn added_index_terms<'t>(
-    alloc: Global,
-    source: &Source,
-    tokens: &'t [Token],
-    levels: usize,
-) -> Result<(Vec<AddedIndexTerm>, &'t [Token]), ParseRefused>
-    requires { levels ≤ 64 }
-    ensures spelled { IfOk result
-        (λ found. IsSpelledUpTo source.now tokens.now
-        (flat_map added_index_term_spelling found.0.items) found.1.now) }
-    ensures exact { (due : List Part) → levels_of due ≡ levels →
-        Agrees (λ found. refusal (length source.now.text) due found.1.now) result
-        (refusal (length source.now.text) (MoreIndexTerms ∷ due) tokens.now) }
-{
-    let mut added = Vec::new(alloc);
-    let mut rest = tokens;
-    while let Some((sign, token, behind)) = added_sign(rest) {
-        let (term, behind) = index_term(alloc, source, behind, levels)?;
-        added.push(AddedIndexTerm {
-            sign,
-            at: token.start,
-            term,
-        })?;
-        rest = behind;
+    let first = index_term(cursor)?;
+    let mut added = Vec::new(cursor.alloc());
+    while let Some((sign, at)) = cursor.added_sign() {
+        let term = index_term(cursor)?;
+        added.push(AddedIndexTerm { sign, at, term })?;
     }
-    Ok((added, rest))
+    Ok(IndexExpression { first, added })
 }
 
 #[cycle(index)]
 #[tactic(auto, using(crate::proofs::IndexRows::of_indices))]
-fn index_term<'t>(
-    alloc: Global,
-    source: &Source,
-    tokens: &'t [Token],
-    levels: usize,
-) -> Result<(IndexTerm, &'t [Token]), ParseRefused>
-    requires { levels ≤ 64 }
+fn index_term(cursor: &mut Cursor) -> Result<IndexTerm, ParseRefused>
     ensures spelled { IfOk result
-        (λ found. IsSpelled source.now tokens.now (index_term_spelling found.0) found.1.now) }
-    ensures exact { (due : List Part) → levels_of due ≡ levels →
-        Agrees (λ found. refusal (length source.now.text) due found.1.now) result
-        (refusal (length source.now.text) (AnIndexTerm ∷ due) tokens.now) }
+        (λ found. Takes [] cursor.old (index_term_spelling found) cursor.new) }
+    ensures exact { Reads (AnIndexTerm ∷ []) cursor.old result cursor.new }
 {
-    let (first, rest) = index_factor(alloc, source, tokens, levels)?;
-    let (times, rest) = times_index_factors(alloc, source, rest, levels)?;
-    Ok((IndexTerm { first, times }, rest))
+    let first = index_factor(cursor)?;
+    let mut times = Vec::new(cursor.alloc());
+    times_index_factors(cursor, &mut times)?;
+    Ok(IndexTerm { first, times })
 }
 
-// The further factors of a term.
+// Adds the further factors of a term.
 #[cycle(index)]
 #[tactic(auto, using(crate::proofs::IndexRows::of_indices))]
-fn times_index_factors<'t>(
-    alloc: Global,
-    source: &Source,
-    tokens: &'t [Token],
-    levels: usize,
-) -> Result<(Vec<TimesIndexFactor>, &'t [Token]), ParseRefused>
-    requires { levels ≤ 64 }
-    ensures spelled { IfOk result
-        (λ found. IsSpelledUpTo source.now tokens.now
-        (flat_map times_index_factor_spelling found.0.items) found.1.now) }
-    ensures exact { (due : List Part) → levels_of due ≡ levels →
-        Agrees (λ found. refusal (length source.now.text) due found.1.now) result
-        (refusal (length source.now.text) (MoreIndexFactors ∷ due) tokens.now) }
+fn times_index_factors(
+    cursor: &mut Cursor,
+    times: &mut Vec<TimesIndexFactor>,
+) -> Result<(), ParseRefused>
+    ensures spelled { OnOk result (Takes (flat_map times_index_factor_spelling times.old.items)
+        cursor.old (flat_map times_index_factor_spelling times.new.items) cursor.new) }
+    ensures exact { Reads (MoreIndexFactors ∷ []) cursor.old result cursor.new }
 {
-    let mut times = Vec::new(alloc);
-    let mut rest = tokens;
-    while let Some((token, behind)) = times_sign(rest) {
-        let (factor, behind) = index_factor(alloc, source, behind, levels)?;
-        times.push(TimesIndexFactor {
-            at: token.start,
-            factor,
-        })?;
-        rest = behind;
+    while let Some(at) = cursor.times_sign() {
+        let factor = index_factor(cursor)?;
+        times.push(TimesIndexFactor { at, factor })?;
     }
-    Ok((times, rest))
+    Ok(())
 }
 
 #[cycle(index)]
 #[tactic(auto, using(crate::proofs::IndexRows::of_indices))]
-fn index_factor<'t>(
-    alloc: Global,
-    source: &Source,
-    tokens: &'t [Token],
-    levels: usize,
-) -> Result<(IndexFactor, &'t [Token]), ParseRefused>
-    requires { levels ≤ 64 }
+fn index_factor(cursor: &mut Cursor) -> Result<IndexFactor, ParseRefused>
     ensures spelled { IfOk result
-        (λ found. IsSpelled source.now tokens.now (index_factor_spelling found.0) found.1.now) }
-    ensures exact { (due : List Part) → levels_of due ≡ levels →
-        Agrees (λ found. refusal (length source.now.text) due found.1.now) result
-        (refusal (length source.now.text) (AnIndexFactor ∷ due) tokens.now) }
+        (λ found. Takes [] cursor.old (index_factor_spelling found) cursor.new) }
+    ensures exact { Reads (AnIndexFactor ∷ []) cursor.old result cursor.new }
 {
-    let Some((token, rest)) = tokens.split_first() else {
-        return Err(ParseRefused::Syntax { at: source.len() });
-    };
+    let token = cursor.next()?;
     let at = token.start;
     match token.symbol {
-        Symbol::Number(value) => Ok((IndexFactor::Number { at, value }, rest)),
-        Symbol::Name => Ok((IndexFactor::Name(source.name(token)), rest)),
+        Symbol::Number(value) => Ok(IndexFactor::Number { at, value }),
+        Symbol::Name => Ok(IndexFactor::Name(cursor.name(token))),
         Symbol::OpenRound => {
-            let levels = level_behind(token, levels)?;
-            let (inner, rest) = index_expression(alloc, source, rest, levels)?;
-            let rest = behind(source, rest, Symbol::CloseRound)?;
-            let inner = Box::new(alloc, inner)?;
-            Ok((IndexFactor::Parenthesized { at, inner }, rest))
+            cursor.open(at)?;
+            let inner = index_expression(cursor)?;
+            cursor.close(Symbol::CloseRound)?;
+            let inner = Box::new(cursor.alloc(), inner)?;
+            Ok(IndexFactor::Parenthesized { at, inner })
         }
         _ => Err(ParseRefused::Syntax { at }),
     }

@@ -1,130 +1,95 @@
 //! Inputs, which stand before all statements.
 
-ghost use Rattle.std.specs.Prelude.{◌≡◌, ℕ, ◌≤◌, List, [], ◌∷◌, ◌++◌, length, IfOk, IfSome, IfNone, Some, flat_map};
-ghost use Rattle.arr_lex.specs.declared.token.Symbol.TheVariants.{Input as InputWord, OpenSquare, CloseSquare, Semicolon};
-ghost use Rattle.arr_parse.specs.ProgramSpelling.{dimension_spelling, dimensions_spelling, input_spelling};
-ghost use Rattle.arr_parse.specs.Grammar.{Part, The, AName, ANumber, FirstDimension, Inputs, TopStatements};
-ghost use Rattle.arr_parse.specs.Reading.{levels as levels_of, unless_refused, refusal};
-ghost use Rattle.arr_parse.specs.Parsed.{IsSpelled, IsSpelledUpTo, Agrees};
+ghost use Rattle.std.specs.Prelude.{◌≡◌, [], ◌∷◌, length, IfOk, flat_map};
+ghost use Rattle.arr_lex.specs.declared.token.Symbol.TheVariants.{Input as InputWord, Number, Semicolon};
+ghost use Rattle.arr_parse.specs.Mark.{Placed};
+ghost use Rattle.arr_parse.specs.ProgramSpelling.{dimensions_spelling, input_spelling};
+ghost use Rattle.arr_parse.specs.Grammar.{The, AName, ANumber, FirstDimension, SecondDimension, Inputs, TopStatements};
+ghost use Rattle.arr_parse.specs.Reading.{refusal};
+ghost use Rattle.arr_parse.specs.Parsed.{Agrees};
+ghost use Rattle.arr_parse.specs.Steps.{Takes, Leads, Reads, behind, maybe_dimension_spelling};
 
-use crate::name::declared_name;
+use crate::cursor::Cursor;
 use crate::refused::ParseRefused;
-use crate::signs::{behind, open_square};
-use crate::source::Source;
 use arr_ast::{Dimension, Dimensions, Input};
-use arr_lex::{Symbol, Token};
-use std::alloc::Global;
+use arr_lex::Symbol;
 
-/// The inputs that the tokens begin with, and the tokens behind them.
-pub fn inputs<'t>(
-    alloc: Global,
-    source: &Source,
-    tokens: &'t [Token],
-) -> Result<(Vec<Input>, &'t [Token]), ParseRefused>
+/// The inputs that the tokens begin with.
+pub fn inputs(cursor: &mut Cursor) -> Result<Vec<Input>, ParseRefused>
+    requires { cursor.old.levels ≡ 0 }
     ensures spelled { IfOk result
-        (λ found. IsSpelledUpTo source.now tokens.now (flat_map input_spelling found.0.items)
-        found.1.now) }
+        (λ found. Takes [] cursor.old (flat_map input_spelling found.items) cursor.new) }
     ensures exact { Agrees
-        (λ found. refusal (length source.now.text) (TopStatements ∷ []) found.1.now) result
-        (refusal (length source.now.text) (Inputs ∷ []) tokens.now) }
+        (λ _. refusal (length cursor.old.source.text) (TopStatements ∷ []) cursor.new.tokens) result
+        (refusal (length cursor.old.source.text) (Inputs ∷ []) cursor.old.tokens) }
 {
-    let mut inputs = Vec::new(alloc);
-    let mut rest = tokens;
-    'each: while let Some((word, behind)) = input_word(rest) {
-        let (input, behind) = input(alloc, source, word, behind)?;
+    let mut inputs = Vec::new(cursor.alloc());
+    'each: while let Some(word) = cursor.input_word() {
+        let input = input(cursor, word.start)?;
         inputs.push(input)?;
-        rest = behind;
     }
-    Ok((inputs, rest))
-}
-
-// The word of an input, where the tokens begin with it.
-fn input_word(tokens: &[Token]) -> Option<(&Token, &[Token])>
-    ensures found { IfSome result (λ found. (tokens.now ≡ found.0.now ∷ found.1.now)
-        × (found.0.now.symbol ≡ InputWord)) }
-    ensures none { IfNone result ((end : ℕ)
-        → refusal end (Inputs ∷ []) tokens.now ≡ refusal end (TopStatements ∷ []) tokens.now) }
-{
-    let (token, rest) = tokens.split_first()?;
-    match token.symbol {
-        Symbol::Input => Some((token, rest)),
-        _ => None,
-    }
+    Ok(inputs)
 }
 
 // An input, behind its word.
-fn input<'t>(
-    alloc: Global,
-    source: &Source,
-    word: &Token,
-    tokens: &'t [Token],
-) -> Result<(Input, &'t [Token]), ParseRefused>
-    requires { word.now.symbol ≡ InputWord }
-    ensures spelled { IfOk result
-        (λ found. IsSpelled source.now (word.now ∷ tokens.now) (input_spelling found.0)
-        found.1.now) }
-    ensures exact { (due : List Part) → levels_of due ≡ 0 →
-        Agrees (λ found. refusal (length source.now.text) due found.1.now) result
-        (refusal (length source.now.text) (AName ∷ FirstDimension ∷ The Semicolon ∷ due)
-        tokens.now) }
+fn input(cursor: &mut Cursor, at: usize) -> Result<Input, ParseRefused>
+    ensures spelled { IfOk result (λ found. Takes (Placed at InputWord ∷ []) cursor.old
+        (input_spelling found) cursor.new) }
+    ensures exact { Reads (AName ∷ FirstDimension ∷ The Semicolon ∷ [])
+        cursor.old result cursor.new }
 {
-    let (name, rest) = declared_name(source, tokens)?;
-    let (dimensions, rest) = dimensions(source, rest)?;
-    let rest = behind(source, rest, Symbol::Semicolon)?;
-    let input = Input {
-        at: word.start,
+    let name = cursor.declared_name()?;
+    let dimensions = dimensions(cursor)?;
+    cursor.take(Symbol::Semicolon)?;
+    Ok(Input {
+        at,
         name,
         dimensions,
-    };
-    Ok((input, rest))
+    })
 }
 
 // At most two dimensions.
-fn dimensions<'t>(
-    source: &Source,
-    tokens: &'t [Token],
-) -> Result<(Dimensions, &'t [Token]), ParseRefused>
+fn dimensions(cursor: &mut Cursor) -> Result<Dimensions, ParseRefused>
     ensures spelled { IfOk result
-        (λ found. IsSpelledUpTo source.now tokens.now (dimensions_spelling found.0) found.1.now) }
-    ensures exact { (due : List Part) → levels_of due ≡ 0 →
-        Agrees (λ found. refusal (length source.now.text) due found.1.now) result
-        (refusal (length source.now.text) (FirstDimension ∷ due) tokens.now) }
+        (λ found. Takes [] cursor.old (dimensions_spelling found) cursor.new) }
+    ensures exact { Reads (FirstDimension ∷ []) cursor.old result cursor.new }
 {
-    let Some((opening, rest)) = open_square(tokens) else {
-        return Ok((Dimensions::Scalar, tokens));
+    let Some(first) = maybe_dimension(cursor)? else {
+        return Ok(Dimensions::Scalar);
     };
-    let (first, behind_first) = closed_dimension(source, opening, rest)?;
-    let Some((opening, rest)) = open_square(behind_first) else {
-        return Ok((Dimensions::Vector(first), behind_first));
+    let Some(second) = maybe_dimension(cursor)? else {
+        return Ok(Dimensions::Vector(first));
     };
-    let (second, behind_second) = closed_dimension(source, opening, rest)?;
-    Ok((Dimensions::Matrix(first, second), behind_second))
+    Ok(Dimensions::Matrix(first, second))
 }
 
-// A dimension behind its `[`, up to its `]`.
-fn closed_dimension<'t>(
-    source: &Source,
-    opening: &Token,
-    tokens: &'t [Token],
-) -> Result<(Dimension, &'t [Token]), ParseRefused>
-    requires { opening.now.symbol ≡ OpenSquare }
+// A dimension in its brackets, if the tokens begin with one. Behind a first dimension there may be a second.
+fn maybe_dimension(cursor: &mut Cursor) -> Result<Option<Dimension>, ParseRefused>
     ensures spelled { IfOk result
-        (λ found. IsSpelled source.now (opening.now ∷ tokens.now) (dimension_spelling found.0)
-        found.1.now) }
-    ensures exact { (due : List Part) → levels_of due ≡ 0 →
-        Agrees (λ found. refusal (length source.now.text) due found.1.now) result
-        (unless_refused opening.now.start (Some (ANumber ∷ The CloseSquare ∷ due))
-        (λ next. refusal (length source.now.text) next tokens.now)) }
+        (λ found. Takes [] cursor.old (maybe_dimension_spelling found) cursor.new) }
+    ensures first { Leads (FirstDimension ∷ []) (behind SecondDimension)
+        cursor.old result cursor.new }
+    ensures second { Reads (SecondDimension ∷ []) cursor.old result cursor.new }
 {
-    let Some((token, rest)) = tokens.split_first() else {
-        return Err(ParseRefused::Syntax { at: source.len() });
+    let Some(opening) = cursor.open_square() else {
+        return Ok(None);
     };
+    cursor.open(opening.start)?;
+    let dimension = dimension(cursor)?;
+    cursor.close(Symbol::CloseSquare)?;
+    Ok(Some(dimension))
+}
+
+// The number that is due.
+fn dimension(cursor: &mut Cursor) -> Result<Dimension, ParseRefused>
+    ensures spelled { IfOk result (λ found. Takes [] cursor.old
+        (Placed found.at (Number found.size) ∷ []) cursor.new) }
+    ensures exact { Reads (ANumber ∷ []) cursor.old result cursor.new }
+{
+    let token = cursor.next()?;
+    let at = token.start;
     match token.symbol {
-        Symbol::Number(size) => {
-            let rest = behind(source, rest, Symbol::CloseSquare)?;
-            let at = token.start;
-            Ok((Dimension { at, size }, rest))
-        }
-        _ => Err(ParseRefused::Syntax { at: token.start }),
+        Symbol::Number(size) => Ok(Dimension { at, size }),
+        _ => Err(ParseRefused::Syntax { at }),
     }
 }

@@ -12,16 +12,14 @@
 #![tactic(auto)]
 
 mod boxed;
+mod cursor;
 mod expression;
 mod index;
 mod indices;
 mod input;
 pub mod laws;
-mod levels;
-mod name;
 mod program;
 mod refused;
-mod signs;
 mod source;
 mod statement;
 

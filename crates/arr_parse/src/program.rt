@@ -1,20 +1,21 @@
 //! Whole programs.
 
-ghost use Rattle.std.specs.Prelude.{◌≡◌, ℕ, ◌≤◌, List, [], ◌∷◌, ◌++◌, length, map, IfOk, IfNone, IfSome, None, flat_map};
-ghost use Rattle.arr_lex.specs.declared.token.Symbol.TheVariants.{Output as OutputWord};
+ghost use Rattle.std.specs.Prelude.{◌≡◌, ◌<◌, ℕ, [], ◌∷◌, length, map, IfOk, OnOk, None, flat_map};
 ghost use Rattle.arr_ast.specs.ProgramTree.{program_tree};
 ghost use Rattle.arr_parse.specs.Mark.{mark};
 ghost use Rattle.arr_parse.specs.ProgramSpelling.{top_statement_spelling};
-ghost use Rattle.arr_parse.specs.Grammar.{Part, Inputs, TopStatements, ATopStatement, AStatement};
-ghost use Rattle.arr_parse.specs.Reading.{levels as levels_of, refusal};
-ghost use Rattle.arr_parse.specs.Parsed.{IsSpelled, Agrees, IsTreeOf};
+ghost use Rattle.arr_parse.specs.Grammar.{Inputs, TopStatements, ATopStatement};
+ghost use Rattle.arr_parse.specs.Reading.{refusal};
+ghost use Rattle.arr_parse.specs.Parsed.{Agrees, IsTreeOf};
+ghost use Rattle.arr_parse.specs.Steps.{Takes, Reads};
 
+use crate::cursor::Cursor;
 use crate::input::inputs;
 use crate::refused::ParseRefused;
 use crate::source::Source;
 use crate::statement::{ended_value, statement};
 use arr_ast::{Program, TopStatement};
-use arr_lex::{Symbol, Token};
+use arr_lex::Token;
 use std::alloc::Global;
 
 /// The tree of a text, of which these are the tokens.
@@ -25,8 +26,9 @@ pub fn parse(alloc: Global, text: &[u8], tokens: &[Token]) -> Result<Program, Pa
     ensures exact { Agrees (λ _. None) result (refusal (length text.now) (Inputs ∷ []) tokens.now) }
 {
     let source = Source::new(alloc, text, tokens)?;
-    let (inputs, rest) = inputs(alloc, &source, tokens)?;
-    let statements = top_statements(alloc, &source, rest)?;
+    let mut cursor = Cursor::new(alloc, &source, tokens);
+    let inputs = inputs(&mut cursor)?;
+    let statements = top_statements(&mut cursor)?;
     Ok(Program {
         inputs,
         statements,
@@ -35,58 +37,33 @@ pub fn parse(alloc: Global, text: &[u8], tokens: &[Token]) -> Result<Program, Pa
 }
 
 // The statements of the top level, up to the text's end.
-#[tactic(auto, using(crate::proofs::Due::of_programs))]
-fn top_statements(
-    alloc: Global,
-    source: &Source,
-    tokens: &[Token],
-) -> Result<Vec<TopStatement>, ParseRefused>
-    ensures spelled { IfOk result
-        (λ found. map (mark source.now) tokens.now ≡ flat_map top_statement_spelling found.items) }
+fn top_statements(cursor: &mut Cursor) -> Result<Vec<TopStatement>, ParseRefused>
+    requires { cursor.old.levels ≡ 0 }
+    ensures spelled { IfOk result (λ found. map (mark cursor.old.source) cursor.old.tokens
+        ≡ flat_map top_statement_spelling found.items) }
     ensures exact { Agrees (λ _. None) result
-        (refusal (length source.now.text) (TopStatements ∷ []) tokens.now) }
+        (refusal (length cursor.old.source.text) (TopStatements ∷ []) cursor.old.tokens) }
 {
-    let mut statements = Vec::new(alloc);
-    let mut rest = tokens;
-    'each: while !rest.is_empty() {
-        let (next, behind) = top_statement(alloc, source, rest)?;
+    let mut statements = Vec::new(cursor.alloc());
+    'each: while !cursor.is_empty() {
+        let next = top_statement(cursor)?;
         statements.push(next)?;
-        rest = behind;
     }
     Ok(statements)
 }
 
 // A statement of the top level, which is due.
-fn top_statement<'t>(
-    alloc: Global,
-    source: &Source,
-    tokens: &'t [Token],
-) -> Result<(TopStatement, &'t [Token]), ParseRefused>
+fn top_statement(cursor: &mut Cursor) -> Result<TopStatement, ParseRefused>
     ensures spelled { IfOk result
-        (λ found. IsSpelled source.now tokens.now (top_statement_spelling found.0) found.1.now) }
-    ensures exact { (due : List Part) → levels_of due ≡ 0 →
-        Agrees (λ found. refusal (length source.now.text) due found.1.now) result
-        (refusal (length source.now.text) (ATopStatement ∷ due) tokens.now) }
+        (λ found. Takes [] cursor.old (top_statement_spelling found) cursor.new) }
+    ensures shorter { OnOk result (length cursor.new.tokens < length cursor.old.tokens) }
+    ensures exact { Reads (ATopStatement ∷ []) cursor.old result cursor.new }
 {
-    if let Some((word, rest)) = output_word(tokens) {
-        let (value, rest) = ended_value(alloc, source, rest, 0)?;
+    if let Some(word) = cursor.output_word() {
+        let value = ended_value(cursor)?;
         let at = word.start;
-        return Ok((TopStatement::Output { at, value }, rest));
+        return Ok(TopStatement::Output { at, value });
     }
-    let (inner, rest) = statement(alloc, source, tokens, 0)?;
-    Ok((TopStatement::Inner(inner), rest))
-}
-
-// The word of an output, where the tokens begin with it.
-fn output_word(tokens: &[Token]) -> Option<(&Token, &[Token])>
-    ensures found { IfSome result (λ found. (tokens.now ≡ found.0.now ∷ found.1.now)
-        × (found.0.now.symbol ≡ OutputWord)) }
-    ensures none { IfNone result ((end : ℕ) (due : List Part) →
-        refusal end (ATopStatement ∷ due) tokens.now ≡ refusal end (AStatement ∷ due) tokens.now) }
-{
-    let (token, rest) = tokens.split_first()?;
-    match token.symbol {
-        Symbol::Output => Some((token, rest)),
-        _ => None,
-    }
+    let inner = statement(cursor)?;
+    Ok(TopStatement::Inner(inner))
 }

@@ -1,224 +1,141 @@
 //! Statements, and the blocks of loops.
 
-ghost use Rattle.std.specs.Prelude.{◌≡◌, ℕ, ◌≤◌, List, [], ◌∷◌, ◌++◌, length, IfOk, flat_map};
-ghost use Rattle.arr_lex.specs.declared.token.Symbol.TheVariants.{In, Range, Equals, Semicolon, OpenCurly, CloseCurly, For as ForWord, Let as LetWord, Name as NameWord};
-ghost use Rattle.arr_parse.specs.Mark.{Separator};
-ghost use Rattle.arr_parse.specs.IndexSpelling.{name_spelling, maybe_indices_spelling};
+ghost use Rattle.std.specs.Prelude.{◌<◌, [], ◌∷◌, ◌++◌, length, IfOk, OnOk, flat_map};
+ghost use Rattle.arr_lex.specs.declared.token.Symbol.TheVariants.{In, Range, Equals, Semicolon, OpenCurly, CloseCurly, For as ForWord, Let as LetWord};
+ghost use Rattle.arr_parse.specs.Mark.{Separator, Placed};
+ghost use Rattle.arr_parse.specs.IndexSpelling.{name_spelling};
 ghost use Rattle.arr_parse.specs.Spelling.{expression_spelling};
 ghost use Rattle.arr_parse.specs.ProgramSpelling.{statement_spelling};
-ghost use Rattle.arr_parse.specs.Grammar.{Part, The, AName, AnExpression, AnIndex, FirstIndex, AStatement, Statements, Block};
-ghost use Rattle.arr_parse.specs.Reading.{levels as levels_of, refusal};
-ghost use Rattle.arr_parse.specs.Parsed.{IsSpelled, IsSpelledUpTo, Agrees};
+ghost use Rattle.arr_parse.specs.Grammar.{The, AName, AnExpression, AnIndex, FirstIndex, AStatement, Statements, Block};
+ghost use Rattle.arr_parse.specs.Steps.{Takes, Reads};
 
 use crate::boxed::{add_statement, assigned, declared, loop_of};
+use crate::cursor::Cursor;
 use crate::expression::expression;
 use crate::index::index_expression;
 use crate::indices::maybe_indices;
-use crate::levels::level_behind;
-use crate::name::declared_name;
 use crate::refused::ParseRefused;
-use crate::signs::{begins_statement, behind};
-use crate::source::Source;
-use arr_ast::{Expression, Statement};
-use arr_lex::{Symbol, Token};
-use std::alloc::Global;
+use arr_ast::{Expression, Name, Statement};
+use arr_lex::Symbol;
 
-/// The statement that the tokens begin with, and the tokens behind it.
-pub fn statement<'t>(
-    alloc: Global,
-    source: &Source,
-    tokens: &'t [Token],
-    levels: usize,
-) -> Result<(Statement, &'t [Token]), ParseRefused>
-    requires { levels ≤ 64 }
+/// The statement that is due.
+pub fn statement(cursor: &mut Cursor) -> Result<Statement, ParseRefused>
     ensures spelled { IfOk result
-        (λ found. IsSpelled source.now tokens.now (statement_spelling found.0) found.1.now) }
-    ensures exact { (due : List Part) → levels_of due ≡ levels →
-        Agrees (λ found. refusal (length source.now.text) due found.1.now) result
-        (refusal (length source.now.text) (AStatement ∷ due) tokens.now) }
+        (λ found. Takes [] cursor.old (statement_spelling found) cursor.new) }
+    ensures shorter { OnOk result (length cursor.new.tokens < length cursor.old.tokens) }
+    ensures exact { Reads (AStatement ∷ []) cursor.old result cursor.new }
 {
-    let (found, rest) = boxed_statement(alloc, source, tokens, levels)?;
-    Ok((Box::into_inner(found), rest))
+    let found = boxed_statement(cursor)?;
+    Ok(Box::into_inner(found))
 }
 
 // The same on the heap, as all that is nested in it is made.
 #[cycle(statement)]
 #[inline(never)]
 #[tactic(auto, using(crate::proofs::StatementRows::of_statements))]
-fn boxed_statement<'t>(
-    alloc: Global,
-    source: &Source,
-    tokens: &'t [Token],
-    levels: usize,
-) -> Result<(Box<Statement>, &'t [Token]), ParseRefused>
-    requires { levels ≤ 64 }
+fn boxed_statement(cursor: &mut Cursor) -> Result<Box<Statement>, ParseRefused>
     ensures spelled { IfOk result
-        (λ found. IsSpelled source.now tokens.now (statement_spelling found.0.value) found.1.now) }
-    ensures exact { (due : List Part) → levels_of due ≡ levels →
-        Agrees (λ found. refusal (length source.now.text) due found.1.now) result
-        (refusal (length source.now.text) (AStatement ∷ due) tokens.now) }
+        (λ found. Takes [] cursor.old (statement_spelling found.value) cursor.new) }
+    ensures shorter { OnOk result (length cursor.new.tokens < length cursor.old.tokens) }
+    ensures exact { Reads (AStatement ∷ []) cursor.old result cursor.new }
 {
-    let Some((token, rest)) = tokens.split_first() else {
-        return Err(ParseRefused::Syntax { at: source.len() });
-    };
+    let token = cursor.next()?;
     let at = token.start;
     match token.symbol {
-        Symbol::Let => declaration(alloc, source, token, rest, levels),
-        Symbol::Name => assignment(alloc, source, token, rest, levels),
-        Symbol::For => counted_loop(alloc, source, token, rest, levels),
+        Symbol::Let => declaration(cursor, at),
+        Symbol::Name => {
+            let name = cursor.name(token);
+            assignment(cursor, name)
+        }
+        Symbol::For => counted_loop(cursor, at),
         _ => Err(ParseRefused::Syntax { at }),
     }
 }
 
 // A declaration, behind its word.
 #[inline(never)]
-fn declaration<'t>(
-    alloc: Global,
-    source: &Source,
-    word: &Token,
-    tokens: &'t [Token],
-    levels: usize,
-) -> Result<(Box<Statement>, &'t [Token]), ParseRefused>
-    requires word { word.now.symbol ≡ LetWord }
-    requires within { levels ≤ 64 }
-    ensures spelled { IfOk result
-        (λ found. IsSpelled source.now (word.now ∷ tokens.now) (statement_spelling found.0.value)
-        found.1.now) }
-    ensures exact { (due : List Part) → levels_of due ≡ levels →
-        Agrees (λ found. refusal (length source.now.text) due found.1.now) result
-        (refusal (length source.now.text)
-        (AName ∷ The Equals ∷ AnExpression ∷ The Semicolon ∷ due) tokens.now) }
+fn declaration(cursor: &mut Cursor, at: usize) -> Result<Box<Statement>, ParseRefused>
+    ensures spelled { IfOk result (λ found. Takes (Placed at LetWord ∷ []) cursor.old
+        (statement_spelling found.value) cursor.new) }
+    ensures exact { Reads (AName ∷ The Equals ∷ AnExpression ∷ The Semicolon ∷ [])
+        cursor.old result cursor.new }
 {
-    let at = word.start;
-    let (name, rest) = declared_name(source, tokens)?;
-    let (value, rest) = assigned_value(alloc, source, rest, levels)?;
-    Ok((declared(alloc, at, name, value)?, rest))
+    let name = cursor.declared_name()?;
+    let value = assigned_value(cursor)?;
+    Ok(declared(cursor.alloc(), at, name, value)?)
 }
 
 // An assignment, behind its name.
 #[inline(never)]
-fn assignment<'t>(
-    alloc: Global,
-    source: &Source,
-    token: &Token,
-    tokens: &'t [Token],
-    levels: usize,
-) -> Result<(Box<Statement>, &'t [Token]), ParseRefused>
-    requires name { token.now.symbol ≡ NameWord }
-    requires within { levels ≤ 64 }
-    ensures spelled { IfOk result
-        (λ found. IsSpelled source.now (token.now ∷ tokens.now) (statement_spelling found.0.value)
-        found.1.now) }
-    ensures exact { (due : List Part) → levels_of due ≡ levels →
-        Agrees (λ found. refusal (length source.now.text) due found.1.now) result
-        (refusal (length source.now.text)
-        (FirstIndex ∷ The Equals ∷ AnExpression ∷ The Semicolon ∷ due) tokens.now) }
+fn assignment(cursor: &mut Cursor, name: Name) -> Result<Box<Statement>, ParseRefused>
+    ensures spelled { IfOk result (λ found. Takes (name_spelling name) cursor.old
+        (statement_spelling found.value) cursor.new) }
+    ensures exact { Reads (FirstIndex ∷ The Equals ∷ AnExpression ∷ The Semicolon ∷ [])
+        cursor.old result cursor.new }
 {
-    let name = source.name(token);
-    let (indices, rest) = maybe_indices(alloc, source, tokens, levels)?;
-    let (value, rest) = assigned_value(alloc, source, rest, levels)?;
-    Ok((assigned(alloc, name, indices, value)?, rest))
+    let indices = maybe_indices(cursor)?;
+    let value = assigned_value(cursor)?;
+    Ok(assigned(cursor.alloc(), name, indices, value)?)
 }
 
 // `= e ;`
-fn assigned_value<'t>(
-    alloc: Global,
-    source: &Source,
-    tokens: &'t [Token],
-    levels: usize,
-) -> Result<(Expression, &'t [Token]), ParseRefused>
-    requires { levels ≤ 64 }
-    ensures spelled { IfOk result (λ found. IsSpelled source.now tokens.now
-        (Separator Equals ∷ (expression_spelling found.0 ++ Separator Semicolon ∷ []))
-        found.1.now) }
-    ensures exact { (due : List Part) → levels_of due ≡ levels →
-        Agrees (λ found. refusal (length source.now.text) due found.1.now) result
-        (refusal (length source.now.text) (The Equals ∷ AnExpression ∷ The Semicolon ∷ due)
-        tokens.now) }
+fn assigned_value(cursor: &mut Cursor) -> Result<Expression, ParseRefused>
+    ensures spelled { IfOk result (λ found. Takes [] cursor.old
+        (Separator Equals ∷ (expression_spelling found ++ Separator Semicolon ∷ [])) cursor.new) }
+    ensures exact { Reads (The Equals ∷ AnExpression ∷ The Semicolon ∷ [])
+        cursor.old result cursor.new }
 {
-    let rest = behind(source, tokens, Symbol::Equals)?;
-    ended_value(alloc, source, rest, levels)
+    cursor.take(Symbol::Equals)?;
+    ended_value(cursor)
 }
 
 /// `e ;`
 #[tactic(auto, using(crate::proofs::Rows::of_expressions))]
-pub fn ended_value<'t>(
-    alloc: Global,
-    source: &Source,
-    tokens: &'t [Token],
-    levels: usize,
-) -> Result<(Expression, &'t [Token]), ParseRefused>
-    requires { levels ≤ 64 }
-    ensures spelled { IfOk result (λ found. IsSpelled source.now tokens.now
-        (expression_spelling found.0 ++ Separator Semicolon ∷ []) found.1.now) }
-    ensures exact { (due : List Part) → levels_of due ≡ levels →
-        Agrees (λ found. refusal (length source.now.text) due found.1.now) result
-        (refusal (length source.now.text) (AnExpression ∷ The Semicolon ∷ due) tokens.now) }
+pub fn ended_value(cursor: &mut Cursor) -> Result<Expression, ParseRefused>
+    ensures spelled { IfOk result (λ found. Takes [] cursor.old
+        (expression_spelling found ++ Separator Semicolon ∷ []) cursor.new) }
+    ensures exact { Reads (AnExpression ∷ The Semicolon ∷ []) cursor.old result cursor.new }
 {
-    let (value, rest) = expression(alloc, source, tokens, levels)?;
-    let rest = behind(source, rest, Symbol::Semicolon)?;
-    Ok((value, rest))
+    let value = expression(cursor)?;
+    cursor.take(Symbol::Semicolon)?;
+    Ok(value)
 }
 
 // A loop, behind its word.
 #[cycle(statement)]
 #[inline(never)]
 #[tactic(auto, using(crate::proofs::StatementRows::of_statements))]
-fn counted_loop<'t>(
-    alloc: Global,
-    source: &Source,
-    word: &Token,
-    tokens: &'t [Token],
-    levels: usize,
-) -> Result<(Box<Statement>, &'t [Token]), ParseRefused>
-    requires word { word.now.symbol ≡ ForWord }
-    requires within { levels ≤ 64 }
-    ensures spelled { IfOk result
-        (λ found. IsSpelled source.now (word.now ∷ tokens.now) (statement_spelling found.0.value)
-        found.1.now) }
-    ensures exact { (due : List Part) → levels_of due ≡ levels →
-        Agrees (λ found. refusal (length source.now.text) due found.1.now) result
-        (refusal (length source.now.text)
-        (AName ∷ The In ∷ AnIndex ∷ The Range ∷ AnIndex ∷ Block ∷ due)
-        tokens.now) }
+fn counted_loop(cursor: &mut Cursor, at: usize) -> Result<Box<Statement>, ParseRefused>
+    ensures spelled { IfOk result (λ found. Takes (Placed at ForWord ∷ []) cursor.old
+        (statement_spelling found.value) cursor.new) }
+    ensures exact { Reads (AName ∷ The In ∷ AnIndex ∷ The Range ∷ AnIndex ∷ Block ∷ [])
+        cursor.old result cursor.new }
 {
-    let at = word.start;
-    let (name, rest) = declared_name(source, tokens)?;
-    let rest = behind(source, rest, Symbol::In)?;
-    let (low, rest) = index_expression(alloc, source, rest, levels)?;
-    let rest = behind(source, rest, Symbol::Range)?;
-    let (high, rest) = index_expression(alloc, source, rest, levels)?;
-    let (body, rest) = block(alloc, source, rest, levels)?;
-    Ok((loop_of(alloc, at, name, low, high, body)?, rest))
+    let name = cursor.declared_name()?;
+    cursor.take(Symbol::In)?;
+    let low = index_expression(cursor)?;
+    cursor.take(Symbol::Range)?;
+    let high = index_expression(cursor)?;
+    let body = block(cursor)?;
+    Ok(loop_of(cursor.alloc(), at, name, low, high, body)?)
 }
 
 // The statements of a block, with its brackets.
 #[cycle(statement)]
 #[inline(never)]
 #[tactic(auto, using(crate::proofs::StatementRows::of_statements))]
-fn block<'t>(
-    alloc: Global,
-    source: &Source,
-    tokens: &'t [Token],
-    levels: usize,
-) -> Result<(Vec<Statement>, &'t [Token]), ParseRefused>
-    requires { levels ≤ 64 }
-    ensures spelled { IfOk result (λ found. IsSpelled source.now tokens.now
-        (Separator OpenCurly ∷ (flat_map statement_spelling found.0.items ++ Separator CloseCurly
-        ∷ [])) found.1.now) }
-    ensures exact { (due : List Part) → levels_of due ≡ levels →
-        Agrees (λ found. refusal (length source.now.text) due found.1.now) result
-        (refusal (length source.now.text) (Block ∷ due) tokens.now) }
+fn block(cursor: &mut Cursor) -> Result<Vec<Statement>, ParseRefused>
+    ensures spelled { IfOk result (λ found. Takes [] cursor.old (Separator OpenCurly
+        ∷ (flat_map statement_spelling found.items ++ Separator CloseCurly ∷ [])) cursor.new) }
+    ensures exact { Reads (Block ∷ []) cursor.old result cursor.new }
 {
-    let Some((token, rest)) = tokens.split_first() else {
-        return Err(ParseRefused::Syntax { at: source.len() });
-    };
+    let token = cursor.next()?;
     match token.symbol {
         Symbol::OpenCurly => {
-            let levels = level_behind(token, levels)?;
-            let (body, rest) = statements(alloc, source, rest, levels)?;
-            let rest = behind(source, rest, Symbol::CloseCurly)?;
-            Ok((body, rest))
+            cursor.open(token.start)?;
+            let body = statements(cursor)?;
+            cursor.close(Symbol::CloseCurly)?;
+            Ok(body)
         }
         _ => Err(ParseRefused::Syntax { at: token.start }),
     }
@@ -228,26 +145,15 @@ fn block<'t>(
 #[cycle(statement)]
 #[inline(never)]
 #[tactic(auto, using(crate::proofs::StatementRows::of_statements))]
-fn statements<'t>(
-    alloc: Global,
-    source: &Source,
-    tokens: &'t [Token],
-    levels: usize,
-) -> Result<(Vec<Statement>, &'t [Token]), ParseRefused>
-    requires { levels ≤ 64 }
-    ensures spelled { IfOk result
-        (λ found. IsSpelledUpTo source.now tokens.now (flat_map statement_spelling found.0.items)
-        found.1.now) }
-    ensures exact { (due : List Part) → levels_of due ≡ levels →
-        Agrees (λ found. refusal (length source.now.text) due found.1.now) result
-        (refusal (length source.now.text) (Statements ∷ due) tokens.now) }
+fn statements(cursor: &mut Cursor) -> Result<Vec<Statement>, ParseRefused>
+    ensures spelled { IfOk result (λ found. Takes [] cursor.old
+        (flat_map statement_spelling found.items) cursor.new) }
+    ensures exact { Reads (Statements ∷ []) cursor.old result cursor.new }
 {
-    let mut statements = Vec::new(alloc);
-    let mut rest = tokens;
-    'each: while begins_statement(rest) {
-        let (next, behind) = boxed_statement(alloc, source, rest, levels)?;
+    let mut statements = Vec::new(cursor.alloc());
+    'each: while cursor.begins_statement() {
+        let next = boxed_statement(cursor)?;
         add_statement(&mut statements, next)?;
-        rest = behind;
     }
-    Ok((statements, rest))
+    Ok(statements)
 }

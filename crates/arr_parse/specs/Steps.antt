@@ -1,0 +1,57 @@
+-- What a step of the parser does to what is left to read.
+use Rattle.std.specs.Prelude.{◌≡◌, ℕ, ◌≤◌, List, [], ◌∷◌, ◌++◌, Option, Some, None, Result, length, map}
+use Rattle.arr_ast.specs.declared.program.Dimension.{Dimension}
+use Rattle.arr_lex.specs.declared.token.Token.{Token}
+use Rattle.arr_parse.specs.Mark.{Mark, Source, mark}
+use Rattle.arr_parse.specs.Grammar.{Part}
+use Rattle.arr_parse.specs.ProgramSpelling.{dimension_spelling}
+use Rattle.arr_parse.specs.Reading.{levels, refusal}
+use Rattle.arr_parse.specs.Parsed.{Agrees}
+use Rattle.arr_parse.specs.declared.refused.ParseRefused.{ParseRefused}
+
+-- the tokens of a source that are left, with so many levels open
+pub record Rest : Type 0 where
+  pub source : Source
+  pub tokens : List Token
+  pub levels : ℕ
+
+-- Behind what was read before, the first tokens complete this spelling, and the rest follows.
+pub record Takes (before : List Mark) (old : Rest) (spelling : List Mark) (new : Rest) : Type 0
+  where
+    pub spelled : before ++ map (mark old.source) old.tokens
+        ≡ spelling ++ map (mark old.source) new.tokens
+    pub shorter : length new.tokens ≤ length old.tokens
+    pub source : new.source ≡ old.source
+    pub levels : new.levels ≡ old.levels
+
+-- Where the first parts are due, reading goes on with the next ones, whatever is due behind them.
+abbrev pub Leads : {X : Type 0} → List Part → (X → List Part) → Rest → Result X ParseRefused
+    → Rest → Type 0
+Leads first next old result new = (due : List Part) → levels due ≡ old.levels
+    → Agrees (λ found. refusal (length old.source.text) (next found ++ due) new.tokens) result
+    (refusal (length old.source.text) (first ++ due) old.tokens)
+
+-- these parts are read
+abbrev pub Reads : {X : Type 0} → List Part → Rest → Result X ParseRefused → Rest → Type 0
+Reads parts old result new = Leads parts (λ found. []) old result new
+
+-- the part that is due behind what was found
+abbrev pub behind : {X : Type 0} → Part → Option X → List Part
+behind part None = []
+behind part (Some found) = part ∷ []
+
+-- The tokens begin no row of the part, so it is skipped, whatever is due behind it.
+abbrev pub IsSkipped : Part → List Token → Type 0
+IsSkipped part tokens = (end : ℕ) (due : List Part)
+    → refusal end (part ∷ due) tokens ≡ refusal end due tokens
+
+-- Where the tokens begin with the sign of a further operand, it is taken and the operand is due.
+abbrev pub Chains : {X : Type 0} → Part → Part → Rest → Option X → Rest → Type 0
+Chains more operand old None new = IsSkipped more old.tokens
+Chains more operand old (Some sign) new = (end : ℕ) (due : List Part) → levels due ≡ old.levels
+    → refusal end (more ∷ due) old.tokens ≡ refusal end (operand ∷ (more ∷ due)) new.tokens
+
+-- a dimension in its brackets, if there is one
+abbrev pub maybe_dimension_spelling : Option Dimension → List Mark
+maybe_dimension_spelling None = []
+maybe_dimension_spelling (Some dimension) = dimension_spelling dimension
