@@ -1,5 +1,6 @@
 -- The values of expressions whose parts are vectors.
-use Rattle.std.proofs.Common.{◌≡◌, List, [], ◌∷◌, Ok, refl, ap, ◌∙◌}
+use Rattle.std.proofs.Common.{◌≡◌, List, [], ◌∷◌, length, Ok, Err, refl, ap, ◌∙◌}
+use Rattle.std.proofs.lemmas.List.{nil_from_length}
 use Rattle.arr_ast.specs.declared.expression.Expression.{Expression, Row_of-AddedTerm, end_of-AddedTerm, more_of-AddedTerm, items-the_row-AddedTerm, items_hidden-the_row-AddedTerm-0, out-Expression, is-Expression'}
 use Rattle.arr_ast.specs.declared.expression.Term.{Term, Row_of-TimesFactor, end_of-TimesFactor, more_of-TimesFactor, items-the_row-TimesFactor, items_hidden-the_row-TimesFactor-1, out-Term, is-Term'}
 use Rattle.arr_ast.specs.declared.expression.Factor.TheBlock.{hidden-the_row-AddedTerm-0, hidden-the_row-TimesFactor-1}
@@ -51,6 +52,25 @@ module _ {A S : Type 0} (operations : Operations A S) where
       ∙ (λ i. factor_value operations (factor_tree (out-Term term).first) names counts kept >>= λ left.
       (times_value-items (hidden-the_row-TimesFactor-1 (out-Term term).times) names left
       ∙ ap (λ factors. times_values factors names left) (items_hidden-the_row-TimesFactor-1 (out-Term term).times)) i)
+
+  ok_bound : {X : Type 0} (x : Answer X) → (x >>= λ found. Ok found) ≡ x
+  ok_bound (Ok found) = refl
+  ok_bound (Err refused) = refl
+
+  -- an expression without a sign is its term, and a term without a times its factor
+  pub value_of-alone : (expression : Expression) (names : Names A) (counts : Counts) (kept : S) → length (out-Expression expression).added.items ≡ 0 →
+      value_of operations (expression_tree expression) names counts kept ≡ term_value operations (term_tree (out-Expression expression).first) names counts kept
+  value_of-alone expression names counts kept none =
+      value_of-out expression names counts kept
+      ∙ ap (λ terms. term_value operations (term_tree (out-Expression expression).first) names counts kept >>= added_values terms names) (nil_from_length _ none)
+      ∙ ok_bound _
+
+  pub term_value-alone : (term : Term) (names : Names A) (counts : Counts) (kept : S) → length (out-Term term).times.items ≡ 0 →
+      term_value operations (term_tree term) names counts kept ≡ factor_value operations (factor_tree (out-Term term).first) names counts kept
+  term_value-alone term names counts kept none =
+      term_value-out term names counts kept
+      ∙ ap (λ factors. factor_value operations (factor_tree (out-Term term).first) names counts kept >>= times_values factors names) (nil_from_length _ none)
+      ∙ ok_bound _
 
 pub ruleset of_expressions = (value_of-out, added_term_value-out, term_value-out)
 

@@ -6,7 +6,7 @@ ghost use Rattle.arr_run.specs.Agrees.{Agrees};
 ghost use Rattle.arr_run.specs.Expression.{value_of, term_value as value_of_term, factor_value as value_of_factor, constant_value as value_of_constant, bound_value, element_value as value_of_element, signed_value as value_of_sum, product_value as value_of_product, opposite_value as value_of_opposite, single_value as value_of_single, pair_value as value_of_pair};
 ghost use Rattle.arr_ast.specs.declared.shape.ShapeOf.TheVariants.{Scalar};
 ghost use Rattle.arr_run.specs.Scope.{binding_of};
-ghost use Rattle.arr_run.specs.Steps.{added_term_value, times_factor_value};
+ghost use Rattle.arr_run.specs.Steps.{added_term_value, times_factor_value, opposite_of, single_of, pair_of};
 
 use crate::bound::Bound;
 use crate::counts::{Counts, use_constant};
@@ -33,6 +33,9 @@ pub fn value<M: Machine>(
         (value_of M.operations (expression_tree expression.now) scope.now counts.old
         machine.old) }
 {
+    if expression.added.is_empty() {
+        return term_value(scope, counts, machine, &expression.first);
+    }
     let mut value = term_value(scope, counts, machine, &expression.first)?;
     'each: for added in &expression.added {
         value = added_value(scope, counts, machine, value, added)?;
@@ -68,6 +71,9 @@ fn term_value<M: Machine>(
     ensures { Agrees (λ found. (found.0, found.1, counts.new, machine.new)) result
         (value_of_term M.operations (term_tree term.now) scope.now counts.old machine.old) }
 {
+    if term.times.is_empty() {
+        return factor_value(scope, counts, machine, &term.first);
+    }
     let mut value = factor_value(scope, counts, machine, &term.first)?;
     'each: for times in &term.times {
         value = times_value(scope, counts, machine, value, times)?;
@@ -108,20 +114,14 @@ fn factor_value<M: Machine>(
         Factor::Number { at, value } => constant_value(counts, machine, *at, *value),
         Factor::Name(name) => name_value(scope, counts, machine, name),
         Factor::Element { name, indices } => element_value(scope, machine, name, indices),
-        Factor::Negation { at, operand } => {
-            let found = factor_value(scope, counts, machine, operand)?;
-            opposite_value(counts, machine, *at, found)
-        }
+        Factor::Negation { at, operand } => negated_factor(scope, counts, machine, *at, operand),
         Factor::Parenthesized { inner, .. } => value(scope, counts, machine, inner),
         Factor::Single {
             function,
             at,
             argument,
             ..
-        } => {
-            let found = value(scope, counts, machine, argument)?;
-            single_value(counts, machine, *function, *at, found)
-        }
+        } => single_call(scope, counts, machine, *function, *at, argument),
         Factor::Pair {
             function,
             at,
@@ -130,13 +130,71 @@ fn factor_value<M: Machine>(
             ..
         } => {
             let left = value(scope, counts, machine, left)?;
-            let right = value(scope, counts, machine, right)?;
-            pair_value(counts, machine, *function, *at, left, right)
+            pair_call(scope, counts, machine, *function, *at, left, right)
         }
     }
 }
 
+// The opposite of a factor.
 #[inline(never)]
+#[cycle(expression)]
+#[tactic(auto, using(crate::proofs::ExpressionRows::of_expressions))]
+fn negated_factor<M: Machine>(
+    scope: &Scope<M::Array>,
+    counts: &mut Counts,
+    machine: &mut M,
+    at: usize,
+    operand: &Factor,
+) -> Result<(ShapeOf, M::Array), CheckRefused>
+    ensures { Agrees (λ found. (found.0, found.1, counts.new, machine.new)) result
+        (opposite_of M.operations at (factor_tree operand.now) scope.now counts.old
+        machine.old) }
+{
+    let found = factor_value(scope, counts, machine, operand)?;
+    opposite_value(counts, machine, at, found)
+}
+
+// A function of one expression.
+#[inline(never)]
+#[cycle(expression)]
+#[tactic(auto, using(crate::proofs::ExpressionRows::of_expressions))]
+fn single_call<M: Machine>(
+    scope: &Scope<M::Array>,
+    counts: &mut Counts,
+    machine: &mut M,
+    function: SingleFunction,
+    at: usize,
+    argument: &Expression,
+) -> Result<(ShapeOf, M::Array), CheckRefused>
+    ensures { Agrees (λ found. (found.0, found.1, counts.new, machine.new)) result
+        (single_of M.operations function at (expression_tree argument.now) scope.now counts.old
+        machine.old) }
+{
+    let found = value(scope, counts, machine, argument)?;
+    single_value(counts, machine, function, at, found)
+}
+
+// A function of two expressions, the first of which has this value.
+#[inline(never)]
+#[cycle(expression)]
+#[tactic(auto, using(crate::proofs::ExpressionRows::of_expressions))]
+fn pair_call<M: Machine>(
+    scope: &Scope<M::Array>,
+    counts: &mut Counts,
+    machine: &mut M,
+    function: PairFunction,
+    at: usize,
+    left: (ShapeOf, M::Array),
+    right: &Expression,
+) -> Result<(ShapeOf, M::Array), CheckRefused>
+    ensures { Agrees (λ found. (found.0, found.1, counts.new, machine.new)) result
+        (pair_of M.operations function at (expression_tree right.now) scope.now
+        (left.0, left.1, counts.old, machine.old)) }
+{
+    let right = value(scope, counts, machine, right)?;
+    pair_value(counts, machine, function, at, left, right)
+}
+
 fn constant_value<M: Machine>(
     counts: &mut Counts,
     machine: &mut M,
@@ -151,7 +209,6 @@ fn constant_value<M: Machine>(
 }
 
 // What a name stands for.
-#[inline(never)]
 fn name_value<M: Machine>(
     scope: &Scope<M::Array>,
     counts: &mut Counts,
@@ -173,7 +230,6 @@ fn name_value<M: Machine>(
 }
 
 // An element of a name.
-#[inline(never)]
 fn element_value<M: Machine>(
     scope: &Scope<M::Array>,
     machine: &M,
