@@ -1,0 +1,4 @@
+pub mod Kernel
+pub mod Four
+pub mod Sums
+pub mod Lanes
