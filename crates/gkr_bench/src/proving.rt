@@ -1,6 +1,7 @@
 //! What one layer of random gates takes: its rounds, beside plain loops with the same work, its line, and the verifier's
 //! wiring polynomials.
 
+ghost use Rattle.std.specs.Prelude.{◌≡◌, [], IfOk, IfSome};
 ghost use Rattle.phase_run.specs.Work.{IsWorkerCount};
 
 use crate::plain_layer::{Plain, PlainRoom, ZERO, prove_layer};
@@ -15,7 +16,7 @@ use std::io;
 use std::marker::Sync;
 use std::thread::Threads;
 use std::time::{Duration, Instant};
-use sumcheck_prove::round;
+use sumcheck_prove::{bind_round, round};
 use wiring_poly::wiring_at;
 
 /// Numbers that follow no plain rule.
@@ -118,7 +119,9 @@ fn started<'a>(
     circuit: &'a Circuit,
     values: &'a Table,
     point: &'a [Ext],
-) -> Result<Option<GateTables<'a>>, AllocError> {
+) -> Result<Option<GateTables<'a>>, AllocError>
+    ensures { IfOk result (λ found. IfSome found (λ tables. tables.lent ≡ [])) }
+{
     if circuit.height() == 0 || circuit.coordinates(0) != point.len() {
         return Ok(None);
     }
@@ -155,7 +158,7 @@ pub(crate) fn prove<R: Threads + Sync>(
             let message = round(rt, alloc, &tables, workers, &OpenGate)?;
             let digest = message[0].re().value() ^ message[1].im().value();
             seen = seen.wrapping_add(digest ^ message[2].re().value());
-            tables.bind(*r);
+            bind_round(rt, alloc, &mut tables, *r, workers, &OpenGate)?;
         }
     }
     let room = tables.into_room();

@@ -13,7 +13,7 @@ use round_tables::{GateTables, Room};
 use std::alloc::{AllocError, Global};
 use std::marker::Sync;
 use std::thread::Threads;
-use sumcheck_prove::round;
+use sumcheck_prove::{bind_round, round};
 use transcript_fs::Challenges;
 
 /// The messages of all rounds of a layer, the challenge after each, and the room that the layer used.
@@ -35,6 +35,7 @@ pub(crate) fn prove_rounds<R: Threads + Sync, C: Challenges, G: Gate>(
 ) -> Result<ProvedRounds, AllocError>
     requires workers { IsWorkerCount workers }
     requires begun { tables.bound ≡ [] }
+    requires here { tables.lent ≡ [] }
     requires has { IsTrue (C.source.has (C.state challenges.old) (tables.k + tables.k)) }
     ensures honest { IfOk result
         (λ rounds. AreHonestRounds tables.entry.k tables.entry.gates tables.entry.values
@@ -58,7 +59,7 @@ pub(crate) fn prove_rounds<R: Threads + Sync, C: Challenges, G: Gate>(
         let message = round(rt, alloc, &tables, workers, gate)?;
         challenges.absorb(&message);
         let challenge = challenges.challenge();
-        tables.bind(challenge);
+        bind_round(rt, alloc, &mut tables, challenge, workers, gate)?;
         messages.push(Round::of(message))?;
         drawn.push(challenge)?;
     }

@@ -1,5 +1,5 @@
 //! The messages of a layer's rounds for given challenges, by hand.
-ghost use Rattle.std.specs.Prelude.{IfOk};
+ghost use Rattle.std.specs.Prelude.{◌≡◌, [], IfOk};
 ghost use Rattle.circuit_eval.specs.Tables.{FitLayers};
 
 use circuit_core::{Circuit, Kind};
@@ -43,7 +43,9 @@ pub(crate) fn values_of<R: Threads + Sync + AllocGlobal>(
 }
 
 /// Sees the messages of all rounds, of one piece each, as multiples of an element, and binds each challenge.
-fn follows<R: Abort>(rt: &R, sum: &mut GateTables<'_>, rounds: &[([i32; 3], i32)], unit: Ext) {
+fn follows<R: Abort>(rt: &R, sum: &mut GateTables<'_>, rounds: &[([i32; 3], i32)], unit: Ext)
+    requires { sum.old.lent ≡ [] }
+{
     assert!(rt; sum.is_fresh());
     for (message, challenge) in rounds {
         assert!(rt; sum.rounds_left() > 0);

@@ -24,6 +24,7 @@ tables_at p inputs i place bound = record {
   values = values_below p inputs i;
   place = place;
   bound = bound;
+  lent = [];
 }
 
 -- after these words the prover is within layer i: those in `done` were for the layers before it, whose messages are in `front`

@@ -162,6 +162,7 @@ fn bind<'a, R: Threads + Sync, G: Gate>(
     requires there { u < length words.now }
     requires layer { layer < height circuit.now.parts }
     requires at { u ≡ base + length tables.bound }
+    requires here { tables.lent ≡ [] }
     requires left { length tables.bound < tables.k + tables.k }
     requires stands { (inputs : List F) → AreTables circuit.now.parts inputs values.now
         → IsWithin circuit.now.parts inputs (take u words.now) layer base sent.items tables }
@@ -207,6 +208,7 @@ fn descend<'a, R: Threads + Sync, G: Gate>(
     requires there { u < length words.now }
     requires layer { layer < height circuit.now.parts }
     requires at { u ≡ base + length tables.bound }
+    requires here { tables.lent ≡ [] }
     requires k { tables.k ≡ exponent_at circuit.now.parts (layer + 1) }
     requires bound { length tables.bound ≡ tables.k + tables.k }
     requires stands { (inputs : List F) → AreTables circuit.now.parts inputs values.now
@@ -252,6 +254,7 @@ fn send<R: Threads + Sync, G: Gate>(
 ) -> Result<(), AllocError>
     requires workers { IsWorkerCount workers }
     requires most { values.now.k ≤ 16 }
+    requires here { tables.now.lent ≡ [] }
     requires k { tables.now.k ≡ values.now.k }
     requires values { tables.now.values ≡ values.now.items }
     requires drawn { drawn.now ≡ tables.now.bound }

@@ -1,5 +1,5 @@
 -- The pieces of a round add to its true polynomial
-use Rattle.std.proofs.Common.{◌≡◌, ℕ, zero, suc, ◌+◌, ◌-◌, ◌*◌, ◌<◌, ◌≤◌, ◌⊎◌, inl, inr, min, List, [], ◌∷◌, ◌++◌, length, refl, sym, ◌∙◌, ap, arith, pow_pos, lit<}
+use Rattle.std.proofs.Common.{◌≡◌, ℕ, zero, suc, ◌+◌, ◌-◌, ◌*◌, ◌<◌, ◌≤◌, ◌⊎◌, inl, inr, List, [], ◌∷◌, ◌++◌, length, refl, sym, ◌∙◌, ap, ap₂, arith, pow_pos, lit<}
 use Rattle.std.proofs.lemmas.Bool.{cases_lt}
 use Rattle.field_ext.specs.Ring.{Ops, Laws}
 use Rattle.field_ext.specs.Field.{K, k_ops}
@@ -16,32 +16,25 @@ use Rattle.gkr_layers.proofs.RoundPoly.{value_hom}
 use Rattle.gkr_layers.proofs.PlaceSums.{value-round_polynomial}
 use Rattle.field_ext.proofs.Rings.{mul_zero}
 use Rattle.gkr_layers.proofs.Degree.{length-round_polynomial}
-use Rattle.round_tables.specs.LayerSum.{LayerSum, left_in_phase, after_phase, pairs_of, pieces_of, piece_poly, next_poly}
+use Rattle.round_tables.specs.LayerSum.{LayerSum, left_in_phase, after_phase, pieces_of, piece_pairs, piece_poly, next_poly}
+use Rattle.round_tables.specs.PartTables.{cuts_left}
+use Rattle.round_tables.proofs.LaidOut.{all-pairs}
+use Rattle.round_tables.proofs.PhaseSteps.{some_left}
 use Rattle.round_tables.proofs.Sums.{sum_cube-bits}
 use Rattle.round_tables.proofs.PieceValues.{in_left_phase, in_right_phase, value-part}
 use Rattle.gkr_layers.proofs.Coefficients.{from_values, length-coefficients}
 use Rattle.round_tables.proofs.PartDegree.{length-part}
 
 module _ {A : Type 0} (o : Ops A) (l : Laws A o) where
-  -- pieces of 1024 terms
-  sum_pieces : (count n : ℕ) (f : ℕ → A) → sum_below o count (λ piece. sum_below o (min (1024 * piece + 1024) n - 1024 * piece) (λ j. f (1024 * piece + j))) ≡ sum_below o (min (1024 * count) n) f
-  sum_pieces zero n f = let e : 0 ≡ min (1024 * 0) n = omega arith in ap (λ (i : ℕ). sum_below o i f) e
-  sum_pieces (suc count) n f = ap (λ (x : A). o.add x (sum_below o (min (1024 * count + 1024) n - 1024 * count) (λ j. f (1024 * count + j)))) (sum_pieces count n f) ∙ by_rest (cases_lt (1024 * count) n)
-    where
-      by_rest : (1024 * count < n) ⊎ (n ≤ 1024 * count) → o.add (sum_below o (min (1024 * count) n) f) (sum_below o (min (1024 * count + 1024) n - 1024 * count) (λ j. f (1024 * count + j))) ≡ sum_below o (min (1024 * suc count) n) f
-      by_rest (inl u) =
-          let b : ℕ = min (1024 * count + 1024) n - 1024 * count in
-          let before : min (1024 * count) n ≡ 1024 * count = omega arith in
-          let whole : 1024 * count + (min (1024 * count + 1024) n - 1024 * count) ≡ min (1024 * suc count) n = omega arith in
-          ap (λ (i : ℕ). o.add (sum_below o i f) (sum_below o b (λ j. f (1024 * count + j)))) before
-          ∙ sym (sum_below-append o l (1024 * count) b f)
-          ∙ ap (λ (i : ℕ). sum_below o i f) whole
-      by_rest (inr u) =
-          let none : min (1024 * count + 1024) n - 1024 * count ≡ 0 = omega arith in
-          let same : min (1024 * count) n ≡ min (1024 * suc count) n = omega arith in
-          ap (λ (i : ℕ). o.add (sum_below o (min (1024 * count) n) f) (sum_below o i (λ j. f (1024 * count + j)))) none
-          ∙ l.add_zero (sum_below o (min (1024 * count) n) f)
-          ∙ ap (λ (i : ℕ). sum_below o i f) same
+  -- pieces of n terms each
+  sum_pieces : (count n : ℕ) (f : ℕ → A) → sum_below o count (λ piece. sum_below o (piece * n + n - piece * n) (λ j. f (piece * n + j))) ≡ sum_below o (count * n) f
+  sum_pieces zero n f = let e : 0 ≡ 0 * n = omega arith in ap (λ (i : ℕ). sum_below o i f) e
+  sum_pieces (suc count) n f =
+      let width : count * n + n - count * n ≡ n = omega arith in
+      let whole : count * n + n ≡ suc count * n = omega arith in
+      ap₂ o.add (sum_pieces count n f) (ap (λ (i : ℕ). sum_below o i (λ j. f (count * n + j))) width)
+      ∙ sym (sum_below-append o l (count * n) n f)
+      ∙ ap (λ (i : ℕ). sum_below o i f) whole
 
 split_phase : (k n : ℕ) → n < k + k → left_in_phase k n - 1 + after_phase k n ≡ k + k - n - 1
 split_phase k n u = by_phase (cases_lt n k)
@@ -56,10 +49,10 @@ pieces-value s e u =
     let m : ℕ = left_in_phase s.k n - 1 in
     let f : List K → K = λ w. weighted_summand_at k_ops k_ops (λ x. x) s.k s.gates s.values s.place (s.bound ++ e ∷ w) in
     let g : ℕ → K = λ h. sum_cube k_ops (after_phase s.k n) (λ c. f (bits_of k_ops m h ++ c)) in
-    let enough : min (1024 * pieces_of s) (pairs_of s) ≡ pairs_of s = omega arith in
-    sum_below-same k_ops k_laws (pieces_of s) _ _ (λ piece v. value-part k_ops k_laws s.k s.gates s.values s.place s.bound (1024 * piece) (min (1024 * piece + 1024) (pairs_of s)) e)
-    ∙ sum_pieces k_ops k_laws (pieces_of s) (pairs_of s) g
-    ∙ ap (λ (i : ℕ). sum_below k_ops i g) enough
+    let some : 0 < left_in_phase s.k n = omega (arith, some_left s.k n n refl u) in
+    sum_below-same k_ops k_laws (pieces_of s) _ _ (λ piece v. value-part k_ops k_laws s.k s.gates s.values s.place s.bound (piece * piece_pairs s) (piece * piece_pairs s + piece_pairs s) e)
+    ∙ sum_pieces k_ops k_laws (pieces_of s) (piece_pairs s) g
+    ∙ ap (λ (i : ℕ). sum_below k_ops i g) (all-pairs s.k (left_in_phase s.k n) some)
     ∙ sym (sum_cube-bits k_ops k_laws m (λ w. sum_cube k_ops (after_phase s.k n) (λ c. f (w ++ c))))
     ∙ sym (sum_cube-split k_ops k_laws m (after_phase s.k n) (s.k + s.k - n - 1) f (split_phase s.k n u))
     ∙ sym (value-round_polynomial k_ops k_laws s.k s.gates s.values s.place s.bound (s.k + s.k - n - 1) e)
@@ -83,11 +76,11 @@ module _ {A : Type 0} (o : Ops A) (l : Laws A o) where
 -- the messages of the pieces add to the round's message
 pub pieces-sum : (s : LayerSum) → length s.bound < s.k + s.k → sum_below (polynomial_ops k_ops) (pieces_of s) (λ piece. coefficients k_ops 3 (piece_poly s piece)) ≡ coefficients k_ops 3 (next_poly s)
 pieces-sum s u =
-    let some : pieces_of s ≡ suc (pieces_of s - 1) = let p = pow_pos (left_in_phase s.k (length s.bound) - 1) in omega (arith, p) in
+    let some : pieces_of s ≡ suc (pieces_of s - 1) = let p = pow_pos (cuts_left s.k (left_in_phase s.k (length s.bound))) in omega (arith, p) in
     let size : length (sum_below (polynomial_ops k_ops) (pieces_of s) (λ piece. coefficients k_ops 3 (piece_poly s piece))) ≡ 3 =
     ap (λ (n : ℕ). length (sum_below (polynomial_ops k_ops) n (λ piece. coefficients k_ops 3 (piece_poly s piece)))) some
     ∙ length-sums k_ops k_laws 3 (pieces_of s - 1) (λ piece. coefficients k_ops 3 (piece_poly s piece)) (λ piece. length-coefficients k_ops 3 (piece_poly s piece)) in
     from_values 3 (sum_below (polynomial_ops k_ops) (pieces_of s) (λ piece. coefficients k_ops 3 (piece_poly s piece))) (next_poly s) (lit< tt) size (length-round_polynomial k_ops s.k s.gates s.values s.place s.bound (s.k + s.k - length s.bound - 1)) (λ e.
     sum_below-hom (polynomial_ops k_ops) k_ops (λ q. value_at k_ops q e) (value_hom k_ops k_laws e) (pieces_of s) (λ piece. coefficients k_ops 3 (piece_poly s piece))
-    ∙ sum_below-same k_ops k_laws (pieces_of s) _ _ (λ piece v. value-coefficients k_ops k_laws 3 (piece_poly s piece) e (length-part k_ops s.k s.gates s.values s.place s.bound (1024 * piece) (min (1024 * piece + 1024) (pairs_of s))))
+    ∙ sum_below-same k_ops k_laws (pieces_of s) _ _ (λ piece v. value-coefficients k_ops k_laws 3 (piece_poly s piece) e (length-part k_ops s.k s.gates s.values s.place s.bound (piece * piece_pairs s) (piece * piece_pairs s + piece_pairs s)))
     ∙ pieces-value s e u)

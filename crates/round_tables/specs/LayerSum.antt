@@ -1,5 +1,5 @@
 -- The sum of a layer's summand over both operands, with some of its coordinates bound to challenges
-use Rattle.std.specs.Prelude.{ℕ, ◌+◌, ◌-◌, ◌*◌, ◌/◌, ◌^◌, min, List, [], ◌∷◌, ◌++◌, map, length, if◌then◌else◌, nat_lt, ◌==◌, slice_index_or}
+use Rattle.std.specs.Prelude.{ℕ, ◌+◌, ◌-◌, ◌*◌, ◌^◌, List, [], ◌∷◌, ◌++◌, map, length, if◌then◌else◌, nat_lt, ◌==◌, slice_index_or}
 use Rattle.field_ext.specs.Ring.{Ops}
 use Rattle.field_ext.specs.Field.{K, k_ops}
 use Rattle.field_ext.specs.Sums.{sum_below, sum_cube}
@@ -10,14 +10,16 @@ use Rattle.circuit_core.specs.Sound.{exponent_at}
 use Rattle.field_ext.specs.Polynomial.{polynomial_ops, constant}
 use Rattle.gkr_layers.specs.Places.{Place, map_place, weighted_summand_at}
 use Rattle.gkr_layers.specs.Sumcheck.{round_polynomial}
+use Rattle.round_tables.specs.PartTables.{PartTables, cuts_left}
 
--- a layer of gates over the 2 ^ k values of the layer below, where its claim stands, and the challenges that are bound
+-- a layer of gates over the 2 ^ k values of the layer below, where its claim stands, the challenges that are bound, and the parts of the tables that are lent, if any
 pub record LayerSum : Type 0 where
   pub k : ℕ
   pub gates : List CircuitGate
   pub values : List K
   pub place : Place K
   pub bound : List K
+  pub lent : List PartTables
 
 -- that of a layer of a circuit over values of its layers, with no challenge bound
 abbrev pub sum_of_layer : Parts → List (List K) → ℕ → Place K → LayerSum
@@ -27,6 +29,7 @@ sum_of_layer p values layer place = record {
   values = slice_index_or values (layer + 1) [];
   place = place;
   bound = [];
+  lent = [];
 }
 
 -- the coordinates of the phase that are left once n of the 2 k are bound: first those of the left operand, then those of the right one
@@ -53,17 +56,21 @@ part_of_round o k gates values place bound from to =
 abbrev pub pairs_of : LayerSum → ℕ
 pairs_of s = 2 ^ (left_in_phase s.k (length s.bound) - 1)
 
--- a round is summed in pieces of 1024 numbers
+-- a round is summed by the parts of the tables
 abbrev pub pieces_of : LayerSum → ℕ
-pieces_of s = (pairs_of s + 1023) / 1024
+pieces_of s = 2 ^ cuts_left s.k (left_in_phase s.k (length s.bound))
+
+-- how many pairs a part has once n of the 2 k challenges are bound
+abbrev pub half_size : ℕ → ℕ → ℕ
+half_size k n = let m = left_in_phase k n in 2 ^ (m - 1 - cuts_left k m)
+
+-- how many pairs each piece has
+abbrev pub piece_pairs : LayerSum → ℕ
+piece_pairs s = half_size s.k (length s.bound)
 
 abbrev pub piece_poly : LayerSum → ℕ → List K
-piece_poly s piece = part_of_round k_ops s.k s.gates s.values s.place s.bound (1024 * piece)
-    (min (1024 * piece + 1024) (pairs_of s))
-
--- how many pairs a piece has
-abbrev pub piece_pairs : LayerSum → ℕ → ℕ
-piece_pairs s piece = min (1024 * piece + 1024) (pairs_of s) - 1024 * piece
+piece_poly s piece = part_of_round k_ops s.k s.gates s.values s.place s.bound
+    (piece * piece_pairs s) (piece * piece_pairs s + piece_pairs s)
 
 -- the steps that bind a challenge: three for each pair, and one for each gate where the second phase begins
 abbrev pub bind_steps : LayerSum → ℕ

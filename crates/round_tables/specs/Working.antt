@@ -1,5 +1,6 @@
 -- What holds of the structures that keep a layer's tables
-use Rattle.std.specs.Prelude.{◌≡◌, ℕ, ◌+◌, ◌-◌, ◌^◌, ◌≤◌, ◌⊎◌, IsTrue, List, [], ◌∷◌, ◌++◌, length, take, vec_len, if◌then◌else◌}
+use Rattle.std.specs.Prelude.{◌≡◌, ℕ, ◌+◌, ◌-◌, ◌^◌, ◌≤◌, true, false, IsTrue, List, [], ◌∷◌, ◌++◌, length, map, take, vec_len, if◌then◌else◌, All, Option, Some, None}
+use Rattle.std.specs.declared.snapshot.Snapshot.{Snapshot}
 use Rattle.field_ext.specs.Field.{K, k_ops}
 use Rattle.mle_table.specs.Shape.{AreBase}
 use Rattle.round_tables.specs.declared.layer_gates.LayerGates.{LayerGates}
@@ -7,7 +8,8 @@ use Rattle.round_tables.specs.declared.working.Working.{Working}
 use Rattle.gkr_layers.specs.Places.{Place}
 use Rattle.gkr_layers.specs.Places.Place.{At, AtBoth}
 use Rattle.round_tables.specs.Weights.{HasWeights}
-use Rattle.round_tables.specs.Tables.{IsFolded}
+use Rattle.field_ext.specs.Multilinear.{folded}
+use Rattle.round_tables.specs.PartTables.{PartTables, HasRoom, cuts, flat_table, flat_scales, flat_shifts, folded_part, AreLaidOut}
 use Rattle.round_tables.specs.LayerSum.{left_in_phase}
 use Rattle.round_tables.specs.Phase.{IsLayer, IsPhase}
 
@@ -28,29 +30,61 @@ pub record IsLayerGates (layer : LayerGates) : Type 0 where
 abbrev pub bound_of : Working → List K
 bound_of w = take w.count w.challenges.items
 
+-- the parts in use: those of the phase, or the one that they were gathered into
+abbrev pub parts_of : Working → List PartTables
+parts_of w = if w.merged then w.one.items else w.many.items
+
 -- there is room for two phases of k challenges
 pub record HasRooms (k : ℕ) (w : Working) : Type 0 where
   pub challenges : vec_len w.challenges ≡ k + k
   pub left_equality : vec_len w.left_equality ≡ 2 ^ k
-  pub table : vec_len w.table ≡ 2 ^ k
   pub scales : vec_len w.scales ≡ 2 ^ k
   pub shifts : vec_len w.shifts ≡ 2 ^ k
+  pub many : length w.many.items ≡ 2 ^ cuts k
+  pub many_room : All (HasRoom (2 ^ (k - cuts k))) w.many.items
+  pub one : length w.one.items ≡ 1
+  pub one_room : All (HasRoom (2 ^ cuts k)) w.one.items
 
--- the tables stand for the layer's sum with these challenges bound
+-- with m coordinates of the phase left, the tables are laid out in parts
 pub record WorksFor (layer : LayerGates) (w : Working) : Type 0 where
   pub rooms : HasRooms layer.k w
   pub counted : w.count ≤ layer.k + layer.k
-  pub fresh : (w.count ≡ 0) ⊎ (w.count ≡ layer.k) → w.table.items ≡ layer.values.now.items
+  pub laid : AreLaidOut layer.k (left_in_phase layer.k w.count) (parts_of w)
   pub phase : IsPhase K k_ops layer.k layer.gates.now layer.values.now.items (place_of layer)
-      (bound_of w) w.table.items w.scales.items w.shifts.items
+      (bound_of w) (flat_table (parts_of w)) (flat_scales (parts_of w)) (flat_shifts (parts_of w))
+
+-- all but the parts in use is the same
+pub record AreSameRooms (old new : Working) : Type 0 where
+  pub challenges : new.challenges ≡ old.challenges
+  pub count : new.count ≡ old.count
+  pub left_equality : new.left_equality ≡ old.left_equality
+  pub scales : new.scales ≡ old.scales
+  pub shifts : new.shifts ≡ old.shifts
+  pub merged : new.merged ≡ old.merged
+  pub many : old.merged ≡ true → new.many ≡ old.many
+  pub one : old.merged ≡ false → new.one ≡ old.one
+
+-- all but the parts in use is the same, and these are folded by r
+pub record AreFolded (old : Working) (r : K) (new : Working) : Type 0 where
+  pub others : AreSameRooms old new
+  pub parts : parts_of new ≡ map (folded_part r) (parts_of old)
 
 -- r is noted, and the tables are folded by it
 pub record IsAdvanced (k : ℕ) (old : Working) (r : K) (new : Working) : Type 0 where
   pub rooms : HasRooms k new
   pub bound : bound_of new ≡ bound_of old ++ r ∷ []
   pub count : new.count ≡ old.count + 1
-  pub table : IsFolded k_ops (2 ^ (left_in_phase k old.count - 1)) old.table.items r new.table.items
-  pub scales : IsFolded k_ops (2 ^ (left_in_phase k old.count - 1)) old.scales.items r
-      new.scales.items
-  pub shifts : IsFolded k_ops (2 ^ (left_in_phase k old.count - 1)) old.shifts.items r
-      new.shifts.items
+  pub laid : AreLaidOut k (left_in_phase k old.count - 1) (parts_of new)
+  pub table : flat_table (parts_of new) ≡ folded k_ops (flat_table (parts_of old)) r
+  pub scales : flat_scales (parts_of new) ≡ folded k_ops (flat_scales (parts_of old)) r
+  pub shifts : flat_shifts (parts_of new) ≡ folded k_ops (flat_shifts (parts_of old)) r
+
+-- the parts that are lent, if any, by the tables as they were then
+abbrev pub lent_parts : Option (Snapshot Working) → List PartTables
+lent_parts None = []
+lent_parts (Some old) = parts_of old.value
+
+-- the tables stand for the layer's sum, or did so when their parts were lent, since when nothing else was changed
+abbrev pub WorksOrLent : LayerGates → Working → Option (Snapshot Working) → Type 0
+WorksOrLent layer w None = WorksFor layer w
+WorksOrLent layer w (Some old) = WorksFor layer old.value × AreSameRooms old.value w

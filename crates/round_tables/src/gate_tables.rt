@@ -1,6 +1,6 @@
 // The public face of a layer's working tables.
 
-ghost use Rattle.std.specs.Prelude.{◌≡◌, ◌<◌, ◌≤◌, ◌+◌, ◌^◌, ◌↔◌, All, IfOk, IsTrue, [], ◌∷◌, ◌++◌, length};
+ghost use Rattle.std.specs.Prelude.{◌≡◌, ◌<◌, ◌≤◌, ◌+◌, ◌^◌, ◌↔◌, All, IfOk, IsTrue, [], ◌∷◌, ◌++◌, length, map};
 ghost use Rattle.field_ext.specs.Field.{K, k_ops};
 ghost use Rattle.circuit_core.specs.Parts.{IsOver, height};
 ghost use Rattle.circuit_core.specs.Sound.{exponent_at};
@@ -9,9 +9,11 @@ ghost use Rattle.gkr_layers.specs.Places.Place.{At, AtBoth};
 ghost use Rattle.gkr_layers.specs.Standing as standing;
 ghost use Rattle.round_tables.specs.Phase.{IsLayer};
 ghost use Rattle.field_ext.specs.Polynomial.{coefficients};
-ghost use Rattle.round_tables.specs.LayerSum.{sum_of_layer, pieces_of, piece_pairs, piece_poly, bind_steps};
+ghost use Rattle.round_tables.specs.LayerSum.{sum_of_layer, pairs_of, pieces_of, piece_pairs, piece_poly, bind_steps};
+ghost use Rattle.round_tables.specs.PartTables.{folded_part};
 
 use crate::layer_gates::LayerGates;
+use crate::part::Part;
 use crate::room::{Room, TooLittleRoom};
 use crate::working::{Working, pair_count};
 use circuit_core::{Circuit, CircuitGate};
@@ -21,22 +23,22 @@ use gkr_layers::Standing;
 use mle_table::Table;
 use std::alloc::{AllocError, Global};
 use std::marker::{Brand, Model};
+use std::snapshot::Snapshot;
 use std::sync::ledger::{Blank, Ledger};
 use step_count::Steps;
 
-/// How many pairs a piece of a round has, the last one aside.
-pub const PIECE: usize = 1024;
-
-/// The sumcheck of a layer, with some of its challenges bound.
+/// The sumcheck of a layer, with some of its challenges bound. Its tables are in parts, which can be lent.
 #[derive(Drop)]
 pub struct GateTables<'a> {
     layer: LayerGates<'a>,
     working: Working,
+    // The tables as they were when their parts were lent.
+    lent: Option<Snapshot<Working>>,
 }
 
 impl<'a> Model for GateTables<'a> {
     ghost use Rattle.round_tables.specs.LayerSum.{LayerSum};
-    ghost use Rattle.round_tables.specs.Working.{IsLayerGates, WorksFor, bound_of, place_of};
+    ghost use Rattle.round_tables.specs.Working.{IsLayerGates, WorksOrLent, bound_of, place_of, lent_parts};
 
     ghost Value = { LayerSum };
 
@@ -46,9 +48,10 @@ impl<'a> Model for GateTables<'a> {
       values = a.layer.values.now.items;
       place = place_of a.layer;
       bound = bound_of a.working;
+      lent = lent_parts a.lent;
     } };
 
-    ghost invariant = { λ a. IsLayerGates a.layer × WorksFor a.layer a.working };
+    ghost invariant = { λ a. IsLayerGates a.layer × WorksOrLent a.layer a.working a.lent };
 }
 
 impl<'a> GateTables<'a> {
@@ -89,7 +92,7 @@ impl<'a> GateTables<'a> {
         ensures gates { IfOk result (λ sum. sum.gates ≡ gates.now) }
         ensures values { IfOk result (λ sum. sum.values ≡ values.now.items) }
         ensures place { IfOk result (λ sum. sum.place ≡ At point.now) }
-        ensures bound { IfOk result (λ sum. sum.bound ≡ []) }
+        ensures bound { IfOk result (λ sum. (sum.bound ≡ []) × (sum.lent ≡ [])) }
     {
         let Room {
             first,
@@ -99,7 +102,11 @@ impl<'a> GateTables<'a> {
         } = room.fitted(gates.len(), values.k() as usize, point, point)?;
         let layer = LayerGates::new(point_equality, gates, values, first, second);
         let working = working.begin(&layer);
-        Ok(GateTables { layer, working })
+        Ok(GateTables {
+            layer,
+            working,
+            lent: None,
+        })
     }
 
     /// The sumcheck of a layer of a circuit whose claim stands at two points, the first with weight 1 and the second with
@@ -146,7 +153,7 @@ impl<'a> GateTables<'a> {
         ensures gates { IfOk result (λ sum. sum.gates ≡ gates.now) }
         ensures values { IfOk result (λ sum. sum.values ≡ values.now.items) }
         ensures place { IfOk result (λ sum. sum.place ≡ AtBoth first.now second.now weight) }
-        ensures bound { IfOk result (λ sum. sum.bound ≡ []) }
+        ensures bound { IfOk result (λ sum. (sum.bound ≡ []) × (sum.lent ≡ [])) }
     {
         let Room {
             first,
@@ -156,7 +163,11 @@ impl<'a> GateTables<'a> {
         } = room.fitted(gates.len(), values.k() as usize, first, second)?;
         let layer = LayerGates::new_two(point_equality, gates, values, first, second, weight);
         let working = working.begin(&layer);
-        Ok(GateTables { layer, working })
+        Ok(GateTables {
+            layer,
+            working,
+            lent: None,
+        })
     }
 
     /// The sumcheck of a layer of at most 65,536 gates in room that is there, wherever the claim stands. Err only where the
@@ -173,7 +184,7 @@ impl<'a> GateTables<'a> {
         ensures gates { IfOk result (λ sum. sum.gates ≡ gates.now) }
         ensures values { IfOk result (λ sum. sum.values ≡ values.now.items) }
         ensures place { IfOk result (λ sum. sum.place ≡ standing.place_of place.now) }
-        ensures bound { IfOk result (λ sum. sum.bound ≡ []) }
+        ensures bound { IfOk result (λ sum. (sum.bound ≡ []) × (sum.lent ≡ [])) }
     {
         match *place {
             Standing::One(point) => GateTables::start_in(room, gates, values, point),
@@ -184,8 +195,10 @@ impl<'a> GateTables<'a> {
     }
 
     /// The room, for another layer.
-    pub fn into_room(self) -> Room {
-        let GateTables { layer, working } = self;
+    pub fn into_room(self) -> Room
+        requires { self.lent ≡ [] }
+    {
+        let GateTables { layer, working, .. } = self;
         let LayerGates {
             first,
             second,
@@ -202,6 +215,7 @@ impl<'a> GateTables<'a> {
 
     /// How many challenges are still to be bound.
     pub fn rounds_left(&self) -> usize
+        requires { self.now.lent ≡ [] }
         ensures { result + length self.now.bound ≡ self.now.k + self.now.k }
     {
         2 * self.layer.k - self.working.count
@@ -209,34 +223,44 @@ impl<'a> GateTables<'a> {
 
     /// Whether no challenge is bound yet.
     pub fn is_fresh(&self) -> bool
+        requires { self.now.lent ≡ [] }
         ensures { IsTrue result ↔ (length self.now.bound ≡ 0) }
     {
         self.rounds_left() == 2 * self.layer.k
     }
 
-    /// How many pieces the next round has.
+    /// How many pieces the next round has: the parts of the tables, each of at least one pair.
     pub fn pieces(&self) -> usize
-        requires { length self.now.bound < self.now.k + self.now.k }
+        requires here { self.now.lent ≡ [] }
+        requires left { length self.now.bound < self.now.k + self.now.k }
         ensures { result ≡ pieces_of self.now }
     {
-        (pair_count(self.layer.k, self.working.count) + (PIECE - 1)) / PIECE
+        self.working.parts().len()
+    }
+
+    /// How many pairs of each table the next round has, over all pieces.
+    pub fn pairs(&self) -> usize
+        requires here { self.now.lent ≡ [] }
+        requires left { length self.now.bound < self.now.k + self.now.k }
+        ensures { result ≡ pairs_of self.now }
+    {
+        pair_count(self.layer.k, self.working.count)
     }
 
     /// The coefficients of 1, X and X² of a piece of the next round, at one step for each pair.
     pub fn piece_sum_counted<L: Ledger>(&self, piece: usize, steps: &mut Steps<L>) -> [Ext; 3]
+        requires here { self.now.lent ≡ [] }
         requires left { length self.now.bound < self.now.k + self.now.k }
         requires piece { piece < pieces_of self.now }
         ensures sum { result ≡ coefficients k_ops 3 (piece_poly self.now piece) }
-        ensures steps { steps.new ≡ steps.old + piece_pairs self.now piece }
+        ensures steps { steps.new ≡ steps.old + piece_pairs self.now }
     {
-        let pairs = pair_count(self.layer.k, self.working.count);
-        let from = PIECE * piece;
-        let to = (from + PIECE).min(pairs);
-        self.working.part(&self.layer, from, to, steps)
+        self.working.part_sum(&self.layer, piece, steps)
     }
 
     /// The coefficients of 1, X and X² of a piece of the next round.
     pub fn piece_sum(&self, piece: usize) -> [Ext; 3]
+        requires here { self.now.lent ≡ [] }
         requires left { length self.now.bound < self.now.k + self.now.k }
         requires piece { piece < pieces_of self.now }
         ensures { result ≡ coefficients k_ops 3 (piece_poly self.now piece) }
@@ -245,6 +269,7 @@ impl<'a> GateTables<'a> {
     }
 
     fn piece_sum_from<L: Ledger>(&self, piece: usize, blank: Blank) -> [Ext; 3]
+        requires here { self.now.lent ≡ [] }
         requires left { length self.now.bound < self.now.k + self.now.k }
         requires piece { piece < pieces_of self.now }
         requires name { blank.name ≡ L.name }
@@ -259,7 +284,8 @@ impl<'a> GateTables<'a> {
     /// Binds the next coordinate to the challenge `r`, at three steps for each pair of the round,
     /// and one for each gate where the second phase begins.
     pub fn bind_counted<L: Ledger>(&mut self, r: Ext, steps: &mut Steps<L>)
-        requires { length self.old.bound < self.old.k + self.old.k }
+        requires here { self.old.lent ≡ [] }
+        requires left { length self.old.bound < self.old.k + self.old.k }
         ensures bound { self.new ≡ record self.old { bound = self.old.bound ++ r ∷ [] } }
         ensures steps { steps.new ≡ steps.old + bind_steps self.old }
     {
@@ -268,13 +294,15 @@ impl<'a> GateTables<'a> {
 
     /// Binds the next coordinate to the challenge `r`.
     pub fn bind(&mut self, r: Ext)
-        requires { length self.old.bound < self.old.k + self.old.k }
+        requires here { self.old.lent ≡ [] }
+        requires left { length self.old.bound < self.old.k + self.old.k }
         ensures { self.new ≡ record self.old { bound = self.old.bound ++ r ∷ [] } }
     {
         self.bind_from::<Brand>(r, Blank::new(1));
     }
 
     fn bind_from<L: Ledger>(&mut self, r: Ext, blank: Blank)
+        requires here { self.old.lent ≡ [] }
         requires left { length self.old.bound < self.old.k + self.old.k }
         requires name { blank.name ≡ L.name }
         requires parts { blank.parts ≡ L.parts }
@@ -283,5 +311,61 @@ impl<'a> GateTables<'a> {
     {
         let mut steps = Steps::<L>::start(blank);
         self.bind_counted(r, &mut steps);
+    }
+
+    /// Whether the parts of the tables are lent.
+    pub fn lent(&self) -> bool
+        ensures { IsTrue result ↔ (0 < length self.now.lent) }
+    {
+        self.lent.is_some()
+    }
+
+    /// Lends the parts of the tables, which are as many as the next round has pieces, at most 32.
+    pub fn parts_out(&mut self) -> Vec<Part>
+        requires here { self.old.lent ≡ [] }
+        requires left { length self.old.bound < self.old.k + self.old.k }
+        ensures lent { self.new ≡ record self.old { lent = result.items } }
+        ensures number { length result.items ≡ pieces_of self.old }
+        ensures few { length result.items ≤ 32 }
+    {
+        self.lent = Some(Snapshot::of(&self.working));
+        self.working.lend()
+    }
+
+    /// Takes the parts back, each as it was lent with its first coordinate bound to `r`, and so binds the next coordinate.
+    pub fn parts_in(&mut self, parts: Vec<Part>, r: Ext)
+        requires some { 0 < length self.old.lent }
+        requires left { length self.old.bound < self.old.k + self.old.k }
+        requires folded { parts.items ≡ map (folded_part r) self.old.lent }
+        ensures { self.new ≡ record self.old { bound = self.old.bound ++ r ∷ []; lent = [] } }
+    {
+        self.parts_in_from::<Brand>(parts, r, Blank::new(1));
+    }
+
+    fn parts_in_from<L: Ledger>(&mut self, parts: Vec<Part>, r: Ext, blank: Blank)
+        requires lent { 0 < length self.old.lent }
+        requires left { length self.old.bound < self.old.k + self.old.k }
+        requires folded { parts.items ≡ map (folded_part r) self.old.lent }
+        requires name { blank.name ≡ L.name }
+        requires parts { blank.parts ≡ L.parts }
+        requires some { 0 < L.parts }
+        ensures { self.new ≡ record self.old { bound = self.old.bound ++ r ∷ []; lent = [] } }
+    {
+        let mut steps = Steps::<L>::start(blank);
+        let Some(old) = self.lent.take() else {
+            unreachable!()
+        };
+        self.working.take_back(parts);
+        self.working.close_round(&self.layer, old, r, &mut steps);
+    }
+
+    /// Takes the parts back as they were lent.
+    pub fn parts_back(&mut self, parts: Vec<Part>)
+        requires some { 0 < length self.old.lent }
+        requires same { parts.items ≡ self.old.lent }
+        ensures { self.new ≡ record self.old { lent = [] } }
+    {
+        self.lent = None;
+        self.working.take_back(parts);
     }
 }

@@ -1,35 +1,42 @@
 // The working tables of a layer's sumcheck.
 
-ghost use Rattle.std.specs.Prelude.{◌≡◌, ℕ, ◌≤◌, ◌<◌, ◌+◌, ◌-◌, ◌*◌, ◌^◌, IfOk, IsTrue, [], ◌∷◌, ◌++◌, vec_len, slice_index_or, length, if◌then◌else◌, ◌==◌};
+ghost use Rattle.std.specs.Prelude.{◌≡◌, ◌≢◌, ◌≤◌, ◌<◌, ◌+◌, ◌-◌, ◌*◌, ◌^◌, IfOk, IsTrue, false, [], ◌∷◌, ◌++◌, All, length, if◌then◌else◌, ◌==◌, slice_index_or};
 ghost use Rattle.field_ext.specs.Field.{K, k_ops, zero_k};
 ghost use Rattle.mle_table.specs.Equality.{IsEqTable};
-ghost use Rattle.mle_table.specs.Shape.{AreBase};
-ghost use Rattle.round_tables.specs.Tables.{IsFolded, GathersLeft, GathersRight, pair_at};
-ghost use Rattle.field_ext.specs.Polynomial.{coefficients, value_at};
-ghost use Rattle.field_ext.specs.Sums.{sum_below};
-ghost use Rattle.round_tables.specs.LayerSum.{left_in_phase, part_of_round};
-ghost use Rattle.round_tables.specs.Working.{place_of, IsLayerGates, HasRooms, IsAdvanced, WorksFor, bound_of};
+ghost use Rattle.round_tables.specs.Tables.{GathersLeft, GathersRight};
+ghost use Rattle.round_tables.specs.PartTables.{PartTables, HasSize, flat_table, flat_scales, flat_shifts, AreLaidOut};
+ghost use Rattle.field_ext.specs.Polynomial.{coefficients};
+ghost use Rattle.round_tables.specs.LayerSum.{left_in_phase, half_size, part_of_round};
+ghost use Rattle.round_tables.specs.Working.{place_of, parts_of, IsLayerGates, HasRooms, AreSameRooms, AreFolded, IsAdvanced, WorksFor, bound_of};
 
-use crate::folding::fold_front;
 use crate::gathering::{gather_left, gather_right};
 use crate::layer_gates::{LayerGates, power};
 use crate::operand::{Base, Whole};
-use crate::pairs::pair_sum;
+use crate::part::Part;
+use crate::parts::{PART_VALUES, cut_count, fill_parts, fit_parts, fold_parts, merge_parts};
 use field_ext::Ext;
 use mle_table::fill_equality;
 use std::alloc::{AllocError, Global};
+use std::mem::replace;
+use std::snapshot::Snapshot;
 use std::sync::ledger::Ledger;
 use step_count::Steps;
 
-/// The rooms of both phases, and the challenges bound so far.
+/// The rooms of both phases, and the challenges bound so far. The gates of a phase are gathered into `scales` and `shifts`, and
+/// its tables then stand in `many` parts until each has one value, and from then on in `one`.
 #[derive(Drop)]
 pub(crate) struct Working {
+    pub(crate) alloc: Global,
     pub(crate) challenges: Vec<Ext>,
     pub(crate) count: usize,
     pub(crate) left_equality: Vec<Ext>,
-    pub(crate) table: Vec<Ext>,
     pub(crate) scales: Vec<Ext>,
     pub(crate) shifts: Vec<Ext>,
+    pub(crate) many: Vec<Part>,
+    pub(crate) one: Vec<Part>,
+    pub(crate) merged: bool,
+    // Parts that a narrower layer has no use for.
+    pub(crate) spare: Vec<Part>,
 }
 
 /// How many pairs a table has once `count` of the `2k` challenges are bound.
@@ -58,58 +65,27 @@ fn gather_first(layer: &LayerGates<'_>, values: &[Ext], scales: &mut [Ext], shif
     }
 }
 
-/// Folds a table of `half` pairs, whose values lie in the base field if `base` is true.
-fn fold_table<L: Ledger>(values: &mut [Ext], half: usize, r: Ext, base: bool, steps: &mut Steps<L>)
-    requires pairs { 2 * half ≤ length values.old }
-    requires values { IsTrue base → AreBase values.old }
-    ensures folded { IsFolded k_ops half values.old r values.new }
-    ensures steps { steps.new ≡ steps.old + half }
-{
-    if base {
-        fold_front::<Base, L>(values, half, r, steps);
-    } else {
-        fold_front::<Whole, L>(values, half, r, steps);
-    }
-}
-
-/// The coefficients of the sum of the pairs of a piece, where the table's values lie in the base field if `base` is true.
-fn sum_pairs<L: Ledger>(
-    table: &[Ext],
-    scales: &[Ext],
-    shifts: &[Ext],
-    from: usize,
-    to: usize,
-    base: bool,
-    steps: &mut Steps<L>,
-) -> [Ext; 3]
-    requires ordered { from ≤ to }
-    requires few { to ≤ from + 1024 }
-    requires table { 2 * to ≤ length table.now }
-    requires scales { 2 * to ≤ length scales.now }
-    requires shifts { 2 * to ≤ length shifts.now }
-    requires values { IsTrue base → AreBase table.now }
-    ensures three { length result ≡ 3 }
-    ensures sum { (e : K) → value_at k_ops result e ≡ sum_below k_ops (to - from)
-        (λ j. pair_at k_ops table.now scales.now shifts.now e (from + j)) }
-    ensures steps { steps.new ≡ steps.old + (to - from) }
-{
-    if base {
-        pair_sum::<Base, L>(table, scales, shifts, from, to, steps)
-    } else {
-        pair_sum::<Whole, L>(table, scales, shifts, from, to, steps)
-    }
-}
-
 impl Working {
     /// Rooms for tables of up to so many values.
     pub(crate) fn empty(alloc: Global, values: usize) -> Result<Working, AllocError> {
+        let count = (values / PART_VALUES).max(1);
+        let mut many = Vec::with_capacity(alloc, count)?;
+        for _ in 0..count {
+            many.push(Part::new(alloc, values.min(PART_VALUES))?)?;
+        }
+        let mut one = Vec::with_capacity(alloc, 1)?;
+        one.push(Part::new(alloc, count)?)?;
         Ok(Working {
+            alloc,
             challenges: Vec::with_capacity(alloc, 32)?,
             count: 0,
             left_equality: Vec::with_capacity(alloc, values)?,
-            table: Vec::with_capacity(alloc, values)?,
             scales: Vec::with_capacity(alloc, values)?,
             shifts: Vec::with_capacity(alloc, values)?,
+            many,
+            one,
+            merged: false,
+            spare: Vec::with_capacity(alloc, count)?,
         })
     }
 
@@ -119,74 +95,138 @@ impl Working {
         ensures { IfOk result (λ _. HasRooms k self.new) }
     {
         let size = power(k);
+        let cuts = cut_count(k);
         self.challenges.resize(2 * k, Ext::zero())?;
         self.left_equality.resize(size, Ext::zero())?;
-        self.table.resize(size, Ext::zero())?;
         self.scales.resize(size, Ext::zero())?;
         self.shifts.resize(size, Ext::zero())?;
-        Ok(())
+        fit_parts(
+            self.alloc,
+            &mut self.many,
+            &mut self.spare,
+            power(cuts),
+            power(k - cuts),
+        )?;
+        fit_parts(self.alloc, &mut self.one, &mut self.spare, 1, power(cuts))
     }
 
     /// Begins the first phase in these rooms, with no challenge bound.
-    pub(crate) fn begin(self, layer: &LayerGates<'_>) -> Working
+    pub(crate) fn begin(mut self, layer: &LayerGates<'_>) -> Working
         requires layer { IsLayerGates layer.now }
         requires rooms { HasRooms layer.now.k self }
         ensures works { WorksFor layer.now result }
         ensures bound { bound_of result ≡ [] }
     {
-        let Working {
-            challenges,
-            left_equality,
-            mut table,
-            mut scales,
-            mut shifts,
-            ..
-        } = self;
-        layer.write_values(&mut table);
-        gather_first(layer, &table, &mut scales, &mut shifts);
-        Working {
-            challenges,
-            count: 0,
-            left_equality,
-            table,
-            scales,
-            shifts,
+        gather_first(
+            layer,
+            layer.values.values(),
+            &mut self.scales,
+            &mut self.shifts,
+        );
+        self.count = 0;
+        self.lay_out(layer);
+        self
+    }
+
+    /// Cuts the values of the layer and what was gathered into parts.
+    fn lay_out(&mut self, layer: &LayerGates<'_>)
+        requires layer { IsLayerGates layer.now }
+        requires rooms { HasRooms layer.now.k self.old }
+        ensures rooms { HasRooms layer.now.k self.new }
+        ensures challenges { self.new.challenges ≡ self.old.challenges }
+        ensures count { self.new.count ≡ self.old.count }
+        ensures laid { AreLaidOut layer.now.k layer.now.k (parts_of self.new) }
+        ensures table { flat_table (parts_of self.new) ≡ layer.now.values.now.items }
+        ensures scales { flat_scales (parts_of self.new) ≡ self.old.scales.items }
+        ensures shifts { flat_shifts (parts_of self.new) ≡ self.old.shifts.items }
+    {
+        fill_parts(
+            &mut self.many,
+            power(layer.k - cut_count(layer.k)),
+            layer.values.values(),
+            &self.scales,
+            &self.shifts,
+            layer.base,
+        );
+        self.merged = false;
+    }
+
+    /// The parts in use.
+    pub(crate) fn parts(&self) -> &[Part]
+        ensures { result.now ≡ parts_of self.now }
+    {
+        if self.merged {
+            self.one.as_slice()
+        } else {
+            self.many.as_slice()
         }
     }
 
-    /// Folds the three tables, of `half` pairs each.
-    fn fold<L: Ledger>(&mut self, half: usize, r: Ext, base: bool, steps: &mut Steps<L>)
-        requires base { IsTrue base → AreBase self.old.table.items }
-        requires table { 2 * half ≤ vec_len self.old.table }
-        requires scales { 2 * half ≤ vec_len self.old.scales }
-        requires shifts { 2 * half ≤ vec_len self.old.shifts }
-        ensures table { IsFolded k_ops half self.old.table.items r self.new.table.items }
-        ensures scales { IsFolded k_ops half self.old.scales.items r self.new.scales.items }
-        ensures shifts { IsFolded k_ops half self.old.shifts.items r self.new.shifts.items }
-        ensures rooms { (k : ℕ) → HasRooms k self.old → HasRooms k self.new }
-        ensures challenges { self.new.challenges ≡ self.old.challenges }
-        ensures count { self.new.count ≡ self.old.count }
-        ensures left_equality { self.new.left_equality ≡ self.old.left_equality }
-        ensures steps { steps.new ≡ steps.old + 3 * half }
+    /// Hands out the parts in use.
+    pub(crate) fn lend(&mut self) -> Vec<Part>
+        ensures others { AreSameRooms self.old self.new }
+        ensures parts { result.items ≡ parts_of self.old }
     {
-        fold_table(&mut self.table, half, r, base, steps);
-        fold_front::<Whole, L>(&mut self.scales, half, r, steps);
-        fold_front::<Whole, L>(&mut self.shifts, half, r, steps);
+        let none = Vec::new(self.alloc);
+        if self.merged {
+            replace(&mut self.one, none)
+        } else {
+            replace(&mut self.many, none)
+        }
     }
 
-    /// Notes a challenge as bound, and folds the tables by it.
-    fn advance<L: Ledger>(&mut self, k: usize, r: Ext, base: bool, steps: &mut Steps<L>)
-        requires base { IsTrue base → AreBase self.old.table.items }
-        requires least { 1 ≤ k }
-        requires most { k ≤ 16 }
-        requires rooms { HasRooms k self.old }
-        requires left { self.old.count < k + k }
-        ensures advanced { IsAdvanced k self.old r self.new }
-        ensures steps { steps.new ≡ steps.old + 3 * 2 ^ (left_in_phase k self.old.count - 1) }
+    /// Takes parts in, as those in use.
+    pub(crate) fn take_back(&mut self, parts: Vec<Part>)
+        ensures others { AreSameRooms self.old self.new }
+        ensures parts { parts_of self.new ≡ parts.items }
     {
-        self.fold(pair_count(k, self.count), r, base, steps);
+        if self.merged {
+            self.one = parts;
+        } else {
+            self.many = parts;
+        }
+    }
+
+    /// Folds the parts in use, each of `half` pairs.
+    fn fold<L: Ledger>(&mut self, half: usize, r: Ext, steps: &mut Steps<L>)
+        requires { All (HasSize (2 * half)) (parts_of self.old) }
+        ensures folded { AreFolded self.old r self.new }
+        ensures steps { steps.new ≡ steps.old + 3 * (length (parts_of self.old) * half) }
+    {
+        if self.merged {
+            fold_parts(&mut self.one, half, r, steps);
+        } else {
+            fold_parts(&mut self.many, half, r, steps);
+        }
+    }
+
+    /// Notes a challenge as bound, once the parts are folded by it, and gathers them into one where each has one value.
+    fn advance(&mut self, layer: &LayerGates<'_>, old: Snapshot<Working>, r: Ext)
+        requires layer { IsLayerGates layer.now }
+        requires works { WorksFor layer.now old.value }
+        requires folded { AreFolded old.value r self.old }
+        requires left { old.value.count < layer.now.k + layer.now.k }
+        ensures advanced { IsAdvanced layer.now.k old.value r self.new }
+    {
+        let _ = layer;
+        let _ = old;
         self.challenges[self.count] = r;
         self.count += 1;
+        if self.is_thin() {
+            merge_parts(&self.many, &mut self.one);
+            self.merged = true;
+        }
+    }
+
+    /// Whether there are several parts, the first of which has one value.
+    fn is_thin(&self) -> bool
+        ensures thin { IsTrue result → 1 < length (parts_of self.now) × ((d : PartTables)
+            → length (slice_index_or (parts_of self.now) 0 d).table ≡ 1) }
+        ensures thick { result ≡ false → 1 < length (parts_of self.now) → (d : PartTables)
+            → length (slice_index_or (parts_of self.now) 0 d).table ≢ 1 }
+    {
+        let parts = self.parts();
+        parts.len() > 1 && parts[0].len() == 1
     }
 
     /// Fills the table of the equality polynomial at the left operand's challenges.
@@ -198,30 +238,28 @@ impl Working {
         ensures rooms { HasRooms k self.new }
         ensures challenges { self.new.challenges ≡ self.old.challenges }
         ensures count { self.new.count ≡ self.old.count }
-        ensures table { self.new.table ≡ self.old.table }
-        ensures scales { self.new.scales ≡ self.old.scales }
-        ensures shifts { self.new.shifts ≡ self.old.shifts }
+        ensures parts { parts_of self.new ≡ parts_of self.old }
     {
         let (bound, _) = self.challenges.as_slice().split_at(k);
         fill_equality(&mut self.left_equality, bound);
     }
 
-    /// Begins the second phase: the left operand is bound, and its value is the first of the table.
+    /// Begins the second phase: the left operand is bound, and its value is the one value of the table.
     fn turn<L: Ledger>(&mut self, layer: &LayerGates<'_>, steps: &mut Steps<L>)
         requires layer { IsLayerGates layer.now }
         requires rooms { HasRooms layer.now.k self.old }
-        ensures table { self.new.table.items ≡ layer.now.values.now.items }
+        requires last { AreLaidOut layer.now.k 0 (parts_of self.old) }
+        ensures laid { AreLaidOut layer.now.k layer.now.k (parts_of self.new) }
+        ensures table { flat_table (parts_of self.new) ≡ layer.now.values.now.items }
         ensures gathers { GathersRight K k_ops layer.now.gates.now layer.now.point_equality.items
-            self.old.left_equality.items (slice_index_or self.old.table.items 0 zero_k)
-            self.new.scales.items self.new.shifts.items }
+            self.old.left_equality.items (slice_index_or (flat_table (parts_of self.old)) 0 zero_k)
+            (flat_scales (parts_of self.new)) (flat_shifts (parts_of self.new)) }
         ensures rooms { HasRooms layer.now.k self.new }
         ensures challenges { self.new.challenges ≡ self.old.challenges }
         ensures count { self.new.count ≡ self.old.count }
-        ensures left_equality { self.new.left_equality ≡ self.old.left_equality }
         ensures steps { steps.new ≡ steps.old + length layer.now.gates.now }
     {
-        let value = self.table[0];
-        layer.write_values(&mut self.table);
+        let value = self.parts()[0].table()[0];
         gather_right(
             layer.gates,
             &layer.point_equality,
@@ -231,63 +269,79 @@ impl Working {
             &mut self.shifts,
             steps,
         );
+        self.lay_out(layer);
     }
 
-    /// Whether the table is known to lie in the base field: at the start of a phase it holds the layer's values.
-    fn is_base(&self, layer: &LayerGates<'_>) -> bool
+    /// Ends a round of the first phase that is not its last, once the parts are folded.
+    fn close_left(&mut self, layer: &LayerGates<'_>, old: Snapshot<Working>, r: Ext)
         requires layer { IsLayerGates layer.now }
-        requires works { WorksFor layer.now self.now }
-        ensures { IsTrue result → AreBase self.now.table.items }
-    {
-        if self.count == 0 || self.count == layer.k {
-            return layer.base;
-        }
-        false
-    }
-
-    /// Binds a challenge of the first phase that is not its last.
-    fn bind_left<L: Ledger>(&mut self, layer: &LayerGates<'_>, r: Ext, steps: &mut Steps<L>)
-        requires layer { IsLayerGates layer.now }
-        requires works { WorksFor layer.now self.old }
-        requires left { self.old.count + 1 < layer.now.k }
+        requires works { WorksFor layer.now old.value }
+        requires folded { AreFolded old.value r self.old }
+        requires left { old.value.count + 1 < layer.now.k }
         ensures works { WorksFor layer.now self.new }
-        ensures bound { bound_of self.new ≡ bound_of self.old ++ r ∷ [] }
-        ensures steps { steps.new ≡ steps.old + 3 * 2
-            ^ (left_in_phase layer.now.k self.old.count - 1) }
+        ensures bound { bound_of self.new ≡ bound_of old.value ++ r ∷ [] }
     {
-        let base = self.is_base(layer);
-        self.advance(layer.k, r, base, steps);
+        self.advance(layer, old, r);
     }
 
-    /// Binds the last challenge of the first phase.
-    fn bind_middle<L: Ledger>(&mut self, layer: &LayerGates<'_>, r: Ext, steps: &mut Steps<L>)
+    /// Ends the last round of the first phase, once the parts are folded.
+    fn close_middle<L: Ledger>(
+        &mut self,
+        layer: &LayerGates<'_>,
+        old: Snapshot<Working>,
+        r: Ext,
+        steps: &mut Steps<L>,
+    )
         requires layer { IsLayerGates layer.now }
-        requires works { WorksFor layer.now self.old }
-        requires left { self.old.count + 1 ≡ layer.now.k }
+        requires works { WorksFor layer.now old.value }
+        requires folded { AreFolded old.value r self.old }
+        requires left { old.value.count + 1 ≡ layer.now.k }
         ensures works { WorksFor layer.now self.new }
-        ensures bound { bound_of self.new ≡ bound_of self.old ++ r ∷ [] }
-        ensures steps { steps.new ≡ steps.old + 3 * 2
-            ^ (left_in_phase layer.now.k self.old.count - 1) + length layer.now.gates.now }
+        ensures bound { bound_of self.new ≡ bound_of old.value ++ r ∷ [] }
+        ensures steps { steps.new ≡ steps.old + length layer.now.gates.now }
     {
-        let base = self.is_base(layer);
-        self.advance(layer.k, r, base, steps);
+        self.advance(layer, old, r);
         self.fill_left(layer.k);
         self.turn(layer, steps);
     }
 
-    /// Binds a challenge of the second phase.
-    fn bind_right<L: Ledger>(&mut self, layer: &LayerGates<'_>, r: Ext, steps: &mut Steps<L>)
+    /// Ends a round of the second phase, once the parts are folded.
+    fn close_right(&mut self, layer: &LayerGates<'_>, old: Snapshot<Working>, r: Ext)
         requires layer { IsLayerGates layer.now }
-        requires works { WorksFor layer.now self.old }
-        requires begun { layer.now.k ≤ self.old.count }
-        requires left { self.old.count < layer.now.k + layer.now.k }
+        requires works { WorksFor layer.now old.value }
+        requires folded { AreFolded old.value r self.old }
+        requires begun { layer.now.k ≤ old.value.count }
+        requires left { old.value.count < layer.now.k + layer.now.k }
         ensures works { WorksFor layer.now self.new }
-        ensures bound { bound_of self.new ≡ bound_of self.old ++ r ∷ [] }
-        ensures steps { steps.new ≡ steps.old + 3 * 2
-            ^ (left_in_phase layer.now.k self.old.count - 1) }
+        ensures bound { bound_of self.new ≡ bound_of old.value ++ r ∷ [] }
     {
-        let base = self.is_base(layer);
-        self.advance(layer.k, r, base, steps);
+        self.advance(layer, old, r);
+    }
+
+    /// Ends a round, once the parts are folded by its challenge.
+    pub(crate) fn close_round<L: Ledger>(
+        &mut self,
+        layer: &LayerGates<'_>,
+        old: Snapshot<Working>,
+        r: Ext,
+        steps: &mut Steps<L>,
+    )
+        requires layer { IsLayerGates layer.now }
+        requires works { WorksFor layer.now old.value }
+        requires folded { AreFolded old.value r self.old }
+        requires left { old.value.count < layer.now.k + layer.now.k }
+        ensures works { WorksFor layer.now self.new }
+        ensures bound { bound_of self.new ≡ bound_of old.value ++ r ∷ [] }
+        ensures steps { steps.new ≡ steps.old
+            + (if old.value.count + 1 == layer.now.k then length layer.now.gates.now else 0) }
+    {
+        if self.count + 1 < layer.k {
+            self.close_left(layer, old, r);
+        } else if self.count + 1 == layer.k {
+            self.close_middle(layer, old, r, steps);
+        } else {
+            self.close_right(layer, old, r);
+        }
     }
 
     /// Binds the next challenge.
@@ -301,43 +355,31 @@ impl Working {
             ≡ steps.old + (3 * 2 ^ (left_in_phase layer.now.k self.old.count - 1)
             + (if self.old.count + 1 == layer.now.k then length layer.now.gates.now else 0)) }
     {
-        if self.count + 1 < layer.k {
-            self.bind_left(layer, r, steps);
-        } else if self.count + 1 == layer.k {
-            self.bind_middle(layer, r, steps);
-        } else {
-            self.bind_right(layer, r, steps);
-        }
+        let old = Snapshot::of(self);
+        let half = self.parts()[0].len() / 2;
+        self.fold(half, r, steps);
+        self.close_round(layer, old, r, steps);
     }
 
-    /// The coefficients of 1, X and X² of the part of the next round in which the pairs are those from `from` to before `to`.
-    pub(crate) fn part<L: Ledger>(
+    /// The coefficients of 1, X and X² of the sum of the pairs of a part.
+    pub(crate) fn part_sum<L: Ledger>(
         &self,
         layer: &LayerGates<'_>,
-        from: usize,
-        to: usize,
+        number: usize,
         steps: &mut Steps<L>,
     ) -> [Ext; 3]
         requires layer { IsLayerGates layer.now }
         requires works { WorksFor layer.now self.now }
         requires left { self.now.count < layer.now.k + layer.now.k }
-        requires ordered { from ≤ to }
-        requires few { to ≤ from + 1024 }
-        requires within { to ≤ 2 ^ (left_in_phase layer.now.k self.now.count - 1) }
-        ensures part { result ≡ coefficients k_ops 3 (part_of_round k_ops layer.now.k
+        requires within { number < length (parts_of self.now) }
+        ensures part { let half = half_size layer.now.k self.now.count in
+            result ≡ coefficients k_ops 3 (part_of_round k_ops layer.now.k
             layer.now.gates.now layer.now.values.now.items (place_of layer.now)
-            (bound_of self.now) from to) }
-        ensures steps { steps.new ≡ steps.old + (to - from) }
+            (bound_of self.now) (number * half) (number * half + half)) }
+        ensures steps { steps.new ≡ steps.old + half_size layer.now.k self.now.count }
     {
-        let base = self.is_base(layer);
-        sum_pairs(
-            &self.table,
-            &self.scales,
-            &self.shifts,
-            from,
-            to,
-            base,
-            steps,
-        )
+        let _ = layer;
+        let part = &self.parts()[number];
+        part.pair_sum(part.len() / 2, steps)
     }
 }

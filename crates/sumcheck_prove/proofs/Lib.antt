@@ -1,2 +1,4 @@
 pub mod Summing
 pub mod Ahead
+pub mod FoldedParts
+pub mod Crossing

@@ -1,5 +1,5 @@
 -- The sum of the pieces' messages is the round's
-use Rattle.std.proofs.Common.{◌≡◌, ℕ, ◌+◌, ◌*◌, min, List, [], ◌∷◌, length, get_or, refl, sym, ◌∙◌, ap, ap₂, arith, add-one}
+use Rattle.std.proofs.Common.{◌≡◌, ℕ, ◌+◌, ◌*◌, List, [], ◌∷◌, length, get_or, refl, sym, ◌∙◌, ap, ap₂, arith, add-one}
 use Rattle.field_ext.specs.Ring.{Ops, Laws}
 use Rattle.field_ext.specs.Field.{K, k_ops, add_k}
 use Rattle.field_ext.proofs.KLaws.{k_laws}
@@ -7,7 +7,7 @@ use Rattle.field_ext.specs.Polynomial.{value_at, coefficients}
 use Rattle.field_ext.proofs.Solve.{var, nil, ◌⊕◌, ◌⊗◌, solve}
 use Rattle.field_ext.specs.Sums.{sum_below}
 use Rattle.gkr_layers.proofs.Coefficients.{length-coefficients, value-coefficients}
-use Rattle.round_tables.specs.LayerSum.{LayerSum, piece_poly, pairs_of}
+use Rattle.round_tables.specs.LayerSum.{LayerSum, piece_poly, piece_pairs}
 use Rattle.round_tables.proofs.PartDegree.{length-part}
 
 pub three : {A : Type 0} (xs : List A) (x y z : A) → length xs ≡ 3 → x ≡ get_or xs 0 x → y ≡ get_or xs 1 y → z ≡ get_or xs 2 z → xs ≡ x ∷ y ∷ z ∷ []
@@ -35,7 +35,7 @@ piece_added s piece sum x y z p q r x' y' z' e is hp hq hr hx hy hz before =
     let size : length sum ≡ 3 = ap length is ∙ length-coefficients k_ops 3 (piece_poly s piece) in
     let here : value_at k_ops (p ∷ q ∷ r ∷ []) e ≡ value_at k_ops (piece_poly s piece) e =
     ap (λ (xs : List K). value_at k_ops xs e) (sym (three sum p q r size hp hq hr) ∙ is)
-    ∙ value-coefficients k_ops k_laws 3 (piece_poly s piece) e (length-part k_ops s.k s.gates s.values s.place s.bound (1024 * piece) (min (1024 * piece + 1024) (pairs_of s))) in
+    ∙ value-coefficients k_ops k_laws 3 (piece_poly s piece) e (length-part k_ops s.k s.gates s.values s.place s.bound (piece * piece_pairs s) (piece * piece_pairs s + piece_pairs s)) in
     (λ i. value_at k_ops (hx i ∷ hy i ∷ hz i ∷ []) e)
     ∙ added k_ops k_laws x y z p q r e
     ∙ ap₂ add_k before here

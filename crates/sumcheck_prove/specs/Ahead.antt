@@ -6,7 +6,8 @@ use Rattle.field_ext.specs.Field.{K, k_ops}
 use Rattle.field_ext.specs.Polynomial.{coefficients}
 use Rattle.round_tables.specs.LayerSum.{LayerSum, pieces_of, piece_poly}
 
-abbrev pub message_of : LayerSum → ℕ → List K
+-- the message of a piece
+unfoldable pub message_of : LayerSum → ℕ → List K
 message_of s piece = coefficients k_ops 3 (piece_poly s piece)
 
 -- nothing is summed ahead, or each piece is, in order

@@ -1,8 +1,8 @@
-//! The prover's message of a round of sumcheck.
+//! The prover's message of a round of sumcheck, and the binding of its coordinate.
 //!
 //! The message is the true polynomial of the round, of degree at most 2, as its three coefficients: the sum of what the
-//! pieces of the round give, which workers claim and sum in any order. Source: Thaler, "Proofs, Arguments, and
-//! Zero-Knowledge", 4.1 and 4.6.
+//! pieces of the round give, which workers claim and sum in any order; wide tables are folded by workers, too. Source: Thaler,
+//! "Proofs, Arguments, and Zero-Knowledge", 4.1 and 4.6.
 //!
 //! A round, with the verifier of `sumcheck_verify`:
 //!
@@ -11,11 +11,13 @@
 //! let message = round(rt, alloc, &tables, 4, &OpenGate)?;    // the prover: coefficients of 1, X and X²
 //! rounds.take(message)?;                                     // the verifier: a SumFault where the sum is wrong
 //! rounds.bind(challenge);                                    // both bind the round's coordinate
-//! tables.bind(challenge);
+//! bind_round(rt, alloc, &mut tables, challenge, 4, &OpenGate)?;
 //! ```
 #![tactic(auto)]
 
+mod binding;
 mod message;
 mod pieces;
 
+pub use binding::bind_round;
 pub use message::round;

@@ -1,6 +1,6 @@
 // The pieces of a round as work.
 
-ghost use Rattle.std.specs.Prelude.{◌<◌, ◌+◌, length};
+ghost use Rattle.std.specs.Prelude.{◌≡◌, ◌<◌, ◌+◌, [], length};
 
 use field_ext::Ext;
 use phase_run::PieceWork;
@@ -11,21 +11,21 @@ use std::alloc::{AllocError, Global};
 #[derive(Drop)]
 pub(crate) struct PieceSums<'a, 'b> {
     pub(crate) tables: &'a GateTables<'b>,
-    ghost left: { length tables.now.bound < tables.now.k + tables.now.k },
+    ghost ready: { (tables.now.lent ≡ []) × (length tables.now.bound < tables.now.k + tables.now.k) },
 }
 
 impl<'a, 'b> PieceWork for PieceSums<'a, 'b> {
-    ghost use Rattle.field_ext.specs.Field.{k_ops};
-    ghost use Rattle.field_ext.specs.Polynomial.{coefficients};
-    ghost use Rattle.round_tables.specs.LayerSum.{pieces_of, piece_poly};
+    ghost use Rattle.round_tables.specs.LayerSum.{pieces_of};
+    ghost use Rattle.sumcheck_prove.specs.Ahead.{message_of};
 
     type Out = [Ext; 3];
 
-    ghost out_of = { λ work piece. coefficients k_ops 3 (piece_poly work.tables.now piece) };
+    ghost out_of = { λ work piece. message_of work.tables.now piece };
 
     ghost pieces = { λ work. pieces_of work.tables.now };
 
     /// The coefficients of 1, X and X² of a piece. It takes no memory.
+    #[tactic(auto, unfolding(crate::specs::Ahead::message_of))]
     fn work(&self, _alloc: Global, k: u32) -> Result<[Ext; 3], AllocError> {
         Ok(self.tables.piece_sum(k as usize))
     }

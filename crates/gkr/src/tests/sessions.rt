@@ -266,7 +266,7 @@ fn works_each_piece_of_a_session_once(rt: HostRuntime) -> Result<(), Fail> {
     let gate = CountingGate::new(2);
     let said = done(&rt, &["gkr", "session", "--piece", "100"], &text, &gate)?;
     assert_eq!(rt; said.as_slice(), reply.as_slice());
-    assert_eq!(rt; gate.entries(), 192);
+    assert_eq!(rt; gate.entries(), 270);
     let gate = MeetingGate::new(2);
     let words = ["gkr", "session", "--piece", "65536", "--workers", "2"];
     let said = done(&rt, &words, &text, &gate)?;

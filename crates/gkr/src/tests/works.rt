@@ -80,14 +80,14 @@ fn demonstrates_the_same_by_any_number_of_workers(rt: HostRuntime) -> Result<(),
     Ok(())
 }
 
-/// The rounds of layers 0 to 11 have 158 pieces, none of which has a number above 1; those of layer 12 have 34, and its first
-/// round has four.
+/// The rounds of layers 0 to 11 have 178 pieces, none of which has a number above 1. Those of layer 12 have 92: the tables of each
+/// of its two phases have four parts in the first 11 rounds, and one in the last two.
 #[test]
 fn works_each_piece_once(rt: HostRuntime) -> Result<(), Fail> {
     let gate = CountingGate::new(2);
     done(&rt, &["gkr", "prove"], &sum_case(rt.alloc())?, &gate)?;
-    assert_eq!(rt; gate.entries(), 192);
-    assert_eq!(rt; gate.first(), 161);
+    assert_eq!(rt; gate.entries(), 270);
+    assert_eq!(rt; gate.first(), 181);
     assert_eq!(rt; gate.greatest(), 3);
     Ok(())
 }

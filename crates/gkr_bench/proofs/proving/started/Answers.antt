@@ -1,5 +1,5 @@
 -- A layer of the circuit, and a table of the layer below, can be summed over
-use Rattle.std.proofs.Common.{◌≡◌, ◌+◌, ◌^◌, ◌<◌, ◌≤◌, ℕ, List, [], length, get_or, All, arith, ◌∙◌, ap, sym}
+use Rattle.std.proofs.Common.{◌≡◌, ◌^◌, ◌<◌, ◌≤◌, ℕ, List, [], length, get_or, All, arith, ◌∙◌, ap, sym}
 use Rattle.circuit_core.specs.declared.gate.CircuitGate.{CircuitGate}
 use Rattle.circuit_core.specs.Parts.{IsOver, height}
 use Rattle.circuit_core.specs.Sound.{SoundCircuit, exponent_at}

@@ -3,7 +3,6 @@ use Rattle.std.proofs.Common.{◌≡◌, ℕ, ◌+◌, ◌++◌, List, [], ◌�
 use Rattle.std.proofs.lemmas.List.{length-map}
 use Rattle.field_ext.specs.Field.{K, k_ops}
 use Rattle.field_ext.specs.Polynomial.{coefficients}
-use Rattle.wiring_poly.proofs.Identity.{take-front}
 use Rattle.gkr_layers.proofs.Coefficients.{length-coefficients}
 use Rattle.gkr_layers.specs.Forms.{last_polynomial, place_between}
 use Rattle.gkr_layers.specs.Standing.{place_of}
@@ -52,8 +51,8 @@ returns-clause-honest g c =
     let drawn = c.in_ok-messages.field-0.drawn in
     let qs : List (List K) = round_messages c.in_ok-messages.field-0.messages.items in
     let rs : List K = c.in_ok-messages.field-0.drawn.items in
-    let sum : LayerSum = record { k = c.args.values.now.k; gates = c.args.gates.now; values = c.args.values.now.items; place = place_of c.args.place.now; bound = [] } in
-    let is : c.in_ok-tables.tables ≡ sum = λ i. record { k = started.k i; gates = started.gates i; values = started.values i; place = started.place i; bound = started.bound i } in
+    let sum : LayerSum = record { k = c.args.values.now.k; gates = c.args.gates.now; values = c.args.values.now.items; place = place_of c.args.place.now; bound = []; lent = [] } in
+    let is : c.in_ok-tables.tables ≡ sum = λ i. record { k = started.k i; gates = started.gates i; values = started.values i; place = started.place i; bound = started.bound.0 i; lent = started.bound.1 i } in
     let honest : AreHonestRounds c.args.values.now.k c.args.gates.now c.args.values.now.items (place_of c.args.place.now) (c.args.values.now.k + c.args.values.now.k) qs rs =
     subst (λ (t : LayerSum). AreHonestRounds t.k t.gates t.values t.place (t.k + t.k) qs rs) is rounds.honest in
     coe 0 1 (j. IsHonestLayer c.args.form k c.args.gates.now c.args.values.now.items (place_of c.args.place.now) (round_messages (sym c.of.ensures j) ++ sym c.of-2.ensures j ∷ []) (draws source s (round_messages (sym c.of.ensures j) ++ sym c.of-2.ensures j ∷ []))) (

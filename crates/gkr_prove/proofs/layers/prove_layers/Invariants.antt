@@ -1,5 +1,5 @@
 -- Where the layers that are left are proved honestly behind these messages, all are
-use Rattle.std.proofs.Common.{◌≡◌, List, ◌++◌, length, IsTrue}
+use Rattle.std.proofs.Common.{◌≡◌, List, ◌++◌, IsTrue}
 use Rattle.field_ext.specs.Field.{F, K}
 use Rattle.circuit_core.specs.Sound.{exponent_at}
 use Rattle.circuit_eval.specs.Tables.{AreTables}

@@ -13,7 +13,6 @@ use Rattle.gkr_layers.proofs.Shapes.{have_circuit_shape}
 use Rattle.gkr_prove.proofs.prover.prove_as.Goals as goal
 use Rattle.gkr_layers.specs.Places.{IsOver}
 use Rattle.gkr_layers.specs.Places.Place.{At}
-use Rattle.gkr_prove.specs.Kept.{kept_place}
 
 pub draw_point-requires : goal.draw_point-requires
 draw_point-requires g c =

@@ -38,7 +38,7 @@ loop-number-preserved g c =
     let size' : length rs ≡ c.loop-number._number = sym c.loop-number.drawn.ok.0 ∙ before.challenges in
     record {
       all = before.all;
-      tables = c.bind.ensures ∙ (λ i. record (T i) { bound = (T i).bound ++ r ∷ [] }) ∙ (λ i. record sum { bound = sym drew i });
+      tables = c.in_ok-bind_round.ensures.bound ∙ (λ i. record (T i) { bound = (T i).bound ++ r ∷ [] }) ∙ (λ i. record sum { bound = sym drew i });
       messages = omega (arith, c.in_ok-push.ensures.len);
       challenges = omega (arith, c.in_ok-push-2.ensures.len);
       honest = rw (noted, drew) (rounds_more sum.k sum.gates sum.values sum.place c.loop-number._number qs rs q r size size' message before.honest);

@@ -34,7 +34,8 @@ returns g c inputs tables =
       gates = (started.gates ∙ c.gates.ensures.value) j;
       values = (started.values ∙ table_values p inputs c.args.values.now (i + 1) c.table-table.result.now.items tables v c.table-table.ensures) j;
       place = started.place j;
-      bound = started.bound j;
+      bound = started.bound.0 j;
+      lent = started.bound.1 j;
     } in
     record {
       layer_is = refl;

@@ -18,6 +18,9 @@ send-requires-clause-most g c =
     let e = table_exponent c.args.circuit.now c.requires.values.0 c.args.values.now (c.args.layer + 1) c.table.result.now c.requires.values.1 (omega (arith, c.requires.layer)) c.table.ensures in
     omega (arith, e, (size_of c.args.circuit.now (c.args.layer + 1) (omega (arith, c.requires.layer))).2)
 
+pub send-requires-clause-here : goal.send-requires-clause-here
+send-requires-clause-here g c κs within = ap (λ (t : LayerSum). t.lent) c.bind.ensures ∙ c.requires.here
+
 pub send-requires-clause-k : goal.send-requires-clause-k
 send-requires-clause-k g c κs within =
     let e = table_exponent c.args.circuit.now c.requires.values.0 c.args.values.now (c.args.layer + 1) c.table.result.now c.requires.values.1 (omega (arith, c.requires.layer)) c.table.ensures in

@@ -7,6 +7,7 @@ use Rattle.circuit_core.proofs.Faultless.{height_bounds, none_from_test}
 use Rattle.circuit_core.specs.Parts.{height}
 use Rattle.circuit_core.specs.Sound.{exponent_at}
 use Rattle.gkr_layers.specs.Places.Place.{At}
+use Rattle.round_tables.specs.LayerSum.{LayerSum}
 use Rattle.live_session.specs.Begun.{message_due}
 use Rattle.live_session.specs.ProverState.{IsStage, IsWithin, tables_at}
 use Rattle.live_session.proofs.CourseSteps.{begun, stands_in, within_at}
@@ -46,6 +47,12 @@ returns-in-After g c inputs tables =
     let after = subst (IsStage c.args.circuit.now.parts inputs (take c.args.u c.args.words.now) o.layer o.base o.sent.items) c.in-After.is (c.requires.stands inputs tables) in
     absurd (omega (arith, after.all, length-take c.args.u c.args.words.now, c.requires.there, c.requires.few))
 
+pub rounds_left-requires : goal.rounds_left-requires
+rounds_left-requires g c =
+    let o = c.args.course in
+    let is = subst (IsStage c.args.circuit.now.parts c.requires.values.0 (take c.args.u c.args.words.now) o.layer o.base o.sent.items) c.in-Within.is (c.requires.stands c.requires.values.0 c.requires.values.1) in
+    ap (λ (t : LayerSum). t.lent) is.tables_are
+
 pub bind-requires-clause-stands : goal.bind-requires-clause-stands
 bind-requires-clause-stands g c κs within =
     let o = c.args.course in
@@ -56,6 +63,12 @@ bind-requires-clause-layer g c κs within =
     let o = c.args.course in
     let is = subst (IsStage c.args.circuit.now.parts c.requires.values.0 (take c.args.u c.args.words.now) o.layer o.base o.sent.items) c.in-Within.is (c.requires.stands c.requires.values.0 c.requires.values.1) in
     is.above
+
+pub bind-requires-clause-here : goal.bind-requires-clause-here
+bind-requires-clause-here g c κs within =
+    let o = c.args.course in
+    let is = subst (IsStage c.args.circuit.now.parts c.requires.values.0 (take c.args.u c.args.words.now) o.layer o.base o.sent.items) c.in-Within.is (c.requires.stands c.requires.values.0 c.requires.values.1) in
+    ap (λ (t : LayerSum). t.lent) is.tables_are
 
 pub bind-requires-clause-at : goal.bind-requires-clause-at
 bind-requires-clause-at g c κs within =
@@ -73,6 +86,12 @@ descend-requires-clause-layer g c κs within =
     let o = c.args.course in
     let is = subst (IsStage c.args.circuit.now.parts c.requires.values.0 (take c.args.u c.args.words.now) o.layer o.base o.sent.items) c.in-Within.is (c.requires.stands c.requires.values.0 c.requires.values.1) in
     is.above
+
+pub descend-requires-clause-here : goal.descend-requires-clause-here
+descend-requires-clause-here g c κs within =
+    let o = c.args.course in
+    let is = subst (IsStage c.args.circuit.now.parts c.requires.values.0 (take c.args.u c.args.words.now) o.layer o.base o.sent.items) c.in-Within.is (c.requires.stands c.requires.values.0 c.requires.values.1) in
+    ap (λ (t : LayerSum). t.lent) is.tables_are
 
 pub descend-requires-clause-at : goal.descend-requires-clause-at
 descend-requires-clause-at g c κs within =

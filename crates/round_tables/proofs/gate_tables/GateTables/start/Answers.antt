@@ -28,5 +28,6 @@ returns c =
       gates = (made.gates ∙ c.gates-gates.ensures.value) i;
       values = (made.values ∙ c.table-table.ensures) i;
       place = made.place i;
-      bound = made.bound i;
+      bound = made.bound.0 i;
+      lent = made.bound.1 i;
     }

@@ -1,23 +1,118 @@
--- The pairs of a round fit the tables
-use Rattle.std.proofs.Common.{◌^◌, ◌-◌, ◌*◌, ◌≤◌, vec_len}
+-- The parts are folded, and gathered into one where each has one value
+use Rattle.std.proofs.Common.{◌≡◌, ◌≢◌, ℕ, ◌+◌, ◌-◌, ◌^◌, ◌<◌, [], ◌++◌, length, take, drop, get_or, refl, sym, ◌∙◌, ap, arith, subst, All}
+use Rattle.std.proofs.lemmas.List.{length-map}
 use Rattle.round_tables.specs.LayerSum.{left_in_phase}
-use Rattle.round_tables.proofs.PhaseSteps.{half_fits}
+use Rattle.round_tables.specs.PartTables.{PartTables, HasSize, HasRoom, folded_part, cuts, flat_table, flat_scales, flat_shifts, AreLaidOut}
+use Rattle.round_tables.specs.Working.{parts_of, HasRooms}
+use Rattle.round_tables.proofs.PhaseSteps.{some_left, written_back}
+use Rattle.round_tables.proofs.LaidOut.{half, sizes-folded, flat-folded, laid-folded, laid-merged}
+use Rattle.round_tables.proofs.Advances.{is-true, in-many-parts, spread-many, rooms-folded, noted}
 use Rattle.round_tables.proofs.working.Working.advance.Goals as goal
 
-pub fold-requires-clause-table : goal.fold-requires-clause-table
-fold-requires-clause-table g c =
-    let h : 2 * 2 ^ (left_in_phase c.args.k c.args.self.now.count - 1) ≤ vec_len c.args.self.now.table =
-    half_fits c.args.k c.args.self.now.count (vec_len c.args.self.now.table) c.requires.least c.requires.left c.requires.rooms.table in
-    rw c.pair_count.ensures h
+pub merge_parts-requires-clause-sizes : goal.merge_parts-requires-clause-sizes
+merge_parts-requires-clause-sizes c =
+    let k = c.args.layer.now.k in
+    let r = c.args.r in
+    let old = c.args.old.value in
+    let self = c.args.self.now in
+    let m = left_in_phase k old.count in
+    let works = c.requires.works in
+    let laid = works.laid in
+    let ps = parts_of old in
+    let some : 0 < m = omega (arith, some_left k old.count old.count refl c.requires.left) in
+    let h : ℕ = half k m ps some laid in
+    let rooms : HasRooms k self = rooms-folded k old self r works.rooms c.requires.folded in
+    let sizes : All (HasSize h) (parts_of self) = subst (All (HasSize h)) (sym c.requires.folded.parts) (sizes-folded k m ps some laid r) in
+    let many : length (parts_of self) ≡ length ps = ap length c.requires.folded.parts ∙ length-map ps (folded_part r) in
+    let none : PartTables = record { table = []; scales = []; shifts = []; room = 0 } in
+    let first : 0 < length (parts_of self) → length (get_or (parts_of self) 0 none).table ≡ h = λ u. (sizes 0 none u).table in
+    let thin = c.is_thin.ensures.thin (is-true c.is_thin.result c.if-is_thin.true) in
+    let own = in-many-parts self (spread-many k self rooms thin.0) in
+    let one : h ≡ 1 = sym (first (let more = thin.0 in omega arith)) ∙ thin.1 none in
+    subst (All (HasSize 1)) (own ∙ sym c.deref.ensures.value) (subst (λ (n : ℕ). All (HasSize n) (parts_of self)) one sizes)
 
-pub fold-requires-clause-scales : goal.fold-requires-clause-scales
-fold-requires-clause-scales g c =
-    let h : 2 * 2 ^ (left_in_phase c.args.k c.args.self.now.count - 1) ≤ vec_len c.args.self.now.scales =
-    half_fits c.args.k c.args.self.now.count (vec_len c.args.self.now.scales) c.requires.least c.requires.left c.requires.rooms.scales in
-    rw c.pair_count.ensures h
+pub returns-then-is_thin : goal.returns-then-is_thin
+returns-then-is_thin c =
+    let k = c.args.layer.now.k in
+    let r = c.args.r in
+    let old = c.args.old.value in
+    let self = c.args.self.now in
+    let m = left_in_phase k old.count in
+    let works = c.requires.works in
+    let laid = works.laid in
+    let ps = parts_of old in
+    let some : 0 < m = omega (arith, some_left k old.count old.count refl c.requires.left) in
+    let h : ℕ = half k m ps some laid in
+    let rooms : HasRooms k self = rooms-folded k old self r works.rooms c.requires.folded in
+    let sizes : All (HasSize h) (parts_of self) = subst (All (HasSize h)) (sym c.requires.folded.parts) (sizes-folded k m ps some laid r) in
+    let many : length (parts_of self) ≡ length ps = ap length c.requires.folded.parts ∙ length-map ps (folded_part r) in
+    let none : PartTables = record { table = []; scales = []; shifts = []; room = 0 } in
+    let first : 0 < length (parts_of self) → length (get_or (parts_of self) 0 none).table ≡ h = λ u. (sizes 0 none u).table in
+    let thin = c.is_thin.ensures.thin (is-true c.is_thin.result c.if-is_thin.true) in
+    let own = in-many-parts self (spread-many k self rooms thin.0) in
+    let one : h ≡ 1 = sym (first (let more = thin.0 in omega arith)) ∙ thin.1 none in
+    let merged = c.merge_parts.ensures in
+    let back : take self.one.len (c.merge_parts.new.one ++ drop (length c.merge_parts.new.one) self.one.items) ≡ c.merge_parts.new.one = written_back self.one.items c.merge_parts.new.one self.one.len (omega (arith, merged.some, rooms.one, self.one.ok.0)) in
+    let whole : c.deref.result.now ≡ parts_of self = c.deref.ensures.value ∙ sym own in
+    let number : length c.deref.result.now ≡ length ps = ap length whole ∙ many in
+    let more : 1 < length ps = omega (arith, thin.0, many) in
+    let all : length c.deref.result.now ≡ 2 ^ cuts k = ap length c.deref.ensures.value ∙ rooms.many in
+    record {
+      advanced = record {
+        rooms = record {
+          challenges = rooms.challenges;
+          left_equality = rooms.left_equality;
+          scales = rooms.scales;
+          shifts = rooms.shifts;
+          many = rooms.many;
+          many_room = rooms.many_room;
+          one = ap length back ∙ merged.some;
+          one_room = subst (All (HasRoom (2 ^ cuts k))) (sym back) (subst (λ (n : ℕ). All (HasRoom n) c.merge_parts.new.one) all merged.rooms);
+        };
+        bound = noted old self r (k + k) works.rooms.challenges c.requires.left c.requires.folded.others;
+        count = ap (λ (n : ℕ). n + 1) c.requires.folded.others.count;
+        laid = subst (AreLaidOut k (m - 1)) (sym back) (laid-merged k m ps some laid r c.merge_parts.new.one more one merged.some (subst (λ (n : ℕ). All (HasSize n) c.merge_parts.new.one) number merged.sizes));
+        table = ap flat_table back ∙ merged.table ∙ ap flat_table (whole ∙ c.requires.folded.parts) ∙ flat-folded k m ps some laid (λ p. p.table) r (λ p. refl) (λ n p h. h.table);
+        scales = ap flat_scales back ∙ merged.scales ∙ ap flat_scales (whole ∙ c.requires.folded.parts) ∙ flat-folded k m ps some laid (λ p. p.scales) r (λ p. refl) (λ n p h. h.scales);
+        shifts = ap flat_shifts back ∙ merged.shifts ∙ ap flat_shifts (whole ∙ c.requires.folded.parts) ∙ flat-folded k m ps some laid (λ p. p.shifts) r (λ p. refl) (λ n p h. h.shifts);
+      };
+    }
 
-pub fold-requires-clause-shifts : goal.fold-requires-clause-shifts
-fold-requires-clause-shifts g c =
-    let h : 2 * 2 ^ (left_in_phase c.args.k c.args.self.now.count - 1) ≤ vec_len c.args.self.now.shifts =
-    half_fits c.args.k c.args.self.now.count (vec_len c.args.self.now.shifts) c.requires.least c.requires.left c.requires.rooms.shifts in
-    rw c.pair_count.ensures h
+pub returns : goal.returns
+returns c =
+    let k = c.args.layer.now.k in
+    let r = c.args.r in
+    let old = c.args.old.value in
+    let self = c.args.self.now in
+    let m = left_in_phase k old.count in
+    let works = c.requires.works in
+    let laid = works.laid in
+    let ps = parts_of old in
+    let some : 0 < m = omega (arith, some_left k old.count old.count refl c.requires.left) in
+    let h : ℕ = half k m ps some laid in
+    let rooms : HasRooms k self = rooms-folded k old self r works.rooms c.requires.folded in
+    let sizes : All (HasSize h) (parts_of self) = subst (All (HasSize h)) (sym c.requires.folded.parts) (sizes-folded k m ps some laid r) in
+    let many : length (parts_of self) ≡ length ps = ap length c.requires.folded.parts ∙ length-map ps (folded_part r) in
+    let none : PartTables = record { table = []; scales = []; shifts = []; room = 0 } in
+    let first : 0 < length (parts_of self) → length (get_or (parts_of self) 0 none).table ≡ h = λ u. (sizes 0 none u).table in
+    let thick : 1 < length ps → h ≢ 1 = λ more one. let u : 1 < length (parts_of self) = omega (arith, many, more) in c.is_thin.ensures.thick c.if-is_thin.false u none (first (omega arith) ∙ one) in
+    record {
+      advanced = record {
+        rooms = record {
+          challenges = rooms.challenges;
+          left_equality = rooms.left_equality;
+          scales = rooms.scales;
+          shifts = rooms.shifts;
+          many = rooms.many;
+          many_room = rooms.many_room;
+          one = rooms.one;
+          one_room = rooms.one_room;
+        };
+        bound = noted old self r (k + k) works.rooms.challenges c.requires.left c.requires.folded.others;
+        count = ap (λ (n : ℕ). n + 1) c.requires.folded.others.count;
+        laid = subst (AreLaidOut k (m - 1)) (sym c.requires.folded.parts) (laid-folded k m ps some laid r thick);
+        table = ap flat_table c.requires.folded.parts ∙ flat-folded k m ps some laid (λ p. p.table) r (λ p. refl) (λ n p h. h.table);
+        scales = ap flat_scales c.requires.folded.parts ∙ flat-folded k m ps some laid (λ p. p.scales) r (λ p. refl) (λ n p h. h.scales);
+        shifts = ap flat_shifts c.requires.folded.parts ∙ flat-folded k m ps some laid (λ p. p.shifts) r (λ p. refl) (λ n p h. h.shifts);
+      };
+    }

@@ -1,0 +1,7 @@
+-- The parts passed have room
+use Rattle.std.proofs.Common.{take, All}
+use Rattle.round_tables.specs.PartTables.{HasRoom}
+use Rattle.round_tables.proofs.parts.fit_each.Given as goal
+
+abbrev pub invariant-loop-i : goal.invariant-loop-i
+invariant-loop-i l = All (HasRoom l.room) (take l.i l.parts)

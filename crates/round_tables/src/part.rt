@@ -1,0 +1,228 @@
+//! A part of a phase's tables.
+
+ghost use Rattle.std.specs.Prelude.{◌≡◌, ℕ, ◌≤◌, ◌<◌, ◌+◌, ◌*◌, ◌/◌, IfOk, IsTrue, [], ◌++◌, All, length, slice_index_or, vec_capacity};
+ghost use Rattle.field_ext.specs.Field.{K, k_ops, zero_k};
+ghost use Rattle.field_ext.specs.Polynomial.{value_at};
+ghost use Rattle.field_ext.specs.Sums.{sum_below};
+ghost use Rattle.mle_table.specs.Shape.{AreBase};
+ghost use Rattle.round_tables.specs.Tables.{pair_at};
+ghost use Rattle.round_tables.specs.PartTables.{HasSize, flat_table, flat_scales, flat_shifts, folded_part, halved, part_pairs};
+
+use crate::folding::fold_front;
+use crate::operand::{Base, Operand, Whole};
+use crate::pairs::pair_sum;
+use field_ext::Ext;
+use std::alloc::{AllocError, Global};
+use std::marker::{Brand, Model};
+use std::sync::ledger::{Blank, Ledger};
+use step_count::Steps;
+
+/// The same range of a phase's three tables, in room of its own, so that it can be worked by itself.
+#[derive(Drop)]
+pub struct Part {
+    table: Vec<Ext>,
+    scales: Vec<Ext>,
+    shifts: Vec<Ext>,
+    room: usize,
+    // Whether the table's values are known to lie in the base field.
+    base: bool,
+}
+
+impl Model for Part {
+    ghost use Rattle.std.specs.Prelude.{◌≤◌, IsTrue, vec_capacity};
+    ghost use Rattle.mle_table.specs.Shape.{AreBase};
+    ghost use Rattle.round_tables.specs.PartTables.{PartTables};
+
+    ghost Value = { PartTables };
+
+    ghost view = { λ p. record {
+      table = p.table.items;
+      scales = p.scales.items;
+      shifts = p.shifts.items;
+      room = p.room;
+    } };
+
+    ghost invariant = { λ p. (p.room ≤ vec_capacity p.table) × (p.room ≤ vec_capacity p.scales)
+        × (p.room ≤ vec_capacity p.shifts) × (IsTrue p.base → AreBase p.table.items) };
+}
+
+/// Folds a table, whose values lie in the base field where V says so, and keeps the front half. One of a single value stays.
+fn halve<V: Operand, L: Ledger>(values: &mut Vec<Ext>, r: Ext, steps: &mut Steps<L>)
+    requires values { (i : ℕ) → V.holds (slice_index_or values.old.items i zero_k) }
+    ensures halved { values.new.items ≡ halved r values.old.items }
+    ensures room { vec_capacity values.new ≡ vec_capacity values.old }
+    ensures steps { steps.new ≡ steps.old + length values.old.items / 2 }
+{
+    let half = values.len() / 2;
+    if half == 0 {
+        return;
+    }
+    fold_front::<V, L>(values, half, r, steps);
+    values.truncate(half);
+}
+
+impl Part {
+    /// An empty part with room for so many values of each table.
+    pub(crate) fn new(alloc: Global, room: usize) -> Result<Part, AllocError>
+        ensures { IfOk result (λ part. part.room ≡ room) }
+    {
+        Ok(Part {
+            table: Vec::with_capacity(alloc, room)?,
+            scales: Vec::with_capacity(alloc, room)?,
+            shifts: Vec::with_capacity(alloc, room)?,
+            room,
+            base: false,
+        })
+    }
+
+    /// Makes room for so many values of each table.
+    pub(crate) fn fit(&mut self, room: usize) -> Result<(), AllocError>
+        ensures { IfOk result (λ _. self.new.room ≡ room) }
+    {
+        self.clear();
+        self.table.reserve(room)?;
+        self.scales.reserve(room)?;
+        self.shifts.reserve(room)?;
+        self.room = room;
+        Ok(())
+    }
+
+    /// Takes all values out.
+    pub(crate) fn clear(&mut self)
+        ensures { self.new ≡ record { table = []; scales = []; shifts = []; room = self.old.room } }
+    {
+        self.table.clear();
+        self.scales.clear();
+        self.shifts.clear();
+        self.base = false;
+    }
+
+    /// How many values its first table has.
+    pub(crate) fn len(&self) -> usize
+        ensures { result ≡ length self.now.table }
+    {
+        self.table.len()
+    }
+
+    /// Its range of the table of values.
+    pub(crate) fn table(&self) -> &[Ext]
+        ensures { result.now ≡ self.now.table }
+    {
+        self.table.as_slice()
+    }
+
+    /// Writes the values of its range, of which those of the first table lie in the base field if `base` is true.
+    pub(crate) fn write(&mut self, table: &[Ext], scales: &[Ext], shifts: &[Ext], base: bool)
+        requires table { length table.now ≤ self.old.room }
+        requires scales { length scales.now ≤ self.old.room }
+        requires shifts { length shifts.now ≤ self.old.room }
+        requires base { IsTrue base → AreBase table.now }
+        ensures { self.new ≡ record {
+          table = table.now;
+          scales = scales.now;
+          shifts = shifts.now;
+          room = self.old.room;
+        } }
+    {
+        self.clear();
+        let Ok(()) = self.table.extend_from_slice(table) else {
+            unreachable!()
+        };
+        let Ok(()) = self.scales.extend_from_slice(scales) else {
+            unreachable!()
+        };
+        let Ok(()) = self.shifts.extend_from_slice(shifts) else {
+            unreachable!()
+        };
+        self.base = base;
+    }
+
+    /// Puts the values of another part behind its own.
+    pub(crate) fn append(&mut self, other: &Part)
+        requires table { length self.old.table + length other.now.table ≤ self.old.room }
+        requires scales { length self.old.scales + length other.now.scales ≤ self.old.room }
+        requires shifts { length self.old.shifts + length other.now.shifts ≤ self.old.room }
+        ensures { self.new ≡ record {
+          table = self.old.table ++ other.now.table;
+          scales = self.old.scales ++ other.now.scales;
+          shifts = self.old.shifts ++ other.now.shifts;
+          room = self.old.room;
+        } }
+    {
+        let Ok(()) = self.table.extend_from_slice(&other.table) else {
+            unreachable!()
+        };
+        let Ok(()) = self.scales.extend_from_slice(&other.scales) else {
+            unreachable!()
+        };
+        let Ok(()) = self.shifts.extend_from_slice(&other.shifts) else {
+            unreachable!()
+        };
+        self.base = false;
+    }
+
+    /// Takes the values of parts of one value, behind one another.
+    pub(crate) fn gather(&mut self, parts: &[Part])
+        requires room { length parts.now ≤ self.old.room }
+        requires sizes { All (HasSize 1) parts.now }
+        ensures { self.new ≡ record {
+          table = flat_table parts.now;
+          scales = flat_scales parts.now;
+          shifts = flat_shifts parts.now;
+          room = self.old.room;
+        } }
+    {
+        self.clear();
+        for part in parts {
+            self.append(part);
+        }
+    }
+
+    /// Binds the first coordinate to `r`, at a step for each pair of each table. A table of one value stays as it is.
+    pub(crate) fn fold_counted<L: Ledger>(&mut self, r: Ext, steps: &mut Steps<L>)
+        ensures folded { self.new ≡ folded_part r self.old }
+        ensures steps { steps.new ≡ steps.old + part_pairs self.old }
+    {
+        if self.base {
+            halve::<Base, L>(&mut self.table, r, steps);
+        } else {
+            halve::<Whole, L>(&mut self.table, r, steps);
+        }
+        halve::<Whole, L>(&mut self.scales, r, steps);
+        halve::<Whole, L>(&mut self.shifts, r, steps);
+        self.base = false;
+    }
+
+    /// Binds the first coordinate of the three tables to `r`, in place. A part of one value stays as it is.
+    pub fn fold(&mut self, r: Ext)
+        ensures { self.new ≡ folded_part r self.old }
+    {
+        self.fold_from::<Brand>(r, Blank::new(1));
+    }
+
+    fn fold_from<L: Ledger>(&mut self, r: Ext, blank: Blank)
+        requires name { blank.name ≡ L.name }
+        requires parts { blank.parts ≡ L.parts }
+        requires some { 0 < L.parts }
+        ensures { self.new ≡ folded_part r self.old }
+    {
+        let mut steps = Steps::<L>::start(blank);
+        self.fold_counted(r, &mut steps);
+    }
+
+    /// The coefficients of the sum of what its pairs give, at a step for each of them. It has at most 1,024.
+    pub(crate) fn pair_sum<L: Ledger>(&self, half: usize, steps: &mut Steps<L>) -> [Ext; 3]
+        requires size { HasSize (2 * half) self.now }
+        requires few { half ≤ 1024 }
+        ensures three { length result ≡ 3 }
+        ensures sum { (e : K) → value_at k_ops result e ≡ sum_below k_ops half
+            (λ j. pair_at k_ops self.now.table self.now.scales self.now.shifts e j) }
+        ensures steps { steps.new ≡ steps.old + half }
+    {
+        if self.base {
+            pair_sum::<Base, L>(&self.table, &self.scales, &self.shifts, 0, half, steps)
+        } else {
+            pair_sum::<Whole, L>(&self.table, &self.scales, &self.shifts, 0, half, steps)
+        }
+    }
+}
