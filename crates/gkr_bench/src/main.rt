@@ -8,7 +8,8 @@
 //! many rows of 1,000 elements. `gkr_bench carried LEVELS`: the same of 60,000 values carried over so many layers.
 //! `gkr_bench layer K`: all rounds of one layer of `2^K` random gates, its line, and the verifier's wiring polynomials,
 //! beside plain loops that prove as many rounds. `gkr_bench workers K`: all rounds of such a layer with one, two, three and
-//! four workers in turn. `gkr_bench checked LEVELS`: the verifier on the circuit of `carried`, with the wiring polynomials by
+//! four workers in turn. `gkr_bench kernels K`: a fold and the sums of such a layer's second round, by the prover's loops and
+//! by vector kernels. `gkr_bench checked LEVELS`: the verifier on the circuit of `carried`, with the wiring polynomials by
 //! runs of gates, what it would take by walks over the gates, and proofs by pairs. `gkr_bench random K`: the same on eight
 //! layers of `2^K` random gates. `gkr_bench audit K`: a proof of such a circuit, and an audit of it. `gkr_bench runs 1 <
 //! CASE`: the runs of each layer of a case's circuit. `gkr_bench turns N`: so many turns of the lock of the job table, where
@@ -18,6 +19,7 @@
 mod audits;
 mod checking;
 mod circuits;
+mod kernels;
 mod measure;
 mod plain_layer;
 mod programs;
@@ -29,7 +31,7 @@ mod workers;
 use std::{env, io};
 
 const USAGE: &str =
-    "gkr_bench matmul N | steps N | names KIB | copies N | copied N | transposes N | letters N | fold K | case KIB | proof N | wide ROWS | carried LEVELS | layer K | workers K | checked LEVELS | random K | audit K | runs N | turns N";
+    "gkr_bench matmul N | steps N | names KIB | copies N | copied N | transposes N | letters N | fold K | case KIB | proof N | wide ROWS | carried LEVELS | layer K | workers K | kernels K | checked LEVELS | random K | audit K | runs N | turns N";
 
 fn main(rt: HostRuntime) -> io::Result<()> {
     let alloc = rt.alloc();
@@ -62,6 +64,9 @@ fn main(rt: HostRuntime) -> io::Result<()> {
             }
             if kind.as_str() == "workers" {
                 return workers::layer(&rt, &rt, size);
+            }
+            if kind.as_str() == "kernels" {
+                return kernels::kernels(&rt, size);
             }
             if kind.as_str() == "checked" {
                 let text = programs::carried(alloc, size)?;

@@ -65,9 +65,9 @@ impl Random {
 /// A layer of `2^k` gates over as many values of the base field, its output point, and the challenges of both phases.
 #[derive(Drop)]
 pub(crate) struct LayerCase {
-    circuit: Circuit,
-    values: Table,
-    point: Vec<Ext>,
+    pub(crate) circuit: Circuit,
+    pub(crate) values: Table,
+    pub(crate) point: Vec<Ext>,
     left: Vec<Ext>,
     right: Vec<Ext>,
 }
@@ -114,7 +114,7 @@ pub(crate) fn case_of(alloc: Global, k: u32) -> Result<Option<LayerCase>, AllocE
 }
 
 /// The working tables of the layer in the room, where its sizes fit.
-fn started<'a>(
+pub(crate) fn started<'a>(
     room: Room,
     circuit: &'a Circuit,
     values: &'a Table,
