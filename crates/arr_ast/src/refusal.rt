@@ -1,3 +1,5 @@
+//! The kinds of refusals of a program.
+
 /// Why a program is refused.
 #[derive(Clone, Copy, PartialEq, Eq, Debug)]
 pub enum ProgramKind {

@@ -1,4 +1,5 @@
 //! Laws of the run over shapes, each a function that does nothing and ensures the law.
+
 ghost use Rattle.std.specs.Prelude.{◌≡◌, ℕ};
 ghost use Rattle.arr_ast.specs.ExpressionTree.{NameTree};
 ghost use Rattle.arr_ast.specs.IndexTree.{Sum};

@@ -21,7 +21,7 @@ pub struct Compiled {
     pub circuit: Circuit,
 }
 
-// The circuit of a text's program, or the first refusal of all passes.
+/// The circuit of a text's program, or the first refusal of all passes.
 fn lay_out(alloc: Global, text: &[u8]) -> Result<Compiled, CompileRefused>
     requires { length text.now ≤ 65536 }
     ensures compiled { IfOk result (λ compiled. IsCompiled text.now compiled.circuit.parts) }

@@ -1,3 +1,5 @@
+//! Why a text has no circuit.
+
 ghost use Rattle.std.specs.Prelude.{◌≡◌};
 ghost use Rattle.arr_compile.specs.declared.refused.CompileRefused.TheVariants.{Memory};
 

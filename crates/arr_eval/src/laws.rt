@@ -1,5 +1,6 @@
 //! Laws of evaluation, in the language's own words. Each function does nothing: its contract is a
 //! law that is proved.
+
 ghost use Rattle.std.specs.Prelude.{◌≡◌, ℕ, ◌+◌, ◌*◌, ◌<◌, List, ◌++◌, length, Ok, IsTrue, is_ok, IsSome};
 ghost use Rattle.arr_ast.specs.IndexTree.{Sum};
 ghost use Rattle.arr_ast.specs.ExpressionTree.{NameTree, ExpressionTree};

@@ -116,7 +116,7 @@ impl<'a> Machine for Numbers<'a> {
     }
 }
 
-// The value of a function of a list of this shape.
+/// The value of a function of a list of this shape.
 fn single(
     alloc: Global,
     function: SingleFunction,
@@ -137,7 +137,7 @@ fn single(
     }
 }
 
-// The value of a function of two lists of these shapes.
+/// The value of a function of two lists of these shapes.
 fn pair(
     alloc: Global,
     function: PairFunction,
@@ -168,7 +168,7 @@ fn pair(
     }
 }
 
-// The first numbers, or all of them where there are fewer.
+/// The first numbers, or all of them where there are fewer.
 #[tactic(auto, using(crate::proofs::Lists::of_fronts))]
 fn front(numbers: &[Fp], count: usize) -> &[Fp]
     ensures { result.now ≡ take count numbers.now }
@@ -180,7 +180,7 @@ fn front(numbers: &[Fp], count: usize) -> &[Fp]
     }
 }
 
-// The numbers behind the first.
+/// The numbers behind the first.
 #[tactic(auto, using(crate::proofs::Lists::of_fronts))]
 fn behind(numbers: &[Fp], count: usize) -> &[Fp]
     ensures { result.now ≡ drop count numbers.now }

@@ -31,7 +31,7 @@ pub fn matrix_product(
     Ok(found)
 }
 
-// Row i of a product, behind the rows before it.
+/// Row i of a product, behind the rows before it.
 fn add_row(
     found: &mut Vec<Fp>,
     m: usize,
@@ -53,7 +53,7 @@ fn add_row(
     Ok(())
 }
 
-// Row i of rows of m elements times column j of rows of q. The sum is reduced once, at its end.
+/// Row i of rows of m elements times column j of rows of q. The sum is reduced once, at its end.
 fn product(m: usize, q: usize, left: &[Fp], right: &[Fp], i: usize, j: usize) -> Fp
     requires m { m < 2 ^ 32 }
     requires q { q < 2 ^ 32 }
@@ -68,7 +68,7 @@ fn product(m: usize, q: usize, left: &[Fp], right: &[Fp], i: usize, j: usize) ->
     Fp::reduce(total)
 }
 
-// A number below 2 ^ 32 that stands for the product, since 2 ^ 31 is 1 modulo the prime.
+/// A number below 2 ^ 32 that stands for the product, since 2 ^ 31 is 1 modulo the prime.
 fn folded_product(a: Fp, b: Fp) -> u64
     ensures small { result < 2 ^ 32 }
     ensures value { of result ≡ mul_f a b }

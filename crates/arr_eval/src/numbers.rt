@@ -112,7 +112,7 @@ pub fn dot(left: &[Fp], right: &[Fp]) -> Fp
     running_dot(left, right)
 }
 
-// A dot product as a total that grows place by place.
+/// A dot product as a total that grows place by place.
 fn running_dot(left: &[Fp], right: &[Fp]) -> Fp
     ensures { result ≡ fold (λ total pair. add_f total (mul_f pair.0 pair.1)) (of 0)
         (zip left.now right.now) }

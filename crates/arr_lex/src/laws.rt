@@ -1,4 +1,5 @@
 //! Laws of the definition of tokens, each a function that does nothing and ensures the law.
+
 ghost use Rattle.std.specs.Prelude.{◌≡◌, ℕ, ◌+◌, true, List, ◌∷◌, ◌++◌, length, Ok};
 ghost use Rattle.arr_lex.specs.Byte.{is_blank};
 ghost use Rattle.arr_lex.specs.declared.token.Token.{Token};

@@ -40,7 +40,7 @@ pub fn tokens(alloc: Global, text: &[u8]) -> Result<Vec<Token>, LexRefused>
     Ok(tokens)
 }
 
-// The symbol of the longest token that a text begins with, and how many bytes it takes.
+/// The symbol of the longest token that a text begins with, and how many bytes it takes.
 fn taken(at: usize, text: &[u8]) -> Result<(Symbol, usize), LexRefused>
     requires { at + length text.now < 2 ^ 63 }
     ensures taken { Agrees (λ found. found) result (taken_of at text.now) }
@@ -60,7 +60,7 @@ fn taken(at: usize, text: &[u8]) -> Result<(Symbol, usize), LexRefused>
     }
 }
 
-// A sign, of one byte or two.
+/// A sign, of one byte or two.
 fn sign_taken(at: usize, first: u8, rest: &[u8]) -> Result<(Symbol, usize), LexRefused>
     ensures taken { Agrees (λ found. found) result (taken_of_sign at first rest.now) }
     ensures some { IfOk result (λ found. 0 < found.1) }
@@ -77,7 +77,7 @@ fn sign_taken(at: usize, first: u8, rest: &[u8]) -> Result<(Symbol, usize), LexR
     }
 }
 
-// The digits that a text begins with.
+/// The digits that a text begins with.
 #[tactic(auto, using(crate::proofs::Runs::of_runs))]
 fn digit_run(text: &[u8]) -> &[u8]
     ensures run { result.now ≡ take_while digit text.now }
@@ -91,7 +91,7 @@ fn digit_run(text: &[u8]) -> &[u8]
     text
 }
 
-// The letters and digits that a text begins with.
+/// The letters and digits that a text begins with.
 #[tactic(auto, using(crate::proofs::Runs::of_runs))]
 fn name_run(text: &[u8]) -> &[u8]
     ensures { result.now ≡ take_while name_byte text.now }

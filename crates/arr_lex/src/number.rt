@@ -28,7 +28,7 @@ pub fn number_taken(at: usize, first: u8, digits: &[u8]) -> Result<(Symbol, usiz
     Ok((Symbol::Number(value), digits.len() + 1))
 }
 
-// The number with one digit more, where it may follow.
+/// The number with one digit more, where it may follow.
 fn following(value: u32, digit: u8) -> Option<u32>
     requires { is_digit digit ≡ true }
     ensures { result ≡ (if follows value digit then Some (value_behind value digit) else None) }

@@ -1,4 +1,5 @@
 //! Why a text has no tokens.
+
 ghost use Rattle.std.specs.Prelude.{◌≡◌};
 ghost use Rattle.arr_lex.specs.declared.refused.LexRefused.TheVariants.{Memory};
 

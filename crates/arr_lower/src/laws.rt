@@ -1,5 +1,6 @@
 //! Laws of lowering, in the words of programs and of nodes. Each function does nothing: its
 //! contract is a law that is proved.
+
 ghost use Rattle.std.specs.Prelude.{◌≡◌, ℕ, ◌<◌, ◌≤◌, List, length, map, slice_index_or, All, IsTrue, is_ok, IsSome, Option, Some};
 ghost use Rattle.arr_ast.specs.ProgramTree.{ProgramTree};
 ghost use Rattle.arr_run.specs.Program.{input_count};

@@ -33,7 +33,7 @@ pub fn lower(alloc: Global, checked: &Checked) -> Result<NodeList, AllocError>
     }
 }
 
-// The list of what a run has made.
+/// The list of what a run has made.
 fn list_of(checked: &Checked, lowering: Lowering) -> NodeList
     requires few { checked.now.inputs < 2 ^ 32 }
     requires made { nodes_of (program_tree checked.now.program) ≡ Some (record {

@@ -33,7 +33,7 @@ pub fn matrix_product(
     Ok(found)
 }
 
-// Row i of rows of m nodes times column j of rows of q.
+/// Row i of rows of m nodes times column j of rows of q.
 fn product(
     nodes: &mut Nodes,
     alloc: Global,
@@ -57,7 +57,7 @@ fn product(
     sum(nodes, products.as_slice())
 }
 
-// The products of row i of rows of m nodes with column j of rows of q.
+/// The products of row i of rows of m nodes with column j of rows of q.
 fn products(
     nodes: &mut Nodes,
     alloc: Global,
@@ -87,7 +87,7 @@ fn products(
     Ok(found)
 }
 
-// The node at a place, or 0 past the end.
+/// The node at a place, or 0 past the end.
 fn item_at(items: &[u32], place: usize) -> u32
     ensures { result ≡ get_or items.now place 0 }
 {

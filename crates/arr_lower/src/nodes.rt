@@ -61,7 +61,7 @@ impl Nodes {
         }
     }
 
-    // A constant that has no node.
+    /// A constant that has no node.
     fn new_constant(&mut self, constant: Fp) -> Result<u32, AllocError>
         requires { position (is_constant constant) self.old ≡ None }
         ensures number { IfOk result (λ item. item ≡ length self.old) }
@@ -97,7 +97,7 @@ impl Nodes {
         self.add(Node::Input(number))
     }
 
-    // One more node, which isn't a constant.
+    /// One more node, which isn't a constant.
     fn add(&mut self, node: Node) -> Result<u32, AllocError>
         requires { (x : F) → is_constant x node ≡ false }
         ensures number { IfOk result (λ item. item ≡ length self.old) }
@@ -108,7 +108,7 @@ impl Nodes {
         Ok(place)
     }
 
-    // The number of the next node.
+    /// The number of the next node.
     fn next(&self) -> Result<u32, AllocError>
         ensures number { IfOk result (λ item. item ≡ length self.now) }
         ensures room { IfOk result (λ item. item + 1 < 2 ^ 32) }

@@ -9,7 +9,7 @@ use crate::nodes::Nodes;
 use circuit_core::Kind;
 use std::alloc::{AllocError, Global};
 
-// p - 1, which is -1.
+/// p - 1, which is -1.
 const MINUS_ONE: u32 = 2_147_483_646;
 
 /// The sums or products of two lists, place by place.
@@ -66,7 +66,7 @@ fn differences_by(
     Ok(items)
 }
 
-// A difference, by a factor that is -1.
+/// A difference, by a factor that is -1.
 fn difference(nodes: &mut Nodes, factor: u32, left: u32, right: u32) -> Result<u32, AllocError>
     ensures { IfOk result (λ item. difference_node factor (left, right) nodes.old ≡ record {
       item = item;

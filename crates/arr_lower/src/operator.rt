@@ -65,7 +65,7 @@ pub fn signed(
     }
 }
 
-// The differences of two lists, place by place.
+/// The differences of two lists, place by place.
 fn subtracted(
     nodes: &mut Nodes,
     alloc: Global,

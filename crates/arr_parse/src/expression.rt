@@ -29,7 +29,7 @@ pub fn expression(cursor: &mut Cursor) -> Result<Expression, ParseRefused>
     Ok(Box::into_inner(found))
 }
 
-// The same on the heap, as all that is nested in it is made.
+/// The same on the heap, as all that is nested in it is made.
 #[cycle(expression)]
 #[inline(never)]
 #[tactic(auto, using(crate::proofs::Rows::of_expressions))]
@@ -46,7 +46,7 @@ fn boxed_expression(cursor: &mut Cursor) -> Result<Box<Expression>, ParseRefused
     }
 }
 
-// Adds the further terms of an expression.
+/// Adds the further terms of an expression.
 #[cycle(expression)]
 #[tactic(auto, using(crate::proofs::Rows::of_expressions))]
 fn added_terms(cursor: &mut Cursor, added: &mut Vec<AddedTerm>) -> Result<(), ParseRefused>
@@ -77,7 +77,7 @@ fn term(cursor: &mut Cursor) -> Result<Box<Term>, ParseRefused>
     }
 }
 
-// Adds the further factors of a term.
+/// Adds the further factors of a term.
 #[cycle(expression)]
 #[tactic(auto, using(crate::proofs::Rows::of_expressions))]
 fn times_factors(cursor: &mut Cursor, times: &mut Vec<TimesFactor>) -> Result<(), ParseRefused>
@@ -129,7 +129,7 @@ fn factor(cursor: &mut Cursor) -> Result<Box<Factor>, ParseRefused>
     }
 }
 
-// A name, or its element at the indices behind it.
+/// A name, or its element at the indices behind it.
 #[inline(never)]
 fn name_or_element(cursor: &mut Cursor, name: Name) -> Result<Box<Factor>, ParseRefused>
     ensures spelled { IfOk result (λ found.
@@ -140,7 +140,7 @@ fn name_or_element(cursor: &mut Cursor, name: Name) -> Result<Box<Factor>, Parse
     Ok(named(cursor.alloc(), name, indices)?)
 }
 
-// A call of a function of one argument, behind the function's word.
+/// A call of a function of one argument, behind the function's word.
 #[cycle(expression)]
 #[inline(never)]
 #[tactic(auto, using(crate::proofs::Rows::of_expressions))]
@@ -160,7 +160,7 @@ fn single(
     Ok(call)
 }
 
-// A call of a function of two arguments, behind the function's word.
+/// A call of a function of two arguments, behind the function's word.
 #[cycle(expression)]
 #[inline(never)]
 #[tactic(auto, using(crate::proofs::Rows::of_expressions))]

@@ -39,7 +39,7 @@ fn index_term(cursor: &mut Cursor) -> Result<IndexTerm, ParseRefused>
     Ok(IndexTerm { first, times })
 }
 
-// Adds the further factors of a term.
+/// Adds the further factors of a term.
 #[cycle(index)]
 #[tactic(auto, using(crate::proofs::IndexRows::of_indices))]
 fn times_index_factors(

@@ -24,7 +24,7 @@ pub fn maybe_indices(cursor: &mut Cursor) -> Result<Option<Indices>, ParseRefuse
     Ok(Some(Indices { first, second }))
 }
 
-// An index in its brackets, if the tokens begin with one. Behind a first index there may be a second.
+/// An index in its brackets, if the tokens begin with one. Behind a first index there may be a second.
 fn maybe_index(cursor: &mut Cursor) -> Result<Option<IndexExpression>, ParseRefused>
     ensures spelled { IfOk result
         (λ found. Takes [] cursor.old (second_spelling found) cursor.new) }

@@ -31,7 +31,7 @@ pub fn inputs(cursor: &mut Cursor) -> Result<Vec<Input>, ParseRefused>
     Ok(inputs)
 }
 
-// An input, behind its word.
+/// An input, behind its word.
 fn input(cursor: &mut Cursor, at: usize) -> Result<Input, ParseRefused>
     ensures spelled { IfOk result (λ found. Takes (Placed at InputWord ∷ []) cursor.old
         (input_spelling found) cursor.new) }
@@ -48,7 +48,7 @@ fn input(cursor: &mut Cursor, at: usize) -> Result<Input, ParseRefused>
     })
 }
 
-// At most two dimensions.
+/// At most two dimensions.
 fn dimensions(cursor: &mut Cursor) -> Result<Dimensions, ParseRefused>
     ensures spelled { IfOk result
         (λ found. Takes [] cursor.old (dimensions_spelling found) cursor.new) }
@@ -63,7 +63,7 @@ fn dimensions(cursor: &mut Cursor) -> Result<Dimensions, ParseRefused>
     Ok(Dimensions::Matrix(first, second))
 }
 
-// A dimension in its brackets, if the tokens begin with one. Behind a first dimension there may be a second.
+/// A dimension in its brackets, if the tokens begin with one. Behind a first dimension there may be a second.
 fn maybe_dimension(cursor: &mut Cursor) -> Result<Option<Dimension>, ParseRefused>
     ensures spelled { IfOk result
         (λ found. Takes [] cursor.old (maybe_dimension_spelling found) cursor.new) }
@@ -80,7 +80,7 @@ fn maybe_dimension(cursor: &mut Cursor) -> Result<Option<Dimension>, ParseRefuse
     Ok(Some(dimension))
 }
 
-// The number that is due.
+/// The number that is due.
 fn dimension(cursor: &mut Cursor) -> Result<Dimension, ParseRefused>
     ensures spelled { IfOk result (λ found. Takes [] cursor.old
         (Placed found.at (Number found.size) ∷ []) cursor.new) }

@@ -1,4 +1,5 @@
 //! Laws of the grammar's definitions, each a function that does nothing and ensures the law.
+
 ghost use Rattle.std.specs.Prelude.{◌≡◌, ℕ, List, [], ◌∷◌, length, map, Contains, is_some, None};
 ghost use Rattle.arr_ast.specs.IndexTree.{Sum};
 ghost use Rattle.arr_ast.specs.ProgramTree.{ProgramTree};

@@ -36,7 +36,7 @@ pub fn parse(alloc: Global, text: &[u8], tokens: &[Token]) -> Result<Program, Pa
     })
 }
 
-// The statements of the top level, up to the text's end.
+/// The statements of the top level, up to the text's end.
 fn top_statements(cursor: &mut Cursor) -> Result<Vec<TopStatement>, ParseRefused>
     requires { cursor.old.levels ≡ 0 }
     ensures spelled { IfOk result (λ found. map (mark cursor.old.source) cursor.old.tokens
@@ -52,7 +52,7 @@ fn top_statements(cursor: &mut Cursor) -> Result<Vec<TopStatement>, ParseRefused
     Ok(statements)
 }
 
-// A statement of the top level, which is due.
+/// A statement of the top level, which is due.
 fn top_statement(cursor: &mut Cursor) -> Result<TopStatement, ParseRefused>
     ensures spelled { IfOk result
         (λ found. Takes [] cursor.old (top_statement_spelling found) cursor.new) }

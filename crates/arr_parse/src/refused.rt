@@ -1,4 +1,5 @@
 //! Why a text is no program.
+
 ghost use Rattle.std.specs.Prelude.{◌≡◌};
 ghost use Rattle.arr_parse.specs.declared.refused.ParseRefused.TheVariants.{Memory};
 

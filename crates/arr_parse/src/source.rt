@@ -56,7 +56,7 @@ impl<'a> Source<'a> {
         }
     }
 
-    // The number of a name.
+    /// The number of a name.
     fn number(&self, name: &[u8]) -> usize
         ensures { result ≡ number_in self.now name.now }
     {
@@ -67,7 +67,7 @@ impl<'a> Source<'a> {
     }
 }
 
-// The place of the first token for each name.
+/// The place of the first token for each name.
 fn places_of(
     alloc: Global,
     text: &[u8],
@@ -84,7 +84,7 @@ fn places_of(
     Ok(places)
 }
 
-// Adds the place of a word, if it is a name and the first of its bytes.
+/// Adds the place of a word, if it is a name and the first of its bytes.
 fn add_word(
     places: &mut BTreeMap<Vec<u8>, usize>,
     alloc: Global,
@@ -101,7 +101,7 @@ fn add_word(
     }
 }
 
-// Adds the place of a name, if it is the first of its bytes.
+/// Adds the place of a name, if it is the first of its bytes.
 fn add_name(
     places: &mut BTreeMap<Vec<u8>, usize>,
     alloc: Global,
@@ -119,7 +119,7 @@ fn add_name(
     Ok(())
 }
 
-// The bytes from start to end.
+/// The bytes from start to end.
 fn part(text: &[u8], start: usize, end: usize) -> &[u8]
     ensures { result.now ≡ part_of text.now start end }
 {

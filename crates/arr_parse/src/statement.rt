@@ -29,7 +29,7 @@ pub fn statement(cursor: &mut Cursor) -> Result<Statement, ParseRefused>
     Ok(Box::into_inner(found))
 }
 
-// The same on the heap, as all that is nested in it is made.
+/// The same on the heap, as all that is nested in it is made.
 #[cycle(statement)]
 #[inline(never)]
 #[tactic(auto, using(crate::proofs::StatementRows::of_statements))]
@@ -52,7 +52,7 @@ fn boxed_statement(cursor: &mut Cursor) -> Result<Box<Statement>, ParseRefused>
     }
 }
 
-// A declaration, behind its word.
+/// A declaration, behind its word.
 #[inline(never)]
 fn declaration(cursor: &mut Cursor, at: usize) -> Result<Box<Statement>, ParseRefused>
     ensures spelled { IfOk result (λ found. Takes (Placed at LetWord ∷ []) cursor.old
@@ -65,7 +65,7 @@ fn declaration(cursor: &mut Cursor, at: usize) -> Result<Box<Statement>, ParseRe
     Ok(declared(cursor.alloc(), at, name, value)?)
 }
 
-// An assignment, behind its name.
+/// An assignment, behind its name.
 #[inline(never)]
 fn assignment(cursor: &mut Cursor, name: Name) -> Result<Box<Statement>, ParseRefused>
     ensures spelled { IfOk result (λ found. Takes (name_spelling name) cursor.old
@@ -78,7 +78,7 @@ fn assignment(cursor: &mut Cursor, name: Name) -> Result<Box<Statement>, ParseRe
     Ok(assigned(cursor.alloc(), name, indices, value)?)
 }
 
-// `= e ;`
+/// `= e ;`
 fn assigned_value(cursor: &mut Cursor) -> Result<Expression, ParseRefused>
     ensures spelled { IfOk result (λ found. Takes [] cursor.old
         (Separator Equals ∷ (expression_spelling found ++ Separator Semicolon ∷ [])) cursor.new) }
@@ -101,7 +101,7 @@ pub fn ended_value(cursor: &mut Cursor) -> Result<Expression, ParseRefused>
     Ok(value)
 }
 
-// A loop, behind its word.
+/// A loop, behind its word.
 #[cycle(statement)]
 #[inline(never)]
 #[tactic(auto, using(crate::proofs::StatementRows::of_statements))]
@@ -120,7 +120,7 @@ fn counted_loop(cursor: &mut Cursor, at: usize) -> Result<Box<Statement>, ParseR
     Ok(loop_of(cursor.alloc(), at, name, low, high, body)?)
 }
 
-// The statements of a block, with its brackets.
+/// The statements of a block, with its brackets.
 #[cycle(statement)]
 #[inline(never)]
 #[tactic(auto, using(crate::proofs::StatementRows::of_statements))]
@@ -141,7 +141,7 @@ fn block(cursor: &mut Cursor) -> Result<Vec<Statement>, ParseRefused>
     }
 }
 
-// As many statements as there are.
+/// As many statements as there are.
 #[cycle(statement)]
 #[inline(never)]
 #[tactic(auto, using(crate::proofs::StatementRows::of_statements))]

@@ -41,7 +41,7 @@ pub fn place_in<A: Drop>(
     }
 }
 
-// The value of an index within its dimension.
+/// The value of an index within its dimension.
 fn index_within<A: Drop>(
     scope: &Scope<A>,
     index: &IndexExpression,

@@ -135,7 +135,7 @@ fn factor_value<M: Machine>(
     }
 }
 
-// The opposite of a factor.
+/// The opposite of a factor.
 #[inline(never)]
 #[cycle(expression)]
 #[tactic(auto, using(crate::proofs::ExpressionRows::of_expressions))]
@@ -154,7 +154,7 @@ fn negated_factor<M: Machine>(
     opposite_value(counts, machine, at, found)
 }
 
-// A function of one expression.
+/// A function of one expression.
 #[inline(never)]
 #[cycle(expression)]
 #[tactic(auto, using(crate::proofs::ExpressionRows::of_expressions))]
@@ -174,7 +174,7 @@ fn single_call<M: Machine>(
     single_value(counts, machine, function, at, found)
 }
 
-// A function of two expressions, the first of which has this value.
+/// A function of two expressions, the first of which has this value.
 #[inline(never)]
 #[cycle(expression)]
 #[tactic(auto, using(crate::proofs::ExpressionRows::of_expressions))]
@@ -208,7 +208,7 @@ fn constant_value<M: Machine>(
     Ok((ShapeOf::Scalar, machine.constant(value)?))
 }
 
-// What a name stands for.
+/// What a name stands for.
 fn name_value<M: Machine>(
     scope: &Scope<M::Array>,
     counts: &mut Counts,
@@ -229,7 +229,7 @@ fn name_value<M: Machine>(
     }
 }
 
-// An element of a name.
+/// An element of a name.
 fn element_value<M: Machine>(
     scope: &Scope<M::Array>,
     machine: &M,

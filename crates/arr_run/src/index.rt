@@ -100,7 +100,7 @@ fn times_value<A: Drop>(
     product_within(whole, left, right)
 }
 
-// A product, which is a part.
+/// A product, which is a part.
 #[tactic(auto, using(crate::proofs::IndexRows::of_indices))]
 fn product_within(whole: usize, left: i64, right: i64) -> Result<i64, CheckRefused>
     requires left { nat_abs left ≤ 2 ^ 31 }
@@ -129,7 +129,7 @@ fn factor_value<A: Drop>(
     }
 }
 
-// A part of the index expression at a place.
+/// A part of the index expression at a place.
 fn within(whole: usize, value: i64) -> Result<i64, CheckRefused>
     ensures value { Agrees (λ z. z) result (part_within whole value) }
     ensures small { IfOk result (λ z. nat_abs z ≤ 2 ^ 31) }
@@ -143,7 +143,7 @@ fn within(whole: usize, value: i64) -> Result<i64, CheckRefused>
     Ok(value)
 }
 
-// The number of a loop's turn.
+/// The number of a loop's turn.
 fn turn<A: Drop>(scope: &Scope<A>, whole: usize, name: &Name) -> Result<i64, CheckRefused>
     ensures value { Agrees (λ z. z) result
         (turn_of whole name.now.at (binding_of name.now.number scope.now)) }

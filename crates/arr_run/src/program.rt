@@ -165,7 +165,7 @@ fn run_top_statement<M: Machine>(
     }
 }
 
-// As many outputs more.
+/// As many outputs more.
 fn add_outputs(counts: &mut Counts, at: usize, more: u64) -> Result<(), CheckRefused>
     ensures { Agrees (λ _. counts.new) result (outputs_at at more counts.old) }
 {

@@ -1,4 +1,5 @@
 //! Why a program is refused.
+
 ghost use Rattle.std.specs.Prelude.{◌≡◌};
 ghost use Rattle.arr_run.specs.declared.refused.CheckRefused.TheVariants.{Memory};
 

@@ -84,7 +84,7 @@ impl<A: Drop> Scope<A> {
         }
     }
 
-    // Whether a name stands for an array.
+    /// Whether a name stands for an array.
     fn has_array(&self, name: usize) -> bool
         ensures { result ≡ is_some (array_of (binding_of name self.now)) }
     {
@@ -109,7 +109,7 @@ impl<A: Drop> Scope<A> {
         }
     }
 
-    // Adds a name that is in scope.
+    /// Adds a name that is in scope.
     fn declare_again(&mut self, name: usize, binding: Bound<A>) -> Result<(), AllocError>
         requires { IsSome (place_of name self.old) }
         ensures { OnOk result (self.new ≡ self.old ++ (name, binding) ∷ []) }
@@ -118,7 +118,7 @@ impl<A: Drop> Scope<A> {
         Ok(())
     }
 
-    // Adds a name that isn't in scope.
+    /// Adds a name that isn't in scope.
     fn declare_new(&mut self, name: usize, binding: Bound<A>) -> Result<(), AllocError>
         requires { place_of name self.old ≡ None }
         ensures { OnOk result (self.new ≡ self.old ++ (name, binding) ∷ []) }
@@ -139,7 +139,7 @@ impl<A: Drop> Scope<A> {
         }
     }
 
-    // Forgets the newest name.
+    /// Forgets the newest name.
     fn forget_last(&mut self)
         requires { 0 < length self.old }
         ensures { self.new ≡ take (length self.old - 1) self.old }
@@ -153,7 +153,7 @@ impl<A: Drop> Scope<A> {
     }
 }
 
-// The place of a name, which is none behind the last.
+/// The place of a name, which is none behind the last.
 fn place_at(places: &[Option<usize>], name: usize) -> Option<usize>
     ensures { result ≡ get_or places.now name None }
 {
@@ -163,7 +163,7 @@ fn place_at(places: &[Option<usize>], name: usize) -> Option<usize>
     }
 }
 
-// Sets the place of a name, where there is room.
+/// Sets the place of a name, where there is room.
 fn set_place(places: &mut Vec<Option<usize>>, name: usize, place: Option<usize>)
     ensures { places.new.items ≡ set places.old.items name place }
 {
@@ -172,7 +172,7 @@ fn set_place(places: &mut Vec<Option<usize>>, name: usize, place: Option<usize>)
     }
 }
 
-// Makes room for the place of a name.
+/// Makes room for the place of a name.
 fn make_room(places: &mut Vec<Option<usize>>, name: usize) -> Result<(), AllocError>
     ensures same { (other : ℕ) → get_or places.new.items other None
         ≡ get_or places.old.items other None }

@@ -35,7 +35,7 @@ pub fn is_alike(left: ShapeOf, right: ShapeOf) -> bool
     }
 }
 
-// The refusal of a shape.
+/// The refusal of a shape.
 fn misshapen(at: usize) -> CheckRefused
     ensures { result ≡ Bad at Shape }
 {
@@ -148,7 +148,7 @@ pub fn pair_shape(
     }
 }
 
-// The nodes of a sum of n products.
+/// The nodes of a sum of n products.
 fn nodes_of_dot(n: u32) -> u64
     ensures { result ≡ n + n - 1 }
 {

@@ -64,7 +64,7 @@ pub fn run_statement<M: Machine>(
     }
 }
 
-// A loop.
+/// A loop.
 #[cycle(statement)]
 #[tactic(auto, using(crate::proofs::StatementRows::of_statements))]
 fn counted_loop<M: Machine>(
@@ -89,7 +89,7 @@ fn counted_loop<M: Machine>(
     all_turns(scope, counts, machine, at, name, first, end, body)
 }
 
-// The turns of a loop from the first on, below the end.
+/// The turns of a loop from the first on, below the end.
 #[cycle(statement)]
 #[tactic(auto, using(crate::proofs::StatementRows::of_statements, crate::proofs::StatementRows::of_turns))]
 fn all_turns<M: Machine>(
@@ -115,7 +115,7 @@ fn all_turns<M: Machine>(
     Ok(())
 }
 
-// One turn of a loop.
+/// One turn of a loop.
 #[cycle(statement)]
 #[tactic(auto, using(crate::proofs::StatementRows::of_statements))]
 fn one_turn<M: Machine>(
@@ -140,7 +140,7 @@ fn one_turn<M: Machine>(
     Ok(())
 }
 
-// The run of statements, one after another.
+/// The run of statements, one after another.
 #[cycle(statement)]
 #[tactic(auto, using(crate::proofs::StatementRows::of_statements))]
 fn run_all<M: Machine>(
@@ -159,7 +159,7 @@ fn run_all<M: Machine>(
     Ok(())
 }
 
-// Declares a name with a value.
+/// Declares a name with a value.
 fn declare<M: Machine>(
     scope: &mut Scope<M::Array>,
     counts: &mut Counts,
@@ -177,7 +177,7 @@ fn declare<M: Machine>(
     Ok(())
 }
 
-// Sets the array of a name.
+/// Sets the array of a name.
 fn assign<M: Machine>(
     scope: &mut Scope<M::Array>,
     counts: &mut Counts,
@@ -196,7 +196,7 @@ fn assign<M: Machine>(
     Ok(())
 }
 
-// Sets one element of a name.
+/// Sets one element of a name.
 fn assign_element<M: Machine>(
     scope: &mut Scope<M::Array>,
     counts: &mut Counts,
@@ -222,7 +222,7 @@ fn assign_element<M: Machine>(
     )
 }
 
-// Puts a scalar at a place of a name's array.
+/// Puts a scalar at a place of a name's array.
 fn set_element<M: Machine>(
     scope: &mut Scope<M::Array>,
     machine: &M,
@@ -255,7 +255,7 @@ pub fn require_free<A: Drop>(scope: &Scope<A>, name: &Name) -> Result<(), CheckR
     }
 }
 
-// The shape of a name that may be assigned.
+/// The shape of a name that may be assigned.
 fn target_shape<A: Drop>(scope: &Scope<A>, name: &Name) -> Result<ShapeOf, CheckRefused>
     ensures { Agrees (λ shape. shape) result
         (shape_of_target name.now.at (bound (name_tree name.now) scope.now)) }
@@ -273,7 +273,7 @@ fn target_shape<A: Drop>(scope: &Scope<A>, name: &Name) -> Result<ShapeOf, Check
     }
 }
 
-// Tests that a value has the shape of what it is assigned to.
+/// Tests that a value has the shape of what it is assigned to.
 fn require_alike(
     target: ShapeOf,
     shape: ShapeOf,
@@ -292,7 +292,7 @@ fn require_alike(
     }
 }
 
-// The first turn of a loop and the one past its last.
+/// The first turn of a loop and the one past its last.
 fn bounds<A: Drop>(
     scope: &Scope<A>,
     low: &IndexExpression,
@@ -308,7 +308,7 @@ fn bounds<A: Drop>(
     turn_range(at, from, to)
 }
 
-// The first turn, and the one past the last.
+/// The first turn, and the one past the last.
 fn turn_range(at: usize, low: i64, high: i64) -> Result<(u32, u32), CheckRefused>
     ensures value { Agrees (λ bounds. bounds) result (turns_of at low high) }
     ensures order { IfOk result (λ bounds. bounds.0 ≤ bounds.1) }

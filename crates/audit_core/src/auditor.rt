@@ -1,4 +1,4 @@
-// The auditor.
+//! The auditor.
 
 ghost use Rattle.std.specs.Prelude.{◌≡◌, ◌+◌, ◌<◌, ◌^◌, IfOk, IfSome, IsTrue, List, length, take, drop, option_map, slice_index_or};
 ghost use Rattle.std.specs.Option.{option_or};

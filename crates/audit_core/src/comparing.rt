@@ -1,4 +1,4 @@
-// The messages of a proof beside the true ones.
+//! The messages of a proof beside the true ones.
 
 ghost use Rattle.std.specs.Prelude.{◌≡◌, ◌+◌, ◌^◌, ◌≤◌, ◌<◌, List, length};
 ghost use Rattle.field_ext.specs.Field.{K};

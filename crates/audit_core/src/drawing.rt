@@ -1,4 +1,4 @@
-// The challenges of a run.
+//! The challenges of a run.
 
 ghost use Rattle.std.specs.Prelude.{◌≡◌, ◌+◌, [], ◌∷◌, ◌++◌, IfOk, IsTrue, length};
 ghost use Rattle.circuit_core.specs.Sound.{exponent_at};

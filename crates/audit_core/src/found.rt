@@ -1,4 +1,4 @@
-// What is found in a proof.
+//! What is found in a proof.
 
 ghost use Rattle.std.specs.Prelude.{◌≡◌, ◌+◌, ◌↔◌, ℕ, List, [], length, slice_index_or, IsTrue};
 ghost use Rattle.field_ext.specs.Field.{K, zero_k};

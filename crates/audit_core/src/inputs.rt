@@ -1,4 +1,4 @@
-// Inputs that the values of the input layer belong to.
+//! Inputs that the values of the input layer belong to.
 
 ghost use Rattle.std.specs.Prelude.{◌≡◌, ◌<◌, ◌^◌, All, IfOk, List, length, vec_len};
 ghost use Rattle.field_ext.specs.Field.{F};

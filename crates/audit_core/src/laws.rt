@@ -1,4 +1,4 @@
-// Laws of audits. Each function does nothing: its contract is a law that is proved.
+//! Laws of audits. Each function does nothing: its contract is a law that is proved.
 
 ghost use Rattle.std.specs.Prelude.{◌≡◌, ℕ, List, None, length, drop, IsTrue, IsSome};
 ghost use Rattle.field_ext.specs.Field.{F, K};

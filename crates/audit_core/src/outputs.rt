@@ -1,4 +1,4 @@
-// The claimed outputs beside those that the circuit has.
+//! The claimed outputs beside those that the circuit has.
 
 ghost use Rattle.std.specs.Prelude.{◌≡◌, ◌<◌, ◌↔◌, IfOk, IsTrue, ℕ, List, length, map, take, slice_index_or};
 ghost use Rattle.field_ext.specs.Field.{F, k_ops, zero_k, embed_k};

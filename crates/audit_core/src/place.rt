@@ -1,4 +1,4 @@
-// Where a message stands.
+//! Where a message stands.
 
 ghost use Rattle.std.specs.Prelude.{◌≡◌};
 ghost use Rattle.gkr_layers.specs.Layers.{layers_of};

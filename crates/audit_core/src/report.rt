@@ -1,4 +1,4 @@
-// What an audit says.
+//! What an audit says.
 
 use crate::place::Place;
 use field_ext::Ext;

@@ -1,3 +1,5 @@
+//! Cases, by their parts.
+
 use field_ext::Fp;
 use std::marker::Model;
 

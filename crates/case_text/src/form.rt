@@ -1,3 +1,5 @@
+//! The forms of cases.
+
 /// Which lines a case has behind its inputs: neither outputs nor proof, both, or each or not.
 #[derive(Clone, Copy, Debug, PartialEq, Eq)]
 pub enum Form {

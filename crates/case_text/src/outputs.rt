@@ -1,3 +1,5 @@
+//! Outputs of a program.
+
 use field_ext::Fp;
 use std::marker::Model;
 

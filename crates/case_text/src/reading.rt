@@ -1,3 +1,5 @@
+//! Reading the text of a case.
+
 ghost use Rattle.std.specs.Prelude.{◌≡◌, ◌≤◌, ◌/◌, IfOk, Ok, length, min};
 ghost use Rattle.case_text.specs.Rules.{behind};
 ghost use Rattle.case_text.specs.Content.{Content, Fits};

@@ -1,3 +1,5 @@
+//! Writing the text of a case.
+
 ghost use Rattle.std.specs.Prelude.{◌≡◌, ◌++◌, IfOk, OnOk, IfSome};
 ghost use Rattle.case_text.specs.Rules.{behind_value};
 ghost use Rattle.case_text.specs.declared.form.Form.{Form};

@@ -14,10 +14,10 @@ use std::alloc::Global;
 use std::marker::{Brand, Model};
 use std::snapshot::Snapshot;
 
-// The word of the next number.
+/// The word of the next number.
 const NEXT: usize = 0;
 
-// The word of how many parts were put back.
+/// The word of how many parts were put back.
 const BACK: usize = 1;
 
 /// A board of numbered parts, which lie in its slots. Claimers draw them, each once, and put them back, from any number of
@@ -211,7 +211,7 @@ impl<T: Drop> PartBoard<T> {
         claimer.holding = None;
     }
 
-    // `split`, whose amount the step's rule knows by the type K.
+    /// `split`, whose amount the step's rule knows by the type K.
     fn cut<K: Amount>(&self, claimer: &mut PartClaimer<T>, give: u32) -> PartClaimer<T>
         requires board { IsOfParts self.now claimer.old }
         requires free { claimer.old.held ≡ None }

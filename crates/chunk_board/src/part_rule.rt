@@ -1,4 +1,5 @@
-// The rule of a board of parts, that it is the claim machine with slots, and what its steps tell.
+//! The rule of a board of parts, that it is the claim machine with slots, and what its steps tell.
+
 use crate::rule::{Amount, Both, Gives};
 use atomic_table::{Join, Play, Split, TableRule};
 use std::collections::LinkedList;

@@ -1,4 +1,5 @@
-// The rule of the board, that it is the claim machine, and what its steps tell.
+//! The rule of the board, that it is the claim machine, and what its steps tell.
+
 ghost use Rattle.std.specs.Prelude.{ℕ};
 
 use atomic_table::{Join, Play, Split, TableRule};

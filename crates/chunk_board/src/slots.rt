@@ -1,4 +1,4 @@
-// Parts that are moved into slots and out of them.
+//! Parts that are moved into slots and out of them.
 
 ghost use Rattle.std.specs.Prelude.{◌≡◌, ◌≤◌, ℕ, map, replicate, slice_get, ◌<◌, vec_len, vec_capacity, Some, None, IfOk};
 ghost use mathlib.Core.Option.{some};

@@ -113,7 +113,7 @@ impl Circuit {
         Circuit::of_lists(alloc, lists)
     }
 
-    // The circuit of faultless lists.
+    /// The circuit of faultless lists.
     fn of_lists(alloc: Global, lists: Lists) -> Result<Circuit, AllocError>
         requires some { 1 ≤ lists.outputs }
         requires faultless { fault_of greatest lists ≡ None }

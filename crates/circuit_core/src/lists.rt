@@ -273,7 +273,7 @@ impl Lists {
     }
 }
 
-// The k with `width = 2^k`, where a layer may have this width.
+/// The k with `width = 2^k`, where a layer may have this width.
 #[tactic(auto, using(crate::proofs::First::firsts))]
 pub fn exponent_of(width: usize) -> Option<u32>
     ensures { result ≡ exponent_of greatest width }

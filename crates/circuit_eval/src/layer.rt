@@ -10,7 +10,7 @@ use std::alloc::{AllocError, Global};
 use std::marker::Sync;
 use std::thread::Threads;
 
-// From this many gates on, which the widest layers have, threads take no longer than the gates alone.
+/// From this many gates on, which the widest layers have, threads take no longer than the gates alone.
 const MANY: usize = 1 << 16;
 
 /// The values of the input layer: 0, the leaves, and padding.
@@ -50,7 +50,7 @@ pub fn gate_values<R: Threads + Sync>(
     Ok(values)
 }
 
-// Writes the value of each gate.
+/// Writes the value of each gate.
 fn evaluate(gates: &[CircuitGate], below: &[Fp], values: &mut [Fp])
     requires room { length values.old ≡ length gates.now }
     requires operands { All (IsOver (length below.now)) gates.now }
@@ -61,7 +61,7 @@ fn evaluate(gates: &[CircuitGate], below: &[Fp], values: &mut [Fp])
     }
 }
 
-// Writes the value of each gate, in as many threads as there are processors.
+/// Writes the value of each gate, in as many threads as there are processors.
 fn evaluate_side_by_side<R: Threads + Sync>(
     rt: &R,
     gates: &[CircuitGate],

@@ -1,4 +1,5 @@
 //! The values of all layers of a circuit, of a narrow one and of a wide one.
+
 ghost use Rattle.std.specs.Prelude.{◌<◌, ◌≤◌, length};
 
 use crate::gates::{add, mul};

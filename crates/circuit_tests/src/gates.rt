@@ -1,4 +1,5 @@
 //! Sums and products, as gates of a circuit and as nodes of a list.
+
 ghost use Rattle.std.specs.Prelude.{◌≡◌};
 ghost use Rattle.circuit_core.specs.declared.gate.Kind.TheVariants as kind;
 ghost use Rattle.node_core.specs.declared.node.Node.TheVariants as node;

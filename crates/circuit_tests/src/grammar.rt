@@ -1,11 +1,12 @@
 //! Texts with the refusal that reading them gives, at the edges of the grammar and of the nesting limit.
+
 ghost use Rattle.std.specs.Prelude.{◌≤◌, length};
 
 use arr_lex::tokens;
 use arr_parse::{ParseRefused, parse};
 use std::alloc::{AllocError, Global};
 
-// The refusal of a text whose tokens are there.
+/// The refusal of a text whose tokens are there.
 fn refusal(alloc: Global, text: &[u8]) -> Option<ParseRefused>
     requires { length text.now ≤ 65536 }
 {
@@ -15,7 +16,7 @@ fn refusal(alloc: Global, text: &[u8]) -> Option<ParseRefused>
     }
 }
 
-// So many times the bytes of a piece behind those of a text.
+/// So many times the bytes of a piece behind those of a text.
 fn repeat(text: &mut Vec<u8>, piece: &[u8], count: usize) -> Result<(), AllocError> {
     for _ in 0..count {
         text.extend_from_slice(piece)?;
@@ -23,7 +24,7 @@ fn repeat(text: &mut Vec<u8>, piece: &[u8], count: usize) -> Result<(), AllocErr
     Ok(())
 }
 
-// An opening and a closing piece, so many times each, round a text.
+/// An opening and a closing piece, so many times each, round a text.
 fn nested(
     alloc: Global,
     pieces: (&[u8], &[u8], &[u8], &[u8], &[u8]),

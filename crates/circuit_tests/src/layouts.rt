@@ -1,4 +1,5 @@
 //! Lists of nodes with the circuits that they are laid out as, and those that exceed a limit.
+
 ghost use Rattle.std.specs.Prelude.{◌<◌, ◌^◌, IsTrue, length};
 ghost use Rattle.node_core.specs.Nodes.{IsFineAt};
 

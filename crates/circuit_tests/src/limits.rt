@@ -1,4 +1,5 @@
 //! The limits of a program's run, each with a program at the limit and one past it.
+
 ghost use Rattle.std.specs.Prelude.{◌≤◌, length};
 
 use crate::programs::tree;

@@ -1,4 +1,5 @@
 //! The values of a list of nodes.
+
 ghost use Rattle.std.specs.Prelude.{◌≡◌, IfOk};
 
 use crate::gates::{add_node, mul_node};

@@ -1,4 +1,5 @@
 //! Programs with their counts or their refusal, and with the nodes that they are lowered to.
+
 ghost use Rattle.std.specs.Prelude.{◌≤◌, length};
 
 use crate::gates::{add_node, mul_node};

@@ -1,4 +1,5 @@
 //! Texts of programs with their outputs and their circuits, through all passes.
+
 ghost use Rattle.std.specs.Prelude.{◌≤◌, length};
 
 use crate::layouts::show;

@@ -9,7 +9,7 @@ use std::ops::{Add, Mul, Neg, Sub};
 /// The prime `p = 2^31 - 1`.
 pub const PRIME: u32 = 2147483647;
 
-// The prime as the mask of the lowest 31 bits.
+/// The prime as the mask of the lowest 31 bits.
 const MASK: u64 = 2147483647;
 
 /// An element of F_p: a number below the prime.
@@ -105,7 +105,7 @@ impl Fp {
         Fp::reduced((product & MASK) as u32 + (product >> 31) as u32)
     }
 
-    // A number below 2 p 2^31, which holds a sum of two products of numbers up to p, modulo the prime.
+    /// A number below 2 p 2^31, which holds a sum of two products of numbers up to p, modulo the prime.
     #[inline]
     pub(crate) fn of_products(n: u64) -> Fp
         requires { n < 2 * prime * 2 ^ 31 }
@@ -116,7 +116,7 @@ impl Fp {
         Fp::reduced((n & MASK) as u32 + high)
     }
 
-    // The element of a number below the prime.
+    /// The element of a number below the prime.
     #[inline]
     fn made(n: u32) -> Fp
         requires { n < prime }
@@ -125,7 +125,7 @@ impl Fp {
         Fp { n }
     }
 
-    // The element of a number below twice the prime: where it is below the prime the difference wraps, and is the larger.
+    /// The element of a number below twice the prime: where it is below the prime the difference wraps, and is the larger.
     #[inline]
     fn reduced(n: u32) -> Fp
         requires { n < 2 * prime }

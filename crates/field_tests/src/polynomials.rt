@@ -4,7 +4,7 @@ use crate::numbers::{P, element, number};
 use poly_roots::Poly;
 use std::alloc::{AllocError, Global};
 
-// The polynomial with these coefficients, modulo the prime.
+/// The polynomial with these coefficients, modulo the prime.
 fn poly(alloc: Global, numbers: &[u64]) -> Result<Poly, AllocError> {
     let mut coefficients = Vec::new(alloc);
     for n in numbers {

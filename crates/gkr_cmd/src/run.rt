@@ -26,7 +26,7 @@ use std::marker::Sync;
 use std::sync::Wait;
 use std::thread::Threads;
 
-// The laws that the promises of a run rest on.
+/// The laws that the promises of a run rest on.
 fn run_laws()
     ensures { RunLaws }
 {
@@ -101,7 +101,7 @@ pub fn run_alone<R: Threads + Sync, S: Source, K: Sink, G: Gate>(
     Some(finish(alloc, made, sink))
 }
 
-// Runs the command `serve`, which the words name.
+/// Runs the command `serve`, which the words name.
 #[tactic(auto, using(crate::proofs::InputReads::none_within))]
 fn run_service<R: Threads + Wait + Sync, S: Source, K: Sink, G: Gate>(
     rt: &R,

@@ -1,4 +1,4 @@
-// How many challenges there are, and how many of them can be exceptional.
+//! How many challenges there are, and how many of them can be exceptional.
 
 ghost use Rattle.std.specs.Prelude.{◌≡◌, ◌≤◌, ◌+◌, ◌*◌};
 ghost use Rattle.circuit_core.specs.Parts.{height};

@@ -1,4 +1,4 @@
-// A true statement, and false ones that pass with the challenge that lets each pass. Each function does nothing: its contract is proved.
+//! A true statement, and false ones that pass with the challenge that lets each pass. Each function does nothing: its contract is proved.
 
 ghost use Rattle.std.specs.Prelude.{◌≡◌, ◌≢◌, ◌⊎◌, take, [], ◌∷◌};
 ghost use Rattle.field_ext.specs.Field.{K, k_ops};

@@ -1,4 +1,4 @@
-// Laws of both forms of the protocol. Each function does nothing: its contract is a law that is proved.
+//! Laws of both forms of the protocol. Each function does nothing: its contract is a law that is proved.
 
 ghost use Rattle.std.specs.Prelude.{◌≡◌, ◌↔◌, ◌+◌, ◌*◌, ◌<◌, ◌≤◌, ◌^◌, ℕ, List, length, map, slice_index_or, take, drop, All};
 ghost use Rattle.field_ext.specs.Field.{F, K, k_ops, zero_k, embed_k};

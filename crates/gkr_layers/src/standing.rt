@@ -1,4 +1,4 @@
-// Where a claim stands, as the prover and the verifier keep it.
+//! Where a claim stands, as the prover and the verifier keep it.
 
 use field_ext::Ext;
 

@@ -1,4 +1,4 @@
-// The verifier's answer.
+//! The verifier's answer.
 
 use field_ext::Ext;
 

@@ -1,4 +1,4 @@
-// Where a claim stands, kept between two layers.
+//! Where a claim stands, kept between two layers.
 
 ghost use Rattle.std.specs.Prelude.{◌≡◌, IfOk, length};
 ghost use Rattle.field_ext.specs.Field.{k_ops};

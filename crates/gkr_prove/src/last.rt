@@ -1,4 +1,4 @@
-// The last message of a layer.
+//! The last message of a layer.
 
 ghost use Rattle.std.specs.Prelude.{◌≡◌, ◌≤◌, ◌+◌, IfOk, length};
 ghost use Rattle.field_ext.specs.Field.{k_ops};

@@ -1,4 +1,4 @@
-// The messages of one layer.
+//! The messages of one layer.
 
 ghost use Rattle.std.specs.Prelude.{◌≡◌, ◌≤◌, ◌+◌, IfOk, IsTrue, length};
 ghost use Rattle.field_ext.specs.Field.{K, k_ops};

@@ -1,4 +1,4 @@
-// The messages of all layers.
+//! The messages of all layers.
 
 ghost use Rattle.std.specs.Prelude.{◌≡◌, List, IfOk, IsTrue};
 ghost use Rattle.field_ext.specs.Field.{F};

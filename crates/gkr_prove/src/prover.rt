@@ -1,4 +1,4 @@
-// The prover.
+//! The prover.
 
 ghost use Rattle.std.specs.Prelude.{◌≡◌, ◌+◌, List, IfOk, IsTrue, drop};
 ghost use Rattle.field_ext.specs.Field.{F};

@@ -25,7 +25,7 @@ use trial::{Outcome, trial};
 
 const USAGE: &str = "gkr_trials FIRST COUNT";
 
-// The two numbers among the words.
+/// The two numbers among the words.
 fn numbers_of(words: &[String]) -> Option<(u64, u64)> {
     match words {
         [_, first, count] => {

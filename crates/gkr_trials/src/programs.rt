@@ -14,12 +14,12 @@ pub fn below(rng: &mut Xoshiro256PlusPlus, many: u32) -> u32
     rng.next_u32() % many
 }
 
-// Appends a number's decimal.
+/// Appends a number's decimal.
 fn put_number(alloc: Global, out: &mut Vec<u8>, number: u32) -> Result<(), AllocError> {
     out.extend_from_slice(format!(in alloc; "{}", number)?.as_bytes())
 }
 
-// Appends a sign of an operator.
+/// Appends a sign of an operator.
 fn put_sign(rng: &mut Xoshiro256PlusPlus, out: &mut Vec<u8>) -> Result<(), AllocError> {
     let sign = match below(rng, 3) {
         0 => b'+',
@@ -30,7 +30,7 @@ fn put_sign(rng: &mut Xoshiro256PlusPlus, out: &mut Vec<u8>) -> Result<(), Alloc
     Ok(())
 }
 
-// A constant: mostly small, else anywhere below the prime.
+/// A constant: mostly small, else anywhere below the prime.
 fn constant(rng: &mut Xoshiro256PlusPlus) -> u32 {
     if below(rng, 4) == 0 {
         below(rng, 2_147_483_647)
@@ -39,7 +39,7 @@ fn constant(rng: &mut Xoshiro256PlusPlus) -> u32 {
     }
 }
 
-// Appends one of the first `names` letters, or, where it may, a number.
+/// Appends one of the first `names` letters, or, where it may, a number.
 fn put_leaf(
     rng: &mut Xoshiro256PlusPlus,
     alloc: Global,
@@ -92,7 +92,7 @@ pub fn put_expression(
     }
 }
 
-// Appends a declaration of an input with up to two dimensions, of which 0 is none.
+/// Appends a declaration of an input with up to two dimensions, of which 0 is none.
 fn put_input(
     alloc: Global,
     out: &mut Vec<u8>,
@@ -112,7 +112,7 @@ fn put_input(
     out.extend_from_slice(b"; ")
 }
 
-// One or two scalar outputs over three scalars.
+/// One or two scalar outputs over three scalars.
 fn put_scalars(
     rng: &mut Xoshiro256PlusPlus,
     alloc: Global,
@@ -129,7 +129,7 @@ fn put_scalars(
     Ok(3)
 }
 
-// Element-wise operations on two vectors, their sum and the last of them.
+/// Element-wise operations on two vectors, their sum and the last of them.
 fn put_vectors(
     rng: &mut Xoshiro256PlusPlus,
     alloc: Global,
@@ -148,7 +148,7 @@ fn put_vectors(
     Ok(2 * many)
 }
 
-// A product of two matrices, and a transposed one.
+/// A product of two matrices, and a transposed one.
 fn put_matrices(
     rng: &mut Xoshiro256PlusPlus,
     alloc: Global,
@@ -166,7 +166,7 @@ fn put_matrices(
     Ok(rows * inner + inner * columns)
 }
 
-// A loop that carries a number over the elements of a vector.
+/// A loop that carries a number over the elements of a vector.
 fn put_loop(
     rng: &mut Xoshiro256PlusPlus,
     alloc: Global,
@@ -207,7 +207,7 @@ pub fn make_program(
     Ok(MadeProgram { text, inputs })
 }
 
-// Changes one byte, where there is any.
+/// Changes one byte, where there is any.
 fn change(rng: &mut Xoshiro256PlusPlus, text: &mut Vec<u8>) {
     let many = text.len().min(1_000_000) as u32;
     if many > 0 {
@@ -217,7 +217,7 @@ fn change(rng: &mut Xoshiro256PlusPlus, text: &mut Vec<u8>) {
     }
 }
 
-// A digit other than this one: mostly another value, now and then the same value as a capital letter.
+/// A digit other than this one: mostly another value, now and then the same value as a capital letter.
 fn other_digit(rng: &mut Xoshiro256PlusPlus, digit: u8) -> u8 {
     if digit.is_ascii_lowercase() && below(rng, 4) == 0 {
         return digit.to_ascii_uppercase();

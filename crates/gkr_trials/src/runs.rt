@@ -6,7 +6,7 @@ use std::alloc::{AllocError, Global};
 use std::marker::Sync;
 use std::thread::Threads;
 
-// The most bytes that a run here writes.
+/// The most bytes that a run here writes.
 const ROOM: usize = 262_144;
 
 /// How a run ended and what it wrote.

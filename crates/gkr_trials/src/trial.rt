@@ -26,10 +26,10 @@ pub enum Outcome {
     Broken(&'static str),
 }
 
-// The last line of a case.
+/// The last line of a case.
 const END: &[u8] = b"end\n";
 
-// Whether the text is the case's, up to its last line, and then the outputs' line.
+/// Whether the text is the case's, up to its last line, and then the outputs' line.
 fn goes_on(text: &[u8], case: &[u8], outputs: &[u8]) -> bool {
     let Some(front) = case.strip_suffix(END) else {
         return false;
@@ -40,7 +40,7 @@ fn goes_on(text: &[u8], case: &[u8], outputs: &[u8]) -> bool {
     rest.starts_with(outputs)
 }
 
-// Whether a text is one of a case with outputs and a proof, and is written again as it is.
+/// Whether a text is one of a case with outputs and a proof, and is written again as it is.
 fn is_read_and_written(alloc: Global, text: &[u8]) -> Result<bool, AllocError> {
     match read_case(alloc, text, Form::Full) {
         Ok(case) => Ok(write_case(alloc, &case)?.as_slice() == text),
@@ -49,7 +49,7 @@ fn is_read_and_written(alloc: Global, text: &[u8]) -> Result<bool, AllocError> {
     }
 }
 
-// Whether a text is one of a case whose outputs are the program's meaning on its inputs.
+/// Whether a text is one of a case whose outputs are the program's meaning on its inputs.
 fn has_meaning(alloc: Global, text: &[u8]) -> Result<bool, AllocError> {
     let case = match read_case(alloc, text, Form::Full) {
         Ok(case) => case,
@@ -62,7 +62,7 @@ fn has_meaning(alloc: Global, text: &[u8]) -> Result<bool, AllocError> {
     }
 }
 
-// What `verify` says of a proof with one byte changed.
+/// What `verify` says of a proof with one byte changed.
 fn spoiled<R: Threads + Sync>(rt: &R, alloc: Global, text: &[u8]) -> Result<Outcome, AllocError> {
     let verdict = run(rt, alloc, &["verify"], text)?;
     match verdict.status {
@@ -81,7 +81,7 @@ fn spoiled<R: Threads + Sync>(rt: &R, alloc: Global, text: &[u8]) -> Result<Outc
     }
 }
 
-// What must hold where `eval` and `prove` refuse a case. A circuit may be too large where a program isn't.
+/// What must hold where `eval` and `prove` refuse a case. A circuit may be too large where a program isn't.
 fn refused(evaluated: &Ran, proved: &Ran) -> Outcome {
     if evaluated.status == Status::Done {
         return if proved.status == Status::BadProgram {
@@ -99,7 +99,7 @@ fn refused(evaluated: &Ran, proved: &Ran) -> Outcome {
     }
 }
 
-// What must hold of a case that was proved, but for the verdict on a spoiled proof: None where it does.
+/// What must hold of a case that was proved, but for the verdict on a spoiled proof: None where it does.
 fn proved_wrong<R: Threads + Sync>(
     rt: &R,
     alloc: Global,
@@ -133,7 +133,7 @@ fn proved_wrong<R: Threads + Sync>(
     Ok(None)
 }
 
-// Whether `verify` accepts a text.
+/// Whether `verify` accepts a text.
 fn is_accepted<R: Threads + Sync>(rt: &R, alloc: Global, text: &[u8]) -> Result<bool, AllocError> {
     let verdict = run(rt, alloc, &["verify"], text)?;
     Ok(verdict.status == Status::Done && verdict.written.as_slice() == b"accepted\n".as_slice())

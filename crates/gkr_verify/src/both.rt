@@ -1,4 +1,4 @@
-// Sums over the gates of a layer, and over the leaves, where a claim stands at two points.
+//! Sums over the gates of a layer, and over the leaves, where a claim stands at two points.
 
 ghost use Rattle.std.specs.Prelude.{◌≡◌, ◌≤◌, ◌<◌, ◌^◌, ℕ, All, length, map};
 ghost use Rattle.field_ext.specs.Field.{k_ops, embed_k, zero_k, add_k};

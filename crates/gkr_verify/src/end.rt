@@ -1,4 +1,4 @@
-// The end of a layer's rounds.
+//! The end of a layer's rounds.
 
 ghost use Rattle.std.specs.Prelude.{◌≡◌, ◌<◌, ◌≤◌, ◌+◌, [], length, slice_index_or};
 ghost use Rattle.field_ext.specs.Field.{k_ops};

@@ -1,4 +1,4 @@
-// The extensions of the outputs' and of the inputs' table, which no table is made for.
+//! The extensions of the outputs' and of the inputs' table, which no table is made for.
 
 ghost use Rattle.std.specs.Prelude.{◌≡◌, ◌≤◌, ◌<◌, ◌^◌, All, length, map};
 ghost use Rattle.field_ext.specs.Field.{k_ops, embed_k};

@@ -1,4 +1,4 @@
-// The messages of a proof of version 2, filled in.
+//! The messages of a proof of version 2, filled in.
 
 ghost use Rattle.std.specs.Prelude.{◌≡◌, ◌≤◌, ◌<◌, ◌^◌, [], ◌∷◌, ◌++◌, true, false, IfOk, IsTrue, length, drop, map};
 ghost use Rattle.field_ext.specs.Field.{k_ops, embed_k};

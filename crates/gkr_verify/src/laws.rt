@@ -1,4 +1,4 @@
-// Laws of messages that are filled in. Each function does nothing: its contract is a law that is proved.
+//! Laws of messages that are filled in. Each function does nothing: its contract is a law that is proved.
 
 ghost use Rattle.std.specs.Prelude.{◌≡◌, false, ℕ, List, drop};
 ghost use Rattle.field_ext.specs.Field.{F};

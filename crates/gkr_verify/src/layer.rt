@@ -1,4 +1,4 @@
-// One layer.
+//! One layer.
 
 ghost use Rattle.std.specs.Prelude.{◌≡◌, ◌<◌, ◌+◌, suc, List, ◌∷◌, ◌++◌, length, take, drop, IsTrue, IfOk, IfErr};
 ghost use Rattle.field_ext.specs.Field.{K, k_ops};

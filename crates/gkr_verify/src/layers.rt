@@ -1,4 +1,4 @@
-// All layers.
+//! All layers.
 
 ghost use Rattle.std.specs.Prelude.{◌≡◌, ◌≤◌, ◌*◌, ◌+◌, [], ◌∷◌, length, IsTrue};
 ghost use Rattle.field_ext.specs.Field.{k_ops};

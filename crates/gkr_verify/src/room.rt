@@ -1,4 +1,4 @@
-// What a check takes before it draws a challenge.
+//! What a check takes before it draws a challenge.
 
 ghost use Rattle.std.specs.Prelude.{◌≡◌, ◌+◌, ◌*◌, length, drop, IsTrue, IfOk};
 ghost use Rattle.circuit_core.specs.Sound.{exponent_at, exponents};
@@ -70,7 +70,7 @@ impl CheckRoom {
     }
 }
 
-// Checks the messages, and keeps challenges and points in `room`.
+/// Checks the messages, and keeps challenges and points in `room`.
 fn check_in<C: Challenges>(
     form: ProofForm,
     circuit: &Circuit,

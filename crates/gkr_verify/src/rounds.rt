@@ -1,4 +1,4 @@
-// The rounds of a layer.
+//! The rounds of a layer.
 
 ghost use Rattle.std.specs.Prelude.{◌≡◌, ◌≤◌, ℕ, List, ◌++◌, length, IsTrue, IfOk, IfErr};
 ghost use Rattle.transcript_fs.specs.Source.{draws, state_after};

@@ -1,4 +1,4 @@
-// The verifier of proofs of version 2.
+//! The verifier of proofs of version 2.
 
 ghost use Rattle.std.specs.Prelude.{◌≡◌, false, ℕ, length, drop, IsTrue, IfOk};
 ghost use Rattle.circuit_core.specs.Sound.{exponents};

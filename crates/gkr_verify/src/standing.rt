@@ -1,4 +1,4 @@
-// What the verifier computes where a claim stands.
+//! What the verifier computes where a claim stands.
 
 ghost use Rattle.std.specs.Prelude.{◌≡◌, ◌≤◌, ◌<◌, ◌+◌, ◌^◌, [], All, length, map, slice_index_or};
 ghost use Rattle.field_ext.specs.Field.{k_ops, embed_k};

@@ -1,4 +1,4 @@
-// The sum equations of all layers.
+//! The sum equations of all layers.
 
 ghost use Rattle.std.specs.Prelude.{◌≡◌, ◌≤◌, ◌+◌, ℕ, All, length, drop, IsTrue, IfOk, IfErr, IfNone, MatchOption};
 ghost use Rattle.circuit_core.specs.Sound.{exponent_at, exponents};

@@ -1,4 +1,4 @@
-// The equality polynomial at a point, for a walk over positions in blocks of 256.
+//! The equality polynomial at a point, for a walk over positions in blocks of 256.
 
 ghost use Rattle.std.specs.Prelude.{◌≡◌, ◌≤◌, ◌<◌, length, slice_index_or};
 ghost use Rattle.field_ext.specs.Field.{zero_k};

@@ -1,4 +1,4 @@
-// The verifier.
+//! The verifier.
 
 ghost use Rattle.std.specs.Prelude.{◌≡◌, ℕ, length, drop, IsTrue, IfOk, IfErr};
 ghost use Rattle.circuit_core.specs.Sound.{exponents};

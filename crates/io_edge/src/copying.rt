@@ -1,3 +1,5 @@
+//! Copying as many bytes as go.
+
 ghost use Rattle.std.specs.Prelude.{◌≡◌, ◌<◌, ◌≤◌, ◌++◌, [], length, min, take, drop};
 
 /// Copies at most `most` bytes from the front of `from` to the front of `room`, as many as go, and answers how many.

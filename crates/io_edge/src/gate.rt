@@ -1,3 +1,5 @@
+//! Gates that workers pass.
+
 /// What a worker passes between its claim of a piece and its work on it. It changes no answer.
 pub trait Gate: Sync {
     /// Passes `worker`, counted from 0, which claimed `piece`. Several threads may be in it at once.

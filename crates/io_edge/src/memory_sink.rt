@@ -1,3 +1,5 @@
+//! A sink into memory that may fail.
+
 ghost use Rattle.std.specs.Prelude.{◌≡◌, ◌<◌, ◌≤◌, [], IfOk, vec_len, vec_capacity};
 
 use crate::schedule::Schedule;

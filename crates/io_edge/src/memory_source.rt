@@ -1,3 +1,5 @@
+//! A source over memory that may fail.
+
 ghost use Rattle.std.specs.Prelude.{◌≡◌, ◌<◌, ◌≤◌, vec_len};
 
 use crate::copying::copy_front;

@@ -1,3 +1,5 @@
+//! When an end in memory fails.
+
 ghost use Rattle.std.specs.Prelude.{◌≡◌, ◌↔◌, ◌+◌, ◌-◌, ◌^◌, ◌≤◌, min, IsTrue, IfOk};
 ghost use Rattle.io_edge.specs.MemoryEnds.{FailsNow, IsNextCall};
 

@@ -1,3 +1,5 @@
+//! A sink over a writer of std.
+
 ghost use Rattle.std.specs.Prelude.{◌≡◌};
 
 use crate::{Failed, Sink};

@@ -1,3 +1,5 @@
+//! A source over a reader of std.
+
 ghost use Rattle.std.specs.Prelude.{◌≡◌};
 
 use crate::{Failed, Source};

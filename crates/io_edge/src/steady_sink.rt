@@ -1,3 +1,5 @@
+//! A sink into memory that never fails.
+
 ghost use Rattle.std.specs.Prelude.{◌≡◌, ◌≤◌, [], true, IfOk, vec_len, vec_capacity};
 
 use crate::{Failed, Sink};

@@ -1,3 +1,5 @@
+//! A source over memory that never fails.
+
 ghost use Rattle.std.specs.Prelude.{◌≡◌, ◌<◌, ◌≤◌, vec_len};
 
 use crate::copying::copy_front;

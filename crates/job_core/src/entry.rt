@@ -1,4 +1,5 @@
-// What happens to a job, and where it stands.
+//! What happens to a job, and where it stands.
+
 ghost use Rattle.std.specs.Prelude.{◌≡◌};
 ghost use Rattle.job_core.specs.JobMachine.{is_queued};
 

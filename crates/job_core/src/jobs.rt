@@ -1,4 +1,5 @@
-// The jobs, and the steps that they take.
+//! The jobs, and the steps that they take.
+
 ghost use Rattle.std.specs.Prelude.{◌≡◌, ℕ, ◌<◌, ◌≤◌, ◌^◌, true, false, [], length, Some, IfOk, MatchResult, MatchOption, slice_get};
 ghost use Rattle.job_core.specs.declared.entry.Entry.TheVariants.{Submit, Take, Finish, Withdraw};
 ghost use Rattle.job_core.specs.JobMachine.{is_step, after, before_queued, AreNotQueued, Steps};
@@ -33,7 +34,7 @@ impl Model for Jobs {
         × (j.first ≡ before_queued j.jobs.items) };
 }
 
-// The first queued job from this one on, or how many jobs there are. None before it is queued.
+/// The first queued job from this one on, or how many jobs there are. None before it is queued.
 fn first_from(jobs: &[JobState], from: u32) -> u32
     requires before { AreNotQueued jobs.now from }
     requires within { (from ≤ length jobs.now) × (length jobs.now < 2 ^ 32) }

@@ -1,4 +1,5 @@
-// The shared table.
+//! The shared table.
+
 ghost use Rattle.std.specs.Prelude.{◌≡◌, ℕ, ◌<◌, ◌≤◌, ◌+◌, ◌-◌, ◌^◌, true, false, [], ◌∷◌, ◌++◌, length, Some, IfOk, MatchResult, MatchOption, slice_get};
 ghost use Rattle.tallies.specs.Tallies.{HasEachOnce, Apart};
 ghost use Rattle.turn_lock.specs.Lists.{longer, shorter, unite};
@@ -113,7 +114,7 @@ impl<C, A: Fits<C>> TableOver<State<C, A>, Event<C, A>> {
         }
     }
 
-    // The state, at this pass's turn.
+    /// The state, at this pass's turn.
     fn enter<R: Wait>(&self, rt: &R, turn: &mut Turn<State<C, A>, Event<C, A>>) -> State<C, A>
         requires table { turn.old.table ≡ self.now.table }
         requires free { turn.old.holds ≡ false }

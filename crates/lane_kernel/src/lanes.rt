@@ -1,4 +1,4 @@
-// Four numbers at once.
+//! Four numbers at once.
 
 ghost use Rattle.std.specs.Prelude.{◌≡◌, ◌+◌, ◌*◌, ◌<◌, ◌≤◌, length};
 ghost use Rattle.lane_kernel.specs.Kernel.{prime, minus, IsBelowFrom};

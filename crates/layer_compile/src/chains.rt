@@ -28,7 +28,7 @@ pub fn linked(alloc: Global, levels: &[usize]) -> Result<Chains, AllocError>
     Ok(Chains { first, next })
 }
 
-// Puts each node before those of its level, from the last node.
+/// Puts each node before those of its level, from the last node.
 fn link(first: &mut [u32], next: &mut [u32], levels: &[usize])
     requires few { length levels.now < 2 ^ 32 }
     requires low { (k : ℕ) → k < length levels.now → slice_index levels.now k ≤ k }

@@ -46,7 +46,7 @@ impl<'a> Plan<'a> {
         Ok(gates)
     }
 
-    // The gate at the next height of a node that stands there.
+    /// The gate at the next height of a node that stands there.
     fn gate_above(&self, places: &[u32], height: usize, k: u32) -> CircuitGate
         requires places { ArePlaces self.now.list.now height places.now }
         requires room { length places.now ≡ length self.now.list.now.nodes }
@@ -124,7 +124,7 @@ pub fn padded(mut gates: Vec<CircuitGate>) -> Result<Layer, AllocError>
     Ok(Layer::of(gates))
 }
 
-// Fills gates up to the size of a layer.
+/// Fills gates up to the size of a layer.
 fn pad(gates: &mut Vec<CircuitGate>) -> Result<(), AllocError>
     ensures { OnOk result (gates.new.items ≡ gates.old.items ++ replicate
         (size_for (length gates.old.items) - length gates.old.items) zero_gate) }

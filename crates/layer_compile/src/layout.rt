@@ -76,7 +76,7 @@ impl<'a> Plan<'a> {
         Ok(circuit)
     }
 
-    // The circuit of these layers and leaves, which have no fault.
+    /// The circuit of these layers and leaves, which have no fault.
     fn of_lists(
         &self,
         alloc: Global,

@@ -17,7 +17,7 @@ pub fn levels(alloc: Global, list: &NodeList) -> Result<Vec<usize>, AllocError>
     Ok(levels)
 }
 
-// One more than the levels of the operands.
+/// One more than the levels of the operands.
 fn level_of(earlier: &[usize], node: &Node) -> usize
     requires before { OperandsBefore (length earlier.now) node.now }
     requires small { All (λ level. level ≤ length earlier.now) earlier.now }

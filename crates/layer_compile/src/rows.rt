@@ -62,7 +62,7 @@ impl<'a> Plan<'a> {
         }
     }
 
-    // The nodes of the next level that are used, among those of the row below that are still used.
+    /// The nodes of the next level that are used, among those of the row below that are still used.
     fn merged_row(
         &self,
         alloc: Global,
@@ -91,7 +91,7 @@ impl<'a> Plan<'a> {
         Ok(above)
     }
 
-    // Adds a node of the next level where it is used above that.
+    /// Adds a node of the next level where it is used above that.
     fn add_new(
         &self,
         above: &mut Row,
@@ -118,7 +118,7 @@ impl<'a> Plan<'a> {
         Ok(())
     }
 
-    // Adds a node that stands at a place of this height where it is used above the next.
+    /// Adds a node that stands at a place of this height where it is used above the next.
     fn add_carried(&self, above: &mut Row, height: usize, k: u32, at: u32) -> Result<(), AllocError>
         requires inside { k < length self.now.list.now.nodes }
         requires low { level self.now.list.now k ≤ height }
@@ -138,7 +138,7 @@ impl<'a> Plan<'a> {
         Ok(())
     }
 
-    // Keeps the nodes of the row below from one number to another that are still used.
+    /// Keeps the nodes of the row below from one number to another that are still used.
     fn keep(
         &self,
         above: &mut Row,
@@ -172,7 +172,7 @@ impl<'a> Plan<'a> {
     }
 }
 
-// A row with no node yet, with room for so many.
+/// A row with no node yet, with room for so many.
 fn begun(alloc: Global, nodes: usize) -> Result<Row, AllocError>
     requires { nodes < 2 ^ 32 }
     ensures nodes { IfOk result (λ r. r.nodes.items ≡ []) }

@@ -24,7 +24,7 @@ pub fn uses(
     Ok(uses)
 }
 
-// Marks the outputs, and then the operands of each node from the last.
+/// Marks the outputs, and then the operands of each node from the last.
 fn mark_uses(uses: &mut [usize], list: &NodeList, node_levels: &[usize], top: usize)
     requires zeros { uses.old ≡ replicate (length list.now.nodes) 0 }
     requires levels { node_levels.now ≡ levels list.now }
@@ -38,7 +38,7 @@ fn mark_uses(uses: &mut [usize], list: &NodeList, node_levels: &[usize], top: us
     }
 }
 
-// An output is used at the height of the outputs.
+/// An output is used at the height of the outputs.
 fn mark_outputs(uses: &mut [usize], outputs: &[u32], height: usize)
     requires { All (λ output. output < length uses.old) outputs.now }
     ensures { (k : ℕ) → k < length uses.old
@@ -50,7 +50,7 @@ fn mark_outputs(uses: &mut [usize], outputs: &[u32], height: usize)
     }
 }
 
-// The operands of a needed node are used at its level.
+/// The operands of a needed node are used at its level.
 fn mark_operands(uses: &mut [usize], number: usize, node: &Node, level: usize)
     requires inside { number < length uses.old }
     requires before { OperandsBefore number node.now }

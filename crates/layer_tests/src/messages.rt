@@ -1,4 +1,5 @@
 //! The messages of a layer's rounds for given challenges, by hand.
+
 ghost use Rattle.std.specs.Prelude.{◌≡◌, [], IfOk};
 ghost use Rattle.circuit_eval.specs.Tables.{FitLayers};
 

@@ -1,4 +1,5 @@
 //! The runs of a layer's gates, and the wiring polynomials by them.
+
 ghost use Rattle.std.specs.Prelude.{◌≡◌, ◌<◌, length};
 ghost use Rattle.circuit_core.specs.Parts.{height};
 ghost use Rattle.circuit_core.specs.Sound.{exponent_at};

@@ -1,4 +1,4 @@
-// The polynomial of a line.
+//! The polynomial of a line.
 
 ghost use Rattle.std.specs.Prelude.{◌≡◌, ◌≤◌, ◌+◌, ◌^◌, length, IfOk};
 ghost use Rattle.field_ext.specs.Field.{k_ops};
@@ -31,7 +31,7 @@ pub fn claim_at(line: &Poly, t: Ext) -> Ext
     line.value_at(t)
 }
 
-// A table as rows of one coefficient, folded by the line's polynomials one after another to one row.
+/// A table as rows of one coefficient, folded by the line's polynomials one after another to one row.
 fn folded_rows(
     alloc: Global,
     mut rows: Vec<Ext>,

@@ -1,4 +1,4 @@
-// Points of a line.
+//! Points of a line.
 
 ghost use Rattle.std.specs.Prelude.{◌≡◌, length};
 ghost use Rattle.field_ext.specs.Field.{k_ops};

@@ -1,4 +1,4 @@
-// Rows of coefficients, folded in pairs.
+//! Rows of coefficients, folded in pairs.
 
 ghost use Rattle.std.specs.Prelude.{◌≡◌, ◌≤◌, ◌<◌, ◌+◌, ◌*◌, ℕ, length, slice_index_or, IfOk, vec_len};
 ghost use Rattle.field_ext.specs.Field.{K, k_ops, add_k, mul_k, zero_k};

@@ -1,4 +1,4 @@
-// How a prover goes on, one challenge at a time.
+//! How a prover goes on, one challenge at a time.
 
 ghost use Rattle.std.specs.Prelude.{◌≡◌, ◌≤◌, ◌<◌, ◌+◌, [], ◌++◌, List, length, take, IfOk, OnOk};
 ghost use Rattle.std.specs.List.{flat_map};

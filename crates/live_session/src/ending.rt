@@ -1,4 +1,4 @@
-// The verdict at the end of a session, in room that was taken at its start.
+//! The verdict at the end of a session, in room that was taken at its start.
 
 ghost use Rattle.std.specs.Prelude.{◌≡◌, length, IfOk};
 ghost use Rattle.gkr_layers.specs.Acceptance.{claim_of, verdict_of};

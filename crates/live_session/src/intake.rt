@@ -1,4 +1,4 @@
-// Bytes as they are fed, and the elements that they begin with.
+//! Bytes as they are fed, and the elements that they begin with.
 
 ghost use Rattle.std.specs.Prelude.{◌≡◌, ◌≤◌, ◌<◌, ◌+◌, ◌-◌, ◌*◌, ◌^◌, ◌++◌, [], true, false, slice_index_or, length, take, drop, IfOk, MatchOption};
 ghost use Rattle.live_session.specs.Elements.{element_of, has_element, leading};

@@ -1,4 +1,4 @@
-// Laws of live sessions. Each function does nothing: its contract is a law that is proved.
+//! Laws of live sessions. Each function does nothing: its contract is a law that is proved.
 
 ghost use Rattle.std.specs.Prelude.{◌≡◌, ◌++◌, ℕ, List, Some, drop, take, length};
 ghost use Rattle.std.specs.List.{flat_map};

@@ -1,4 +1,4 @@
-// Messages among the elements that a prover sends.
+//! Messages among the elements that a prover sends.
 
 ghost use Rattle.std.specs.Prelude.{◌≡◌, ◌≤◌, ◌+◌, ◌*◌, ◌^◌, ◌<◌, ℕ, List, [], length, IfOk};
 ghost use Rattle.gkr_layers.specs.Layers.{layers_of, lower_exponents};

@@ -1,4 +1,4 @@
-// What an end of a session answers to bytes.
+//! What an end of a session answers to bytes.
 
 use gkr_layers::Verdict;
 use std::alloc::AllocError;

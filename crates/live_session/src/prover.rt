@@ -1,4 +1,4 @@
-// The prover's end.
+//! The prover's end.
 
 ghost use Rattle.std.specs.Prelude.{◌≡◌, ◌<◌, ◌≤◌, ◌^◌, [], ◌++◌, List, None, length, take, IfOk, IfErr};
 ghost use Rattle.field_ext.specs.Field.{F};

@@ -1,4 +1,4 @@
-// The verifier's end.
+//! The verifier's end.
 
 ghost use Rattle.std.specs.Prelude.{◌≡◌, ◌≢◌, ◌<◌, ◌≤◌, ◌+◌, ◌*◌, ℕ, [], ◌∷◌, None, length, take, drop, IfOk};
 ghost use Rattle.std.specs.List.{flat_map};

@@ -1,4 +1,4 @@
-// Tables of the equality polynomial at a point.
+//! Tables of the equality polynomial at a point.
 
 ghost use Rattle.std.specs.Prelude.{◌≡◌, ◌≤◌, ◌*◌, ◌^◌, ℕ, List, [], ◌∷◌, ◌++◌, length, slice_index_or};
 ghost use Rattle.field_ext.specs.Field.{K, k_ops, zero_k};
@@ -22,7 +22,7 @@ pub fn fill_equality(table: &mut [Ext], point: &[Ext])
     }
 }
 
-// Doubles a table of `size` values by one more coordinate, behind those that it has.
+/// Doubles a table of `size` values by one more coordinate, behind those that it has.
 fn extend_equality(table: &mut [Ext], size: usize, u: Ext)
     requires { 2 * size ≤ length table.old }
     ensures filled { (us : List K) → size ≡ 2 ^ length us → IsEqTable k_ops us table.old →

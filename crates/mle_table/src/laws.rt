@@ -1,4 +1,4 @@
-// The law of folding.
+//! The law of folding.
 
 ghost use Rattle.std.specs.Prelude.{◌≡◌, List, ◌∷◌};
 ghost use Rattle.field_ext.specs.Field.{K, k_ops};

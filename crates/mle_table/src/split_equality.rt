@@ -1,4 +1,4 @@
-// The equality polynomial at a point, in two tables.
+//! The equality polynomial at a point, in two tables.
 
 ghost use Rattle.std.specs.Prelude.{◌≡◌, ◌≤◌, ◌<◌, ◌^◌, List, length};
 ghost use Rattle.field_ext.specs.Field.{K, k_ops};

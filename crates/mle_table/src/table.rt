@@ -1,4 +1,4 @@
-// Tables of a power of two of values.
+//! Tables of a power of two of values.
 
 ghost use Rattle.std.specs.Prelude.{◌≡◌, ◌≤◌, ◌*◌, ◌<◌, ◌^◌, ◌+◌, ◌↔◌, ℕ, length, map, vec_len, slice_get, Some, IsOk, IfOk, IfErr, IsTrue};
 ghost use Rattle.field_ext.specs.Field.{k_ops, embed_k};

@@ -1,4 +1,4 @@
-// Lists of values: as elements of K, and folded.
+//! Lists of values: as elements of K, and folded.
 
 ghost use Rattle.std.specs.Prelude.{◌≡◌, ◌≤◌, ◌*◌, ◌<◌, ◌^◌, ◌+◌, ℕ, length, map, vec_len, IfOk};
 ghost use Rattle.field_ext.specs.Field.{k_ops, embed_k};
@@ -7,7 +7,7 @@ ghost use Rattle.field_ext.specs.Multilinear.{folded, extension_at};
 use field_ext::{Ext, Fp};
 use std::alloc::{AllocError, Global};
 
-// Values of the base field as elements of K.
+/// Values of the base field as elements of K.
 pub(crate) fn embedded(alloc: Global, values: &[Fp]) -> Result<Vec<Ext>, AllocError>
     ensures { IfOk result (λ v. v.items ≡ map embed_k values.now) }
 {
@@ -25,7 +25,7 @@ fn embed(values: &[Fp], items: &mut [Ext])
     }
 }
 
-// Binds the first coordinate of a table to r.
+/// Binds the first coordinate of a table to r.
 pub(crate) fn fold_values(values: &mut Vec<Ext>, r: Ext)
     requires { (half : ℕ) × (vec_len values.old ≡ half * 2) }
     ensures folded { values.new.items ≡ folded k_ops values.old.items r }
@@ -40,7 +40,7 @@ pub(crate) fn fold_values(values: &mut Vec<Ext>, r: Ext)
     values.truncate(half);
 }
 
-// Writes the table with its first coordinate bound to r.
+/// Writes the table with its first coordinate bound to r.
 pub(crate) fn fold_slice(values: &[Ext], r: Ext, room: &mut [Ext])
     requires { length values.now ≡ length room.old * 2 }
     ensures { room.new ≡ folded k_ops values.now r }
@@ -52,7 +52,7 @@ pub(crate) fn fold_slice(values: &[Ext], r: Ext, room: &mut [Ext])
     }
 }
 
-// The value of a table's extension at a point; the table is used up.
+/// The value of a table's extension at a point; the table is used up.
 pub(crate) fn eval_values(mut values: Vec<Ext>, point: &[Ext]) -> Ext
     requires { vec_len values ≡ 2 ^ length point.now }
     ensures { result ≡ extension_at k_ops k_ops (λ x. x) values.items point.now }

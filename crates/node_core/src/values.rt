@@ -24,7 +24,7 @@ pub fn node_values(alloc: Global, nodes: &[Node], inputs: &[Fp]) -> Result<Vec<F
     Ok(values)
 }
 
-// The value of a node that stands on those before it.
+/// The value of a node that stands on those before it.
 fn node_value(inputs: &[Fp], earlier: &[Fp], node: &Node) -> Fp
     requires { IsFineAt (length inputs.now) (length earlier.now) node.now }
     ensures { result ≡ node_value inputs.now earlier.now node.now }

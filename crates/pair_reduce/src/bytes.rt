@@ -1,4 +1,4 @@
-// The bytes of a proof by pairs.
+//! The bytes of a proof by pairs.
 
 ghost use Rattle.std.specs.Prelude.{◌≡◌, IfErr, IfOk, MatchResult, drop};
 ghost use Rattle.proof_wire.specs.declared.messages.Messages.{Messages as Listed};

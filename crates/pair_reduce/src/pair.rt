@@ -1,4 +1,4 @@
-// The values at both operands' points.
+//! The values at both operands' points.
 
 ghost use Rattle.std.specs.Prelude.{◌≡◌, IfOk, length};
 ghost use Rattle.field_ext.specs.Field.{k_ops};

@@ -1,4 +1,4 @@
-// Outputs, put at the places of their pieces.
+//! Outputs, put at the places of their pieces.
 
 ghost use Rattle.std.specs.Prelude.{◌≡◌, ℕ, ◌<◌, map, length, replicate, None, Some, slice_index_or, vec_len, IfOk};
 ghost use Rattle.std.specs.List.{range_with_len, All};

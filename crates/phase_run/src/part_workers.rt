@@ -1,4 +1,4 @@
-// Workers that claim parts and change them, each in a thread of its own.
+//! Workers that claim parts and change them, each in a thread of its own.
 
 ghost use Rattle.std.specs.Prelude.{◌≡◌, ◌+◌, ◌<◌, ◌^◌, true, None};
 ghost use Rattle.std.specs.Thread.{IsSync, IsSend};

@@ -1,4 +1,4 @@
-// Workers that claim pieces, each in a thread of its own.
+//! Workers that claim pieces, each in a thread of its own.
 
 ghost use Rattle.std.specs.Prelude.{◌≡◌, ◌+◌, ◌<◌, ◌≤◌, ◌^◌, true, false, [], ◌++◌, IsOk, IfOk};
 ghost use Rattle.std.specs.Thread.{IsSync, IsSend};

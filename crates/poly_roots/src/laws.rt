@@ -1,4 +1,4 @@
-// Laws of polynomials. Each function does nothing: its contract is a law that is proved.
+//! Laws of polynomials. Each function does nothing: its contract is a law that is proved.
 
 ghost use Rattle.std.specs.Prelude.{◌≡◌, ◌≤◌, ◌+◌, ℕ, List, length, slice_index_or};
 ghost use Rattle.field_ext.specs.Field.{K, k_ops, zero_k, add_k, mul_k};

@@ -1,4 +1,4 @@
-// Polynomials that own their coefficients.
+//! Polynomials that own their coefficients.
 
 ghost use Rattle.std.specs.Prelude.{◌≡◌, IfOk, List};
 ghost use Rattle.field_ext.specs.Field.{K, k_ops, zero_k, one_k, add_k};

@@ -1,4 +1,4 @@
-// Coefficients of sums and products.
+//! Coefficients of sums and products.
 
 ghost use Rattle.std.specs.Prelude.{◌≡◌, ◌<◌, ◌≤◌, ◌+◌, ℕ, length, slice_index_or, IfOk};
 ghost use Rattle.field_ext.specs.Field.{k_ops, zero_k, add_k, mul_k};
@@ -8,7 +8,7 @@ use crate::value::coefficient;
 use field_ext::Ext;
 use std::alloc::{AllocError, Global};
 
-// The sum, coefficient by coefficient.
+/// The sum, coefficient by coefficient.
 pub(crate) fn sum(alloc: Global, left: &[Ext], right: &[Ext]) -> Result<Vec<Ext>, AllocError>
     ensures { IfOk result (λ v. v.items ≡ sum_of k_ops left.now right.now) }
 {
@@ -20,7 +20,7 @@ pub(crate) fn sum(alloc: Global, left: &[Ext], right: &[Ext]) -> Result<Vec<Ext>
     Ok(sums)
 }
 
-// The product.
+/// The product.
 pub(crate) fn product(alloc: Global, left: &[Ext], right: &[Ext]) -> Result<Vec<Ext>, AllocError>
     ensures { IfOk result (λ v. v.items ≡ product_of k_ops left.now right.now) }
 {
@@ -38,7 +38,7 @@ pub(crate) fn product(alloc: Global, left: &[Ext], right: &[Ext]) -> Result<Vec<
     Ok(products)
 }
 
-// Adds the multiples of the right factor to zeros, that of the left factor's last coefficient first.
+/// Adds the multiples of the right factor to zeros, that of the left factor's last coefficient first.
 fn add_rows(room: &mut [Ext], left: &[Ext], right: &[Ext])
     requires factors { (0 < length left.now) × (0 < length right.now) }
     requires size { length room.old + 1 ≡ length left.now + length right.now }
@@ -51,7 +51,7 @@ fn add_rows(room: &mut [Ext], left: &[Ext], right: &[Ext])
     }
 }
 
-// Adds `c` times the coefficients to the room from `row` on.
+/// Adds `c` times the coefficients to the room from `row` on.
 fn add_row(room: &mut [Ext], row: usize, c: Ext, coefficients: &[Ext])
     requires { row + length coefficients.now ≤ length room.old }
     ensures before { (k : ℕ) → k < row

@@ -1,4 +1,4 @@
-// Values of lent coefficients.
+//! Values of lent coefficients.
 
 ghost use Rattle.std.specs.Prelude.{◌≡◌, slice_index_or};
 ghost use Rattle.field_ext.specs.Field.{k_ops, zero_k, one_k, add_k};
@@ -26,7 +26,7 @@ pub fn sum01(coefficients: &[Ext]) -> Ext
     coefficient(coefficients, 0) + value_at_one(coefficients)
 }
 
-// The coefficient of the i-th power, 0 past the last.
+/// The coefficient of the i-th power, 0 past the last.
 #[inline]
 pub(crate) fn coefficient(coefficients: &[Ext], i: usize) -> Ext
     ensures { result ≡ slice_index_or coefficients.now i zero_k }
@@ -38,7 +38,7 @@ pub(crate) fn coefficient(coefficients: &[Ext], i: usize) -> Ext
     }
 }
 
-// The sum of the coefficients.
+/// The sum of the coefficients.
 fn value_at_one(coefficients: &[Ext]) -> Ext
     ensures { result ≡ value_at k_ops coefficients.now one_k }
 {

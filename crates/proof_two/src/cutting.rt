@@ -1,3 +1,5 @@
+//! The messages of version 2, cut from the list of their coefficients.
+
 ghost use Rattle.std.specs.Prelude.{◌≡◌, ◌+◌, ◌*◌, IfOk, length, drop};
 ghost use Rattle.std.specs.List.{flat_map};
 ghost use Rattle.proof_two.specs.Spelling.{all_elements, element_count, layer_elements, pair_of};

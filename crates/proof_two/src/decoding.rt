@@ -1,3 +1,5 @@
+//! Reading the bytes of a proof of version 2.
+
 ghost use Rattle.std.specs.Prelude.{◌≡◌, ◌≤◌, ◌+◌, ◌*◌, ◌<◌, ℕ, ◌↔◌, ◌++◌, IfOk, IfErr, IfSome, IsSome, MatchOption, MatchResult, length, drop};
 ghost use Rattle.std.specs.List.{flat_map};
 ghost use Rattle.field_ext.specs.Bytes.{bytes_of};

@@ -1,4 +1,4 @@
-// The kinds of proofs.
+//! The kinds of proofs.
 
 ghost use Rattle.std.specs.Prelude.{◌≡◌};
 ghost use Rattle.proof_two.specs.Kinds.{form_in};

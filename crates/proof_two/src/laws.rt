@@ -1,5 +1,5 @@
-// Laws of the bytes of proofs of version 2, and of both versions. Each function does nothing: its contract is a law that is
-// proved.
+//! Laws of the bytes of proofs of version 2, and of both versions. Each function does nothing: its contract is a law that is
+//! proved.
 
 ghost use Rattle.std.specs.Prelude.{◌≡◌, ◌++◌, ℕ, List, [], length, drop, IsTrue};
 ghost use Rattle.proof_wire.specs.declared.messages.Messages.{Messages};

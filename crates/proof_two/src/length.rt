@@ -1,3 +1,5 @@
+//! The length of a proof of version 2.
+
 ghost use Rattle.std.specs.Prelude.{◌≡◌, ◌≤◌, ◌*◌, ◌^◌, drop};
 ghost use Rattle.proof_two.specs.Spelling.{element_count, length_two};
 

@@ -1,3 +1,5 @@
+//! The messages of a proof of version 2.
+
 use field_ext::Ext;
 use proof_wire::Listed;
 

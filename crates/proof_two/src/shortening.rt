@@ -1,3 +1,5 @@
+//! Leaving the middle coefficients out.
+
 ghost use Rattle.std.specs.Prelude.{◌≡◌, ℕ, IfOk, List, map};
 ghost use Rattle.proof_wire.specs.declared.form.ProofForm.{ProofForm};
 ghost use Rattle.proof_wire.specs.Lists.{HaveShape};

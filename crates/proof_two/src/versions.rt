@@ -1,4 +1,4 @@
-// Proofs by lines of both versions.
+//! Proofs by lines of both versions.
 
 ghost use Rattle.std.specs.Prelude.{◌≡◌, IfErr, IfOk, MatchResult};
 ghost use Rattle.proof_wire.specs.declared.refused.ProofRefused.TheVariants.{Memory};

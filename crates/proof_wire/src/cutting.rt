@@ -1,3 +1,5 @@
+//! The messages of a form, cut from the list of their coefficients.
+
 ghost use Rattle.std.specs.Prelude.{◌≡◌, ◌+◌, ◌*◌, IfOk, length, drop};
 ghost use Rattle.std.specs.List.{flat_map};
 ghost use Rattle.proof_wire.specs.Forms.{last_degree};

@@ -1,3 +1,5 @@
+//! Writing the bytes of a proof.
+
 ghost use Rattle.std.specs.Prelude.{◌≡◌, ◌++◌, OnOk, IfOk};
 ghost use Rattle.std.specs.List.{flat_map};
 ghost use Rattle.field_ext.specs.Bytes.{bytes_of};

@@ -1,4 +1,4 @@
-// The forms of proofs.
+//! The forms of proofs.
 
 ghost use Rattle.std.specs.Prelude.{◌≡◌, ◌≤◌, ◌+◌};
 ghost use Rattle.proof_wire.specs.Forms.{form_of, last_degree, magic};

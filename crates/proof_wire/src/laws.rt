@@ -1,4 +1,4 @@
-// Laws of the bytes of proofs. Each function does nothing: its contract is a law that is proved.
+//! Laws of the bytes of proofs. Each function does nothing: its contract is a law that is proved.
 
 ghost use Rattle.std.specs.Prelude.{◌≡◌, ◌++◌, ℕ, List, [], length, drop};
 ghost use Rattle.proof_wire.specs.declared.messages.Messages.{Messages};

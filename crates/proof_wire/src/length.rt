@@ -1,3 +1,5 @@
+//! The length of a proof.
+
 ghost use Rattle.std.specs.Prelude.{◌≡◌, ◌≤◌, ◌+◌, ◌*◌, ◌^◌, drop};
 ghost use Rattle.proof_wire.specs.Spelling.{coefficient_count, length_of};
 

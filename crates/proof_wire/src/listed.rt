@@ -1,3 +1,5 @@
+//! Lists of messages.
+
 use std::marker::Model;
 
 /// A list, which contracts see as its items.

@@ -1,3 +1,5 @@
+//! The messages of a proof.
+
 use crate::listed::Listed;
 use field_ext::Ext;
 

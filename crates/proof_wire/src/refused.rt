@@ -1,3 +1,5 @@
+//! Why bytes are no proof.
+
 use std::alloc::{AllocError, AllocFailed};
 
 /// What is wrong with bytes that should be a proof: the first trouble from the front.

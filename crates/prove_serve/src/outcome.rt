@@ -1,4 +1,5 @@
-// How a job ended whose client may have withdrawn it.
+//! How a job ended whose client may have withdrawn it.
+
 use job_core::Entry;
 
 /// How a job ended: with an answer, for want of memory, or withdrawn before any thread took it.

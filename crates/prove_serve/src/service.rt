@@ -1,4 +1,5 @@
-// All threads of a service.
+//! All threads of a service.
+
 ghost use Rattle.std.specs.Prelude.{◌≡◌, ℕ, ◌<◌, ◌≤◌, ◌+◌, ◌*◌, ◌^◌, ◌≢◌, ◌⊎◌, true, [], ◌∷◌, ◌++◌, map, Some, length, slice_get, vec_len, vec_capacity, IfOk};
 ghost use Rattle.std.specs.Thread.{IsSync, IsSend};
 ghost use Rattle.job_table.specs.History.{entries_of};
@@ -20,7 +21,7 @@ use std::sync::Wait;
 use std::sync::atomic::AtomicU64;
 use std::thread::{Threads, join};
 
-// The last thread's duty.
+/// The last thread's duty.
 fn last<C>(duties: &mut Vec<Duty<C>>, clients: u32, script: &Snapshot<Vec<Job<C>>>) -> Duty<C>
     requires some { 0 < vec_len duties.old }
     requires duties { AreDuties script.now.value.items clients duties.old.items }
@@ -38,7 +39,7 @@ fn last<C>(duties: &mut Vec<Duty<C>>, clients: u32, script: &Snapshot<Vec<Job<C>
     duty
 }
 
-// A pass for one thread more.
+/// A pass for one thread more.
 fn part<C, A: Fits<C>>(
     table: &JobTable<Job<C>, Reply<A>>,
     pass: &mut Pass<Job<C>, Reply<A>>,
@@ -59,7 +60,7 @@ fn part<C, A: Fits<C>>(
     table.split(pass, 1)
 }
 
-// Runs a thread for each duty. Those of clients come first, and the provers wait until these have submitted.
+/// Runs a thread for each duty. Those of clients come first, and the provers wait until these have submitted.
 #[cycle(threads)]
 fn spread<
     R: Threads + Wait + Sync,
@@ -136,7 +137,7 @@ fn spread<
     all
 }
 
-// How many jobs a table needs room for, which is one at least.
+/// How many jobs a table needs room for, which is one at least.
 fn room_for<C>(jobs: &Vec<Job<C>>) -> u32
     requires { vec_len jobs.now ≤ 256 }
     ensures room { vec_len jobs.now ≤ result }
@@ -149,7 +150,7 @@ fn room_for<C>(jobs: &Vec<Job<C>>) -> u32
     }
 }
 
-// Puts all jobs through one table, to its end.
+/// Puts all jobs through one table, to its end.
 fn run<R: Threads + Wait + Sync, W: CaseWork + Sync>(
     rt: &R,
     alloc: Global,
@@ -256,7 +257,7 @@ where
     })
 }
 
-// A place for each outcome.
+/// A place for each outcome.
 fn unended<A: Drop>(alloc: Global, count: usize) -> Result<Vec<HistoryOutcome<A>>, AllocError>
     ensures { IfOk result (λ outcomes. vec_len outcomes ≡ count) }
 {
@@ -267,7 +268,7 @@ fn unended<A: Drop>(alloc: Global, count: usize) -> Result<Vec<HistoryOutcome<A>
     Ok(outcomes)
 }
 
-// The steps of the table, without cases and outcomes.
+/// The steps of the table, without cases and outcomes.
 fn copy_entries<C: Drop, A: Drop>(events: Vec<Event<C, A>>, entries: &mut Vec<Entry>)
     requires room { (vec_len entries.old ≡ 0) × (length events.items ≤ vec_capacity entries.old) }
     ensures { entries.new.items ≡ entries_of events.items }
@@ -277,7 +278,7 @@ fn copy_entries<C: Drop, A: Drop>(events: Vec<Event<C, A>>, entries: &mut Vec<En
     }
 }
 
-// The place of each job.
+/// The place of each job.
 fn copy_places<C, A>(jobs: &[(Job<C>, Seen<A>)], places: &mut Vec<u32>)
     requires room { (vec_len places.old ≡ 0) × (length jobs.now ≤ vec_capacity places.old) }
     ensures { places.new.items ≡ map place_of jobs.now }
@@ -287,7 +288,7 @@ fn copy_places<C, A>(jobs: &[(Job<C>, Seen<A>)], places: &mut Vec<u32>)
     }
 }
 
-// Puts each outcome at its job's place.
+/// Puts each outcome at its job's place.
 fn tell_all<C: Drop, A: Fits<C> + Drop>(
     jobs: Vec<(Job<C>, Seen<Reply<A>>)>,
     outcomes: &mut Vec<HistoryOutcome<A>>,
@@ -311,7 +312,7 @@ fn told<A>(seen: Seen<Reply<A>>) -> HistoryOutcome<A>
     }
 }
 
-// A place for each outcome.
+/// A place for each outcome.
 fn vacant<A: Drop>(alloc: Global, count: usize) -> Result<Vec<Outcome<A>>, AllocError>
     ensures { IfOk result (λ outcomes. (vec_len outcomes ≡ count) × AreVacant outcomes.items) }
 {
@@ -322,7 +323,7 @@ fn vacant<A: Drop>(alloc: Global, count: usize) -> Result<Vec<Outcome<A>>, Alloc
     Ok(outcomes)
 }
 
-// Puts each outcome at its job's place.
+/// Puts each outcome at its job's place.
 fn place_all<C: Drop, A: Fits<C> + Drop>(
     jobs: Vec<(Job<C>, Seen<Reply<A>>)>,
     outcomes: &mut Vec<Outcome<A>>,
@@ -335,7 +336,7 @@ fn place_all<C: Drop, A: Fits<C> + Drop>(
     }
 }
 
-// Puts a job's outcome, where it has one, at its place.
+/// Puts a job's outcome, where it has one, at its place.
 fn put<A: Drop>(outcomes: &mut Vec<Outcome<A>>, place: u32, seen: Seen<Reply<A>>)
     ensures long { vec_len outcomes.new ≡ vec_len outcomes.old }
     ensures put { IsPut place seen outcomes.old.items outcomes.new.items }
@@ -360,7 +361,7 @@ fn set<A: Drop>(outcomes: &mut Vec<Outcome<A>>, place: u32, outcome: Outcome<Rep
     put_at(outcomes, place, plain);
 }
 
-// Puts the value at this place, where there is one.
+/// Puts the value at this place, where there is one.
 fn put_at<T: Drop>(list: &mut Vec<T>, place: u32, value: T)
     ensures long { vec_len list.new ≡ vec_len list.old }
     ensures at { (slice_get list.new.items place ≡ Some value) ⊎ (vec_len list.old ≤ place) }

@@ -1,4 +1,5 @@
-// What each thread does at the table.
+//! What each thread does at the table.
+
 ghost use Rattle.std.specs.Prelude.{◌≡◌, ◌⊎◌, ◌<◌, ◌≤◌, ◌+◌, ℕ, true, false, [], Ok, Some, slice_get, length, vec_len, vec_capacity};
 ghost use mathlib.Core.List.{IsPrefix};
 ghost use Rattle.job_table.specs.declared.table.Receipt.{Receipt};
@@ -29,7 +30,7 @@ where
     }
 }
 
-// Takes a job and finishes it. False is answered where no job is queued.
+/// Takes a job and finishes it. False is answered where no job is queued.
 fn answer_one<R: Wait, W: CaseWork>(
     rt: &R,
     alloc: Global,
@@ -131,7 +132,7 @@ where
     unreachable!()
 }
 
-// Keeps the receipt of a job that is to be withdrawn.
+/// Keeps the receipt of a job that is to be withdrawn.
 fn keep<C: Drop>(
     receipts: &mut Vec<Receipt>,
     submitted: Result<Receipt, Full<Job<C>>>,
@@ -151,7 +152,7 @@ fn keep<C: Drop>(
     }
 }
 
-// Submits a job, and keeps its receipt where it is marked.
+/// Submits a job, and keeps its receipt where it is marked.
 fn submit_one<R: Wait, C: Drop, A: Fits<C> + Drop>(
     rt: &R,
     table: &JobTable<Job<C>, Reply<A>>,
@@ -179,7 +180,7 @@ fn submit_one<R: Wait, C: Drop, A: Fits<C> + Drop>(
     keep(receipts, submitted, marked);
 }
 
-// Submits the jobs in order. The table has room for all.
+/// Submits the jobs in order. The table has room for all.
 fn submit_all<R: Wait, C: Drop, A: Fits<C> + Drop>(
     rt: &R,
     table: &JobTable<Job<C>, Reply<A>>,
@@ -205,7 +206,7 @@ fn submit_all<R: Wait, C: Drop, A: Fits<C> + Drop>(
     }
 }
 
-// Withdraws the jobs in order, as far as no thread has taken them.
+/// Withdraws the jobs in order, as far as no thread has taken them.
 fn withdraw_all<R: Wait, C, A: Fits<C>>(
     rt: &R,
     table: &JobTable<Job<C>, Reply<A>>,

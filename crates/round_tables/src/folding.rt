@@ -1,4 +1,4 @@
-// Folding in place.
+//! Folding in place.
 
 ghost use Rattle.std.specs.Prelude.{◌≡◌, ◌≤◌, ◌<◌, ◌+◌, ◌*◌, ℕ, length, slice_index_or};
 ghost use Rattle.field_ext.specs.Field.{k_ops, zero_k};

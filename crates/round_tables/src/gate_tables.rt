@@ -1,4 +1,4 @@
-// The public face of a layer's working tables.
+//! The public face of a layer's working tables.
 
 ghost use Rattle.std.specs.Prelude.{◌≡◌, ◌<◌, ◌≤◌, ◌+◌, ◌^◌, ◌↔◌, All, IfOk, IsTrue, [], ◌∷◌, ◌++◌, length, map};
 ghost use Rattle.field_ext.specs.Field.{K, k_ops};

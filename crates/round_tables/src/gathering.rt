@@ -1,4 +1,4 @@
-// The tables of a phase, built from the gates.
+//! The tables of a phase, built from the gates.
 
 ghost use Rattle.std.specs.Prelude.{◌≡◌, ◌≤◌, ◌<◌, ◌+◌, ℕ, All, length, if◌then◌else◌, ◌==◌, slice_index_or};
 ghost use Rattle.circuit_core.specs.Parts.{IsOver};

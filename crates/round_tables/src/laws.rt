@@ -1,4 +1,4 @@
-// What the pieces of a round add to. Each function does nothing: its contract is a law that is proved.
+//! What the pieces of a round add to. Each function does nothing: its contract is a law that is proved.
 
 ghost use Rattle.std.specs.Prelude.{◌≡◌, ◌<◌, ◌+◌, length};
 ghost use Rattle.field_ext.specs.Field.{k_ops};

@@ -1,4 +1,4 @@
-// The gates of a layer, lent for the time of its sumcheck, and where its claim stands.
+//! The gates of a layer, lent for the time of its sumcheck, and where its claim stands.
 
 ghost use Rattle.std.specs.Prelude.{◌≡◌, ◌≤◌, ◌<◌, ◌^◌, ℕ, IsTrue, length, slice_index_or, vec_len};
 ghost use Rattle.field_ext.specs.Field.{K, k_ops};

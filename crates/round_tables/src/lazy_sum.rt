@@ -1,4 +1,4 @@
-// Sums of products that are reduced once, at their end.
+//! Sums of products that are reduced once, at their end.
 
 ghost use Rattle.std.specs.Prelude.{◌≡◌, ◌<◌, ◌+◌, ◌*◌, ◌^◌};
 ghost use Rattle.field_ext.specs.Field.{of, add_k, mul_k, embed_k};

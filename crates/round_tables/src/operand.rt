@@ -1,4 +1,4 @@
-// How the values of a table are multiplied: any elements of K, or those of the base field, which take half the products.
+//! How the values of a table are multiplied: any elements of K, or those of the base field, which take half the products.
 
 ghost use Rattle.std.specs.Prelude.{◌≡◌, ◌^◌};
 ghost use Rattle.field_ext.specs.Field.{K, of, mul_k, sub_k};

@@ -1,4 +1,4 @@
-// What the pairs of a round sum to.
+//! What the pairs of a round sum to.
 
 ghost use Rattle.std.specs.Prelude.{◌≡◌, ◌≤◌, ◌<◌, ◌*◌, ◌+◌, ◌-◌, ◌^◌, ℕ, length, slice_index_or};
 ghost use Rattle.field_ext.specs.Field.{K, k_ops, zero_k};

@@ -1,4 +1,4 @@
-// The parts of a phase's tables, all together.
+//! The parts of a phase's tables, all together.
 
 ghost use Rattle.std.specs.Prelude.{◌≡◌, ◌≤◌, ◌<◌, ◌+◌, ◌-◌, ◌*◌, ◌^◌, IfOk, IsTrue, map, length, All};
 ghost use Rattle.mle_table.specs.Shape.{AreBase};

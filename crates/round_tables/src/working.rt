@@ -1,4 +1,4 @@
-// The working tables of a layer's sumcheck.
+//! The working tables of a layer's sumcheck.
 
 ghost use Rattle.std.specs.Prelude.{◌≡◌, ◌≢◌, ◌≤◌, ◌<◌, ◌+◌, ◌-◌, ◌*◌, ◌^◌, IfOk, IsTrue, false, [], ◌∷◌, ◌++◌, All, length, if◌then◌else◌, ◌==◌, slice_index_or};
 ghost use Rattle.field_ext.specs.Field.{K, k_ops, zero_k};

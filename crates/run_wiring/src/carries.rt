@@ -1,4 +1,4 @@
-// What the low digits of a run's numbers carry over.
+//! What the low digits of a run's numbers carry over.
 
 ghost use Rattle.std.specs.Prelude.{◌≡◌, ◌≤◌, ◌<◌};
 ghost use Rattle.run_wiring.specs.Entries.{AreSmall, carries_of};

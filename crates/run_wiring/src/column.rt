@@ -1,4 +1,4 @@
-// One binary digit of a run's numbers.
+//! One binary digit of a run's numbers.
 
 ghost use Rattle.std.specs.Prelude.{◌≡◌, ◌≤◌, ◌<◌, length};
 ghost use Rattle.field_ext.specs.Field.{k_ops};

@@ -1,4 +1,4 @@
-// The sum of a run's weights, digit by digit.
+//! The sum of a run's weights, digit by digit.
 
 ghost use Rattle.std.specs.Prelude.{◌≡◌, ◌≤◌, ◌<◌, ◌+◌, ◌*◌, ℕ, length, max, slice_index_or};
 ghost use Rattle.field_ext.specs.Field.{K, k_ops, zero_k, add_k, mul_k};

@@ -1,4 +1,4 @@
-// The longest runs of a layer's gates.
+//! The longest runs of a layer's gates.
 
 ghost use Rattle.std.specs.Prelude.{◌≡◌, ◌≤◌, ◌<◌, ◌+◌, ◌↔◌, IsTrue, IfOk, IfNone, IfSome, List, length, slice_index_or};
 ghost use Rattle.circuit_core.specs.Parts.{zero_gate};

@@ -1,4 +1,4 @@
-// The runs of a layer.
+//! The runs of a layer.
 
 ghost use Rattle.std.specs.Prelude.{◌≡◌, ◌≤◌, ◌<◌, ◌+◌, ◌*◌, [], length, max, slice_index_or, IfNone, IfOk, IfSome, IsTrue};
 ghost use Rattle.field_ext.specs.Field.{k_ops};

@@ -1,4 +1,4 @@
-// How the wiring polynomials of each layer are evaluated.
+//! How the wiring polynomials of each layer are evaluated.
 
 ghost use Rattle.std.specs.Prelude.{◌≡◌, ◌<◌, ◌+◌, [], length, slice_index_or, IfOk};
 ghost use Rattle.field_ext.specs.Field.{k_ops};

@@ -1,4 +1,4 @@
-// The wiring polynomials of a layer, by its runs.
+//! The wiring polynomials of a layer, by its runs.
 
 ghost use Rattle.std.specs.Prelude.{◌≡◌, ◌≤◌, ◌+◌, ◌*◌, ◌^◌, All, length, max};
 ghost use Rattle.field_ext.specs.Field.{k_ops};

@@ -1,4 +1,5 @@
-// A script from its jobs to their replies and the history of its table.
+//! A script from its jobs to their replies and the history of its table.
+
 ghost use Rattle.std.specs.Prelude.{◌≡◌, ◌≤◌, ◌<◌, map, length, get_or, vec_len, IfOk};
 ghost use Rattle.std.specs.Thread.{IsSync};
 ghost use Rattle.phase_run.specs.Work.{IsWorkerCount};
@@ -51,7 +52,7 @@ pub fn serve_script_history<R: Threads + Wait + Sync, G: Gate>(
     Ok(ServedHistory::new(served, lines))
 }
 
-// The client of each job.
+/// The client of each job.
 fn client_numbers(alloc: Global, script: &[MarkedJob]) -> Result<Vec<u32>, AllocError>
     ensures { IfOk result (λ clients. clients.items
         ≡ map (λ (job : MarkedJob). job.client) script.now) }
@@ -63,7 +64,7 @@ fn client_numbers(alloc: Global, script: &[MarkedJob]) -> Result<Vec<u32>, Alloc
     Ok(clients)
 }
 
-// Each job as the service takes it.
+/// Each job as the service takes it.
 fn marked(alloc: Global, script: Vec<MarkedJob>) -> Result<Vec<(u32, ScriptJob, bool)>, AllocError>
     ensures { IfOk result (λ jobs. jobs.items ≡ map marked_job script.items) }
 {
@@ -79,7 +80,7 @@ fn marked(alloc: Global, script: Vec<MarkedJob>) -> Result<Vec<(u32, ScriptJob, 
     Ok(jobs)
 }
 
-// A line of the history.
+/// A line of the history.
 fn history_line(entry: Entry, places: &[u32]) -> HistoryLine
     ensures { result ≡ line_of places.now entry }
 {
@@ -94,7 +95,7 @@ fn history_line(entry: Entry, places: &[u32]) -> HistoryLine
     }
 }
 
-// The number at a place of a list, or 0 behind its end.
+/// The number at a place of a list, or 0 behind its end.
 fn number_at(numbers: &[u32], place: usize) -> u32
     ensures { result ≡ get_or numbers.now place 0 }
 {
@@ -105,7 +106,7 @@ fn number_at(numbers: &[u32], place: usize) -> u32
     }
 }
 
-// The lines of the history.
+/// The lines of the history.
 fn history_lines(
     alloc: Global,
     history: &[Entry],
@@ -120,7 +121,7 @@ fn history_lines(
     Ok(lines)
 }
 
-// What is told of an outcome.
+/// What is told of an outcome.
 fn told(
     alloc: Global,
     outcome: HistoryOutcome<JobReply>,
@@ -135,7 +136,7 @@ fn told(
     }
 }
 
-// The replies, where no outcome is want of memory.
+/// The replies, where no outcome is want of memory.
 fn replies(
     alloc: Global,
     outcomes: Vec<HistoryOutcome<JobReply>>,

@@ -1,4 +1,5 @@
-// The work of the service: the reply of `prove` to a job's case.
+//! The work of the service: the reply of `prove` to a job's case.
+
 ghost use Rattle.std.specs.Prelude.{◌≡◌, IfOk, Result};
 ghost use Rattle.std.specs.Fn.{FnReturnsAt};
 ghost use Rattle.std.specs.declared.alloc.AllocError.{AllocError};

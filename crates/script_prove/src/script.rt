@@ -1,4 +1,5 @@
-// A script from its jobs to their replies.
+//! A script from its jobs to their replies.
+
 ghost use Rattle.std.specs.Prelude.{◌≡◌, ◌≤◌, ◌<◌, map, vec_len, IfOk};
 ghost use Rattle.std.specs.Thread.{IsSync};
 ghost use Rattle.phase_run.specs.Work.{IsWorkerCount};
@@ -48,7 +49,7 @@ pub fn serve_script<R: Threads + Wait + Sync, G: Gate>(
     served(alloc, outcomes)
 }
 
-// Each job with its client's number.
+/// Each job with its client's number.
 fn numbered(alloc: Global, script: Vec<ScriptJob>) -> Result<Vec<(u32, ScriptJob)>, AllocError>
     ensures { IfOk result (λ jobs. jobs.items ≡ map numbered_job script.items) }
 {
@@ -59,7 +60,7 @@ fn numbered(alloc: Global, script: Vec<ScriptJob>) -> Result<Vec<(u32, ScriptJob
     Ok(jobs)
 }
 
-// The replies, where no job ran out of memory.
+/// The replies, where no job ran out of memory.
 fn served(alloc: Global, outcomes: Vec<Outcome<JobReply>>) -> Result<Vec<ServedJob>, AllocError>
     ensures { IfOk result (λ served. outcomes.items ≡ map answer_of served.items) }
 {

@@ -1,3 +1,5 @@
+//! A case with the words of a session.
+
 use case_text::Case;
 use field_ext::Fp;
 use std::marker::Model;

@@ -124,7 +124,7 @@ impl<T: Copy> SharedList<T> {
         }
     }
 
-    // A copy of the items, in order.
+    /// A copy of the items, in order.
     fn copied(&self, alloc: Global) -> Result<Vec<T>, AllocError>
         ensures { IfOk result (λ items. items.items ≡ self.now) }
     {
@@ -209,7 +209,7 @@ impl<T: Copy> SharedList<T> {
         }
     }
 
-    // n rows of m items, as m rows of n, by a copy.
+    /// n rows of m items, as m rows of n, by a copy.
     fn rearranged(
         &self,
         alloc: Global,
@@ -240,7 +240,7 @@ impl<T: Copy> SharedList<T> {
         Ok(())
     }
 
-    // A copy with an item set, where there is one at this place.
+    /// A copy with an item set, where there is one at this place.
     fn copied_with(&self, alloc: Global, place: usize, item: T) -> Result<Vec<T>, AllocError>
         ensures { IfOk result (λ items. items.items ≡ set self.now place item) }
     {
@@ -250,7 +250,7 @@ impl<T: Copy> SharedList<T> {
     }
 }
 
-// A vector of one item.
+/// A vector of one item.
 fn alone<T: Copy>(alloc: Global, item: T) -> Result<Vec<T>, AllocError>
     ensures { IfOk result (λ items. items.items ≡ item ∷ []) }
 {
@@ -259,7 +259,7 @@ fn alone<T: Copy>(alloc: Global, item: T) -> Result<Vec<T>, AllocError>
     Ok(items)
 }
 
-// The items as a vector, copied where others hold them too.
+/// The items as a vector, copied where others hold them too.
 fn taken<T: Copy>(alloc: Global, items: Rc<Vec<T>>) -> Result<Vec<T>, AllocError>
     ensures { IfOk result (λ found. found.items ≡ items.value.items) }
 {
@@ -269,7 +269,7 @@ fn taken<T: Copy>(alloc: Global, items: Rc<Vec<T>>) -> Result<Vec<T>, AllocError
     }
 }
 
-// Sets an item where nobody else holds the list, and tells whether so.
+/// Sets an item where nobody else holds the list, and tells whether so.
 fn set_alone<T: Copy>(items: &mut Rc<Vec<T>>, place: usize, item: T) -> bool
     ensures alone { IsTrue result → items.new.value.items ≡ set items.old.value.items place item }
     ensures others { ¬ IsTrue result → items.new ≡ items.old }
@@ -283,7 +283,7 @@ fn set_alone<T: Copy>(items: &mut Rc<Vec<T>>, place: usize, item: T) -> bool
     }
 }
 
-// Sets an item, where there is one at this place.
+/// Sets an item, where there is one at this place.
 fn set_in<T: Copy>(items: &mut Vec<T>, place: usize, item: T)
     ensures { items.new.items ≡ set items.old.items place item }
 {

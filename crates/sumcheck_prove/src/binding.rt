@@ -12,7 +12,7 @@ use std::alloc::{AllocError, Global};
 use std::marker::Sync;
 use std::thread::Threads;
 
-// Folding takes less than summing, so only the widest rounds pay for threads.
+/// Folding takes less than summing, so only the widest rounds pay for threads.
 const PAIRS_TO_FOLD_BY_TWO: usize = 32768;
 
 /// Binds the next coordinate to the challenge `r`, where a round is left, as `GateTables::bind` does: workers fold the parts of

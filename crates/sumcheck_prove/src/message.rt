@@ -16,8 +16,8 @@ use std::alloc::{AllocError, Global};
 use std::marker::Sync;
 use std::thread::Threads;
 
-// Starting two threads costs as much as summing some 8,192 pairs, so a round pays for them from 16,384 pairs on. The first round
-// of a layer, once in the layer, may start them from 4,096 pairs on.
+/// Starting two threads costs as much as summing some 8,192 pairs, so a round pays for them from 16,384 pairs on. The first round
+/// of a layer, once in the layer, may start them from 4,096 pairs on.
 const PAIRS_FOR_TWO: usize = 16384;
 
 const PAIRS_FOR_TWO_AT_FIRST: usize = 4096;

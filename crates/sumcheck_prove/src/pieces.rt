@@ -1,4 +1,4 @@
-// The pieces of a round as work.
+//! The pieces of a round as work.
 
 ghost use Rattle.std.specs.Prelude.{◌≡◌, ◌<◌, ◌+◌, [], length};
 

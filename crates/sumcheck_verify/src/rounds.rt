@@ -1,4 +1,4 @@
-// The rounds of a sumcheck.
+//! The rounds of a sumcheck.
 
 ghost use Rattle.std.specs.Prelude.{◌≡◌, true, false, [], ◌∷◌, IfOk, IfErr};
 ghost use Rattle.field_ext.specs.Field.{K, k_ops, add_k, zero_k, one_k, same_k};

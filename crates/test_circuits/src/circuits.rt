@@ -1,4 +1,5 @@
 //! Two small circuits.
+
 ghost use Rattle.std.specs.Prelude.{◌≡◌};
 
 use circuit_core::{Circuit, CircuitGate, CircuitRefused, Kind, Layer, Leaf};

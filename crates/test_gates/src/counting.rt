@@ -1,3 +1,5 @@
+//! A gate that counts who passes.
+
 use io_edge::Gate;
 use std::sync::atomic::{AtomicU64, Ordering};
 

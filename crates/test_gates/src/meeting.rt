@@ -1,3 +1,5 @@
+//! A gate that sees whether two are there at one time.
+
 use io_edge::Gate;
 use std::hint::spin_loop;
 use std::sync::atomic::{AtomicU64, Ordering};

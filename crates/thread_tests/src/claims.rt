@@ -1,4 +1,5 @@
 //! Claims of pieces, in one thread.
+
 ghost use Rattle.std.specs.Prelude.{◌≡◌, false};
 ghost use Rattle.chunk_board.specs.Board.{IsOf};
 

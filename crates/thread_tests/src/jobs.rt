@@ -1,4 +1,5 @@
 //! One table of jobs, its answers and its fronts.
+
 ghost use Rattle.std.specs.Prelude.{◌≡◌, Some, length};
 ghost use Rattle.job_table.specs.Passes.{IsPassOf};
 

@@ -1,4 +1,5 @@
 //! Claims of parts, and workers that change them in place.
+
 ghost use Rattle.std.specs.Prelude.{◌≡◌, ◌+◌, false, None};
 ghost use Rattle.chunk_board.specs.PartViews.{IsOfParts, IsFresh};
 

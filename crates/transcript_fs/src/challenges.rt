@@ -1,3 +1,5 @@
+//! What a source of challenges does.
+
 ghost use Rattle.std.specs.Prelude.{◌≡◌, ℕ, List, IsTrue};
 ghost use Rattle.transcript_fs.specs.Source.{Source};
 

@@ -1,3 +1,5 @@
+//! Elements from the bytes of a hash.
+
 ghost use Rattle.std.specs.Prelude.{◌≡◌, ◌≤◌, length};
 ghost use Rattle.std.specs.Int.{w64, from_le_bytes};
 ghost use Rattle.transcript_fs.specs.Transcript.{element_in};

@@ -1,3 +1,5 @@
+//! What is hashed of elements, numbers and statements.
+
 ghost use Rattle.std.specs.Prelude.{◌<◌, ◌^◌, ◌++◌, ℕ, List, length};
 ghost use Rattle.std.specs.List.{flat_map};
 ghost use Rattle.std.specs.Int.{w32, to_le_bytes};

@@ -1,3 +1,5 @@
+//! A list of challenges as a source of them.
+
 ghost use Rattle.std.specs.Prelude.{◌≡◌};
 ghost use Rattle.transcript_fs.specs.Given.{numbers_of, given};
 

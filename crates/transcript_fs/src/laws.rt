@@ -1,4 +1,4 @@
-// Laws of the transcript. Each function does nothing: its contract is a law that is proved.
+//! Laws of the transcript. Each function does nothing: its contract is a law that is proved.
 
 ghost use Rattle.std.specs.Prelude.{ℕ, List, IsTrue};
 ghost use Rattle.transcript_fs.specs.Transcript.{transcript};

@@ -1,4 +1,4 @@
-// The coordinates of the output point.
+//! The coordinates of the output point.
 
 ghost use Rattle.std.specs.Prelude.{◌≡◌, length, IsTrue};
 ghost use Rattle.transcript_fs.specs.Source.{point_draws, state_after_point};

@@ -1,3 +1,5 @@
+//! What a proof is of.
+
 ghost use Rattle.std.specs.Prelude.{◌≡◌, ◌<◌, ◌^◌, length};
 
 use field_ext::Fp;

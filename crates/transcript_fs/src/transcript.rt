@@ -1,3 +1,5 @@
+//! The Fiat-Shamir transcript.
+
 ghost use Rattle.std.specs.Prelude.{◌≡◌};
 ghost use Rattle.transcript_fs.specs.Transcript.{named_state, pair_start_state, start_state, transcript};
 

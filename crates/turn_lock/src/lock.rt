@@ -1,4 +1,5 @@
-// The lock and its turns.
+//! The lock and its turns.
+
 ghost use Rattle.std.specs.Prelude.{◌≡◌, ℕ, ◌+◌, ◌<◌, ◌≤◌, true, false, List, [], ◌∷◌, ◌++◌, length, IfOk, IfErr};
 ghost use Rattle.std.specs.Prelude.{◌%◌, ◌^◌, ◌-◌};
 ghost use Rattle.tallies.specs.Tallies.{HasEachOnce, Apart};
@@ -22,7 +23,7 @@ const SERVING: usize = 1;
 
 const LENGTH: usize = 2;
 
-// How often a thread looks before it sleeps.
+/// How often a thread looks before it sleeps.
 const LOOKS: u32 = 64;
 
 /// A lock round a state. Threads share it by reference, each with a turn of its own.
@@ -84,7 +85,7 @@ fn one_slot<S>(alloc: Global, state: S) -> Result<Vec<Option<S>>, S>
     Ok(slots)
 }
 
-// The state that a table had no memory for.
+/// The state that a table had no memory for.
 fn only<S>(refused: Refused<Option<S>, Global>) -> S
     requires { (x : S) × (refused.slots.items ≡ Some x ∷ []) }
     ensures { refused.slots.items ≡ Some result ∷ [] }
@@ -97,7 +98,7 @@ fn only<S>(refused: Refused<Option<S>, Global>) -> S
     state
 }
 
-// Lets time pass: a moment at the first looks, and then until another ticket is served than the one found.
+/// Lets time pass: a moment at the first looks, and then until another ticket is served than the one found.
 fn pause<R: Wait, S: Storied<E>, E>(
     rt: &R,
     shared: &Shared<Option<S>, View<E>, Terms<S>, InTurn<S>>,
@@ -113,7 +114,7 @@ fn pause<R: Wait, S: Storied<E>, E>(
     }
 }
 
-// Looks until the ticket is served, and takes the state out of the slot.
+/// Looks until the ticket is served, and takes the state out of the slot.
 fn wait_for<R: Wait, S: Storied<E>, E>(
     rt: &R,
     shared: &Shared<Option<S>, View<E>, Terms<S>, InTurn<S>>,
@@ -139,7 +140,7 @@ fn wait_for<R: Wait, S: Storied<E>, E>(
     unreachable!()
 }
 
-// Wakes the turns that wait, where there are any. A ticket drawn later finds the next one served.
+/// Wakes the turns that wait, where there are any. A ticket drawn later finds the next one served.
 fn wake<S: Storied<E>, E>(shared: &Shared<Option<S>, View<E>, Terms<S>, InTurn<S>>, served: u64)
     requires { 1 < shared.now.table_id.words }
 {
@@ -216,7 +217,7 @@ impl<S: Storied<E>, E> TurnLock<S, E> {
         wake(shared, served);
     }
 
-    // Gives seats, whose number stands in a type, to a new turn.
+    /// Gives seats, whose number stands in a type, to a new turn.
     fn cut<K: Amount>(&self, turn: &mut Turn<S, E>, give: u32) -> Turn<S, E>
         requires lock { turn.old.table ≡ self.now.table }
         requires free { turn.old.holds ≡ false }

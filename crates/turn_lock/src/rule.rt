@@ -1,4 +1,5 @@
-// The rule of the lock, and what each kind of step tells.
+//! The rule of the lock, and what each kind of step tells.
+
 ghost use Rattle.std.specs.Prelude.{ℕ};
 
 use crate::storied::Storied;

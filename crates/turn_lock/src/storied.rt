@@ -1,4 +1,5 @@
-// A state with a history.
+//! A state with a history.
+
 ghost use Rattle.std.specs.Prelude.{◌≡◌, ℕ, List, [], ◌∷◌, ◌++◌, length};
 ghost use Rattle.tallies.specs.Tallies.{Apart};
 ghost use Rattle.turn_lock.specs.Lists.{unite};

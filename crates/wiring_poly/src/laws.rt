@@ -1,4 +1,4 @@
-// The law that sumcheck rests on. The function does nothing: its contract is a law that is proved.
+//! The law that sumcheck rests on. The function does nothing: its contract is a law that is proved.
 
 ghost use Rattle.std.specs.Prelude.{◌≡◌, ℕ, ◌+◌, ◌^◌, List, length, All};
 ghost use Rattle.field_ext.specs.Field.{K, k_ops};

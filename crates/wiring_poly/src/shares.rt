@@ -1,4 +1,4 @@
-// The two sums that make the wiring polynomials.
+//! The two sums that make the wiring polynomials.
 
 ghost use Rattle.std.specs.Prelude.{◌≡◌};
 ghost use Rattle.field_ext.specs.Field.{add_k, zero_k};

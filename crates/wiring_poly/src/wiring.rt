@@ -1,4 +1,4 @@
-// The wiring polynomials at a point.
+//! The wiring polynomials at a point.
 
 ghost use Rattle.std.specs.Prelude.{◌≡◌, ◌≤◌, ◌<◌, ◌+◌, ◌^◌, [], All, length, slice_index_or};
 ghost use Rattle.field_ext.specs.Field.{k_ops};
@@ -27,7 +27,7 @@ pub fn wiring_at(circuit: &Circuit, layer: u32, z: &[Ext], b: &[Ext], c: &[Ext])
     (sums.add, sums.mul)
 }
 
-// The wiring polynomials of a list of gates, by position, at points of at most 16 coordinates.
+/// The wiring polynomials of a list of gates, by position, at points of at most 16 coordinates.
 fn gate_sums(gates: &[CircuitGate], z: &[Ext], b: &[Ext], c: &[Ext]) -> WiringSums
     requires positions { length gates.now ≡ 2 ^ length z.now }
     requires operands { All (IsOver (2 ^ length b.now)) gates.now }

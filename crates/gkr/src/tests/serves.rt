@@ -9,7 +9,7 @@ const ROOM: Room = Room {
     piece: 4096,
 };
 
-// How many workers, provers and clients there are.
+/// How many workers, provers and clients there are.
 const COUNTS: [&str; 4] = ["1", "2", "3", "64"];
 
 const SERVE: &[&str] = &["gkr", "serve"];
