@@ -33,7 +33,7 @@ pub struct Expression {
     pub added: Vec<AddedTerm>,
 }
 
-/// A sign, its place and the term behind it.
+/// A sign, its place and the term after it.
 #[derive(Debug, Drop)]
 #[cycle(expression)]
 pub struct AddedTerm {
@@ -50,7 +50,7 @@ pub struct Term {
     pub times: Vec<TimesFactor>,
 }
 
-/// The place of a `*`, and the factor behind it.
+/// The place of a `*`, and the factor after it.
 #[derive(Debug, Drop)]
 #[cycle(expression)]
 pub struct TimesFactor {

@@ -18,7 +18,7 @@ pub struct IndexExpression {
     pub added: Vec<AddedIndexTerm>,
 }
 
-/// A sign, its place and the term behind it.
+/// A sign, its place and the term after it.
 #[derive(Debug, Drop)]
 #[cycle(index)]
 pub struct AddedIndexTerm {
@@ -35,7 +35,7 @@ pub struct IndexTerm {
     pub times: Vec<TimesIndexFactor>,
 }
 
-/// The place of a `*`, and the factor behind it.
+/// The place of a `*`, and the factor after it.
 #[derive(Debug, Drop)]
 #[cycle(index)]
 pub struct TimesIndexFactor {

@@ -34,7 +34,7 @@ pub struct Input {
     pub dimensions: Dimensions,
 }
 
-/// A statement of the top level, where outputs stand too.
+/// A statement of the top level, where outputs are too.
 #[derive(Debug, Drop)]
 pub enum TopStatement {
     /// `output e ;`, with the place of the word `output`

@@ -1,4 +1,4 @@
-//! Operators on lists that others may hold too. A list that nobody else holds gives its room.
+//! Operators on lists that others may hold too. A list that nobody else holds gives its buffer.
 
 ghost use Rattle.std.specs.Prelude.{◌≡◌, map, IfOk};
 ghost use Rattle.field_ext.specs.Field.{add_f, sub_f, mul_f, neg_f};

@@ -15,7 +15,7 @@ use std::alloc::Global;
 ///
 /// The inputs take the numbers in the order of their declarations, each array row by row; there
 /// have to be `checked.inputs` of them in all. `InputCount` comes exactly where there are not, and
-/// tells both counts. `Memory` is meant for where memory runs out. The time is meant to be linear in
+/// reports both counts. `Memory` is meant for where memory runs out. The time is meant to be linear in
 /// the elements that are computed, the steps that are run and the parts of index expressions.
 pub fn eval(alloc: Global, checked: &Checked, inputs: &[Fp]) -> Result<Vec<Fp>, EvalRefused>
     ensures { Evaluates vec_items (program_tree checked.now.program) inputs.now result }

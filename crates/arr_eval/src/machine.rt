@@ -180,7 +180,7 @@ fn front(numbers: &[Fp], count: usize) -> &[Fp]
     }
 }
 
-/// The numbers behind the first.
+/// The numbers after the first.
 #[tactic(auto, using(crate::proofs::Lists::of_fronts))]
 fn behind(numbers: &[Fp], count: usize) -> &[Fp]
     ensures { result.now ≡ drop count numbers.now }

@@ -31,7 +31,7 @@ pub fn matrix_product(
     Ok(found)
 }
 
-/// Row i of a product, behind the rows before it.
+/// Row i of a product, after the rows before it.
 fn add_row(
     found: &mut Vec<Fp>,
     m: usize,

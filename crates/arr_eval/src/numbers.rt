@@ -1,4 +1,4 @@
-//! Lists of elements. Operators work in the room of a list that isn't used again.
+//! Lists of elements. Operators work in the buffer of a list that isn't used again.
 
 ghost use Rattle.std.specs.Prelude.{◌≡◌, ◌≤◌, map, length, fold};
 ghost use Rattle.std.specs.List.{zip};

@@ -7,14 +7,14 @@ ghost use Rattle.arr_lex.specs.Lexing.{tokens_from, with_front};
 ghost use Rattle.arr_lex.specs.Moved.{moved};
 ghost use Rattle.arr_lex.specs.Spans.{AreSpans};
 
-/// A text has the same tokens wherever it stands, but for their places.
+/// A text has the same tokens wherever it begins, but for their places.
 pub fn same_anywhere()
     ensures { (distance : ℕ) (text : List ℕ)
         → tokens_from distance 0 text ≡ moved distance (tokens_from 0 0 text) }
 {}
 
-/// White space between tokens only moves what stands behind it: the tokens before it stay, and those behind it are those of
-/// the rest alone, further on. So however much of it stands there, and of which bytes, symbols and their order stay.
+/// White space between tokens only moves what comes after it: the tokens before it stay, and those after it are those of
+/// the rest alone, further on. So however much of it is there, and of which bytes, symbols and their order stay.
 pub fn white_space_moves()
     ensures { (front : List ℕ) (blank : ℕ) (back : List ℕ) (tokens : List Token)
         → is_blank blank ≡ true → tokens_from 0 0 front ≡ Ok tokens →

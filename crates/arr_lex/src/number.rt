@@ -10,7 +10,7 @@ use crate::token::Symbol;
 
 const MAX_NUMBER: u64 = 2_147_483_646;
 
-/// The number of a first digit and those behind it.
+/// The number of a first digit and those after it.
 #[tactic(auto, using(crate::proofs::Later::of_numbers))]
 pub fn number_taken(at: usize, first: u8, digits: &[u8]) -> Result<(Symbol, usize), LexRefused>
     requires fits { at + length digits.now < 2 ^ 63 }

@@ -9,7 +9,7 @@ use thiserror::Error;
 /// Why a text has no tokens.
 #[derive(Clone, Copy, PartialEq, Eq, Debug, Error)]
 pub enum LexRefused {
-    /// The first byte, counted from 0, that begins no token, or the digit that breaks the rule for numbers: one behind a leading 0,
+    /// The first byte, counted from 0, that begins no token, or the digit that breaks the rule for numbers: one after a leading 0,
     /// or one that takes the number past 2147483646.
     #[error("byte {at} belongs to no token")]
     Lex { at: usize },

@@ -1,4 +1,4 @@
-//! Tokens: what they are, and where they stand in the text.
+//! Tokens: what they are, and where they are in the text.
 
 /// What a token is.
 #[derive(Clone, Copy, PartialEq, Eq, Debug)]

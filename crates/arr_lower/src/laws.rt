@@ -32,7 +32,7 @@ pub fn has_outputs()
         (length nodes.outputs ≡ (run_end program).outputs) × (1 ≤ length nodes.outputs) }
 {}
 
-/// The nodes of a program stand in order: each names inputs of the program and nodes before it,
+/// The nodes of a program are in order: each names inputs of the program and nodes before it,
 /// and each output is one of them. There is an output, and there are few enough nodes and outputs
 /// for their numbers.
 pub fn nodes_in_order()

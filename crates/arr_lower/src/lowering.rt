@@ -14,7 +14,7 @@ use std::alloc::{AllocError, Global};
 
 /// The nodes of a program: its leaves, then constants and operations in the order of their making.
 ///
-/// The only error is want of memory. The time is meant to be linear in the elements that are
+/// The only error is out of memory. The time is meant to be linear in the elements that are
 /// computed, the steps that are run and the parts of index expressions, but for the search of
 /// constants, which is logarithmic in their number.
 pub fn lower(alloc: Global, checked: &Checked) -> Result<NodeList, AllocError>

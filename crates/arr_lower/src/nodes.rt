@@ -15,9 +15,9 @@ use std::marker::Model;
 
 /// A list of nodes that grows.
 ///
-/// A map from each constant to its node stands beside the list, so a constant is found in time
+/// A map from each constant to its node is kept beside the list, so a constant is found in time
 /// logarithmic in their number. A node's number is a `u32`: where there are as many nodes as that
-/// has numbers, a call answers as for want of memory. The checks let far fewer pass, as a law says.
+/// has numbers, a call answers as if out of memory. The checks let far fewer pass, as a law says.
 #[derive(Drop)]
 pub struct Nodes {
     nodes: Vec<Node>,

@@ -129,7 +129,7 @@ fn factor(cursor: &mut Cursor) -> Result<Box<Factor>, ParseRefused>
     }
 }
 
-/// A name, or its element at the indices behind it.
+/// A name, or its element at the indices after it.
 #[inline(never)]
 fn name_or_element(cursor: &mut Cursor, name: Name) -> Result<Box<Factor>, ParseRefused>
     ensures spelled { IfOk result (λ found.
@@ -140,7 +140,7 @@ fn name_or_element(cursor: &mut Cursor, name: Name) -> Result<Box<Factor>, Parse
     Ok(named(cursor.alloc(), name, indices)?)
 }
 
-/// A call of a function of one argument, behind the function's word.
+/// A call of a function of one argument, after the function's word.
 #[cycle(expression)]
 #[inline(never)]
 #[tactic(auto, using(crate::proofs::Rows::of_expressions))]
@@ -160,7 +160,7 @@ fn single(
     Ok(call)
 }
 
-/// A call of a function of two arguments, behind the function's word.
+/// A call of a function of two arguments, after the function's word.
 #[cycle(expression)]
 #[inline(never)]
 #[tactic(auto, using(crate::proofs::Rows::of_expressions))]

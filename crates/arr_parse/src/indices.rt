@@ -1,4 +1,4 @@
-//! The indices behind a name.
+//! The indices after a name.
 
 ghost use Rattle.std.specs.Prelude.{[], ◌∷◌, IfOk};
 ghost use Rattle.arr_parse.specs.IndexSpelling.{second_spelling, maybe_indices_spelling};
@@ -24,7 +24,7 @@ pub fn maybe_indices(cursor: &mut Cursor) -> Result<Option<Indices>, ParseRefuse
     Ok(Some(Indices { first, second }))
 }
 
-/// An index in its brackets, if the tokens begin with one. Behind a first index there may be a second.
+/// An index in its brackets, if the tokens begin with one. After a first index there may be a second.
 fn maybe_index(cursor: &mut Cursor) -> Result<Option<IndexExpression>, ParseRefused>
     ensures spelled { IfOk result
         (λ found. Takes [] cursor.old (second_spelling found) cursor.new) }

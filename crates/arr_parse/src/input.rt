@@ -1,4 +1,4 @@
-//! Inputs, which stand before all statements.
+//! Inputs, which come before all statements.
 
 ghost use Rattle.std.specs.Prelude.{◌≡◌, [], ◌∷◌, length, IfOk, flat_map};
 ghost use Rattle.arr_lex.specs.declared.token.Symbol.TheVariants.{Input as InputWord, Number, Semicolon};
@@ -31,7 +31,7 @@ pub fn inputs(cursor: &mut Cursor) -> Result<Vec<Input>, ParseRefused>
     Ok(inputs)
 }
 
-/// An input, behind its word.
+/// An input, after its word.
 fn input(cursor: &mut Cursor, at: usize) -> Result<Input, ParseRefused>
     ensures spelled { IfOk result (λ found. Takes (Placed at InputWord ∷ []) cursor.old
         (input_spelling found) cursor.new) }
@@ -63,7 +63,7 @@ fn dimensions(cursor: &mut Cursor) -> Result<Dimensions, ParseRefused>
     Ok(Dimensions::Matrix(first, second))
 }
 
-/// A dimension in its brackets, if the tokens begin with one. Behind a first dimension there may be a second.
+/// A dimension in its brackets, if the tokens begin with one. After a first dimension there may be a second.
 fn maybe_dimension(cursor: &mut Cursor) -> Result<Option<Dimension>, ParseRefused>
     ensures spelled { IfOk result
         (λ found. Takes [] cursor.old (maybe_dimension_spelling found) cursor.new) }

@@ -36,7 +36,7 @@ pub fn one_tree_of_words()
         IsTreeOf text tokens a → IsTreeOf other others b → unplaced a ≡ unplaced b }
 {}
 
-/// Whether a text is refused is decided by its tokens' symbols, wherever they stand.
+/// Whether a text is refused is decided by its tokens' symbols, wherever they are.
 pub fn refused_by_symbols()
     ensures { (end other_end : ℕ) (due : List Part) (tokens others : List Token)
         → map (λ token. token.symbol) tokens ≡ map (λ token. token.symbol) others →

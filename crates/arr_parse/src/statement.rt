@@ -52,7 +52,7 @@ fn boxed_statement(cursor: &mut Cursor) -> Result<Box<Statement>, ParseRefused>
     }
 }
 
-/// A declaration, behind its word.
+/// A declaration, after its word.
 #[inline(never)]
 fn declaration(cursor: &mut Cursor, at: usize) -> Result<Box<Statement>, ParseRefused>
     ensures spelled { IfOk result (λ found. Takes (Placed at LetWord ∷ []) cursor.old
@@ -65,7 +65,7 @@ fn declaration(cursor: &mut Cursor, at: usize) -> Result<Box<Statement>, ParseRe
     Ok(declared(cursor.alloc(), at, name, value)?)
 }
 
-/// An assignment, behind its name.
+/// An assignment, after its name.
 #[inline(never)]
 fn assignment(cursor: &mut Cursor, name: Name) -> Result<Box<Statement>, ParseRefused>
     ensures spelled { IfOk result (λ found. Takes (name_spelling name) cursor.old
@@ -101,7 +101,7 @@ pub fn ended_value(cursor: &mut Cursor) -> Result<Expression, ParseRefused>
     Ok(value)
 }
 
-/// A loop, behind its word.
+/// A loop, after its word.
 #[cycle(statement)]
 #[inline(never)]
 #[tactic(auto, using(crate::proofs::StatementRows::of_statements))]

@@ -6,7 +6,7 @@ ghost use Rattle.arr_run.specs.Operations.{Operations};
 use arr_ast::{PairFunction, ShapeOf, Sign, SingleFunction};
 use std::alloc::AllocError;
 
-/// A kind of arrays, and what is kept beside them. Shapes fit where a call is told them.
+/// A kind of arrays, and what is kept beside them. A call is given shapes that fit.
 pub trait Machine {
     type Array: Drop;
 

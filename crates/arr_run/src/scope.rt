@@ -11,7 +11,7 @@ use std::marker::Model;
 
 /// The names in scope by their numbers, with what they stand for, seen as a list, the oldest first.
 ///
-/// The oldest place of each name stands beside the list, so a look-up takes constant time, and forgetting costs only the names
+/// The oldest place of each name is kept beside the list, so a look-up takes constant time, and forgetting costs only the names
 /// forgotten.
 #[derive(Drop)]
 pub struct Scope<A> {
@@ -69,7 +69,7 @@ impl<A: Drop> Scope<A> {
         }
     }
 
-    /// Takes away the array of a name, if it has one. A turn stands in its place.
+    /// Takes away the array of a name, if it has one. A turn is put in its place.
     pub fn take(&mut self, name: usize) -> Option<(ShapeOf, A)>
         ensures array { result ≡ array_of (binding_of name self.old) }
         ensures hole { IfSome result (λ _. self.new ≡ with_binding name (Turn 0) self.old) }
@@ -91,14 +91,14 @@ impl<A: Drop> Scope<A> {
         matches!(self.get(name), Some(Bound::Value(_, _)))
     }
 
-    /// Where a name stands, if it is in scope.
+    /// Where a name is, if it is in scope.
     pub fn place(&self, name: usize) -> Option<usize>
         ensures { result ≡ place_of name self.now }
     {
         place_at(&self.places, name)
     }
 
-    /// Adds a name behind the others. Where the name was in scope already, the older one is still found first.
+    /// Adds a name after the others. Where the name was in scope already, the older one is still found first.
     pub fn declare(&mut self, name: usize, binding: Bound<A>) -> Result<(), AllocError>
         ensures { OnOk result (self.new ≡ self.old ++ (name, binding) ∷ []) }
     {
@@ -153,7 +153,7 @@ impl<A: Drop> Scope<A> {
     }
 }
 
-/// The place of a name, which is none behind the last.
+/// The place of a name, which is none after the last.
 fn place_at(places: &[Option<usize>], name: usize) -> Option<usize>
     ensures { result ≡ get_or places.now name None }
 {
@@ -163,7 +163,7 @@ fn place_at(places: &[Option<usize>], name: usize) -> Option<usize>
     }
 }
 
-/// Sets the place of a name, where there is room.
+/// Sets the place of a name, where the list goes so far.
 fn set_place(places: &mut Vec<Option<usize>>, name: usize, place: Option<usize>)
     ensures { places.new.items ≡ set places.old.items name place }
 {
@@ -172,7 +172,7 @@ fn set_place(places: &mut Vec<Option<usize>>, name: usize, place: Option<usize>)
     }
 }
 
-/// Makes room for the place of a name.
+/// Extends the list as far as the place of a name.
 fn make_room(places: &mut Vec<Option<usize>>, name: usize) -> Result<(), AllocError>
     ensures same { (other : ℕ) → get_or places.new.items other None
         ≡ get_or places.old.items other None }

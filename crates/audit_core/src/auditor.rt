@@ -190,7 +190,7 @@ fn verdict_on(
     Ok(verdict)
 }
 
-/// The first exceptional challenge by its number and value: a coordinate of the output point, or else one behind a message.
+/// The first exceptional challenge by its number and value: a coordinate of the output point, or else one after a message.
 fn first_challenge(
     k: usize,
     coordinate: Option<usize>,
@@ -212,7 +212,7 @@ fn first_challenge(
     }
 }
 
-/// Where the first message stands that differs.
+/// Where the first message that differs is.
 fn first_message(circuit: &Circuit, number: Option<usize>) -> Option<Place>
     ensures { result ≡ option_map (place_in (layers_of circuit.now.parts) 0) number }
 {

@@ -9,7 +9,7 @@ use crate::found::Found;
 use field_ext::Ext;
 use proof_wire::LayerMessages;
 
-/// Compares the messages with the true ones, where `drawn` are the challenges behind them.
+/// Compares the messages with the true ones, where `drawn` are the challenges after them.
 pub(crate) fn compare(messages: &[LayerMessages], truth: &[LayerMessages], drawn: &[Ext]) -> Found
     requires alike { AreAlike messages.now truth.now }
     requires drawn { length (all_messages messages.now) ≤ length drawn.now }

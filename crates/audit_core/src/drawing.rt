@@ -11,7 +11,7 @@ use proof_wire::LayerMessages;
 use std::alloc::{AllocError, Global};
 use transcript_fs::{Challenges, draw_point};
 
-/// Every challenge of a run with these messages: the coordinates of the output point, and one behind each message, whatever
+/// Every challenge of a run with these messages: the coordinates of the output point, and one after each message, whatever
 /// the messages are. Err only where no memory is found; the challenges may then have moved on.
 pub(crate) fn draw_all<C: Challenges>(
     alloc: Global,
@@ -35,7 +35,7 @@ pub(crate) fn draw_all<C: Challenges>(
     Ok(drawn)
 }
 
-/// Takes the messages of a layer in, and adds the challenge behind each.
+/// Takes the messages of a layer in, and adds the challenge after each.
 fn draw_layer<C: Challenges>(
     messages: &LayerMessages,
     drawn: &mut Vec<Ext>,
@@ -54,7 +54,7 @@ fn draw_layer<C: Challenges>(
     Ok(())
 }
 
-/// Takes a message in, and adds the challenge behind it.
+/// Takes a message in, and adds the challenge after it.
 fn draw_behind<C: Challenges>(
     message: &[Ext],
     drawn: &mut Vec<Ext>,

@@ -7,7 +7,7 @@ ghost use Rattle.audit_core.specs.Found.{IsFoundBelow};
 use field_ext::Ext;
 use poly_roots::value_at;
 
-/// The first message that isn't the true one, and the first that has the true one's value at the challenge behind it none
+/// The first message that isn't the true one, and the first that has the true one's value at the challenge after it none
 /// the less. Messages count from 0.
 #[derive(Clone, Copy)]
 pub(crate) struct Found {
@@ -26,7 +26,7 @@ impl Found {
         }
     }
 
-    /// The same after one more message, the true one in its place, and the challenge behind it.
+    /// The same after one more message, the true one in its place, and the challenge after it.
     pub(crate) fn with(self, number: usize, message: &[Ext], truth: &[Ext], challenge: Ext) -> Found
         requires { length truth.now ≡ length message.now }
         ensures { (qs ts : List (List K)) (rs : List K) → IsFoundBelow qs ts rs number self

@@ -35,7 +35,7 @@ pub(crate) fn inputs_of(
     Ok(inputs)
 }
 
-/// Writes each input that a leaf reads, as it stands behind position 0 of the table of the input layer.
+/// Writes each input that a leaf reads, as it is found after position 0 of the table of the input layer.
 fn read_leaves(leaves: &[Leaf], table: &Table, inputs: &mut [Fp])
     requires within { All (IsLeafWithin (length inputs.old)) leaves.now }
     requires room { length leaves.now < 2 ^ table.now.k }

@@ -40,7 +40,7 @@ pub(crate) fn claimed_less_true(
     Ok(table)
 }
 
-/// Writes into each place what is claimed there less what stands there: 0, the outputs and zeros are claimed.
+/// Writes into each place what is claimed there less what is there: 0, the outputs and zeros are claimed.
 fn subtract_from(outputs: &[Fp], items: &mut [Ext])
     requires { length outputs.now < length items.old }
     ensures { items.new ≡ difference k_ops

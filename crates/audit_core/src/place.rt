@@ -1,4 +1,4 @@
-//! Where a message stands.
+//! Where a message is.
 
 ghost use Rattle.std.specs.Prelude.{◌≡◌};
 ghost use Rattle.gkr_layers.specs.Layers.{layers_of};
@@ -14,7 +14,7 @@ pub struct Place {
     pub round: Option<u32>,
 }
 
-/// Where the message of this number stands, counted from 0.
+/// Where the message of this number is, counted from 0.
 pub(crate) fn place_of(circuit: &Circuit, number: usize) -> Place
     ensures { result ≡ place_in (layers_of circuit.now.parts) 0 number }
 {

@@ -3,7 +3,7 @@
 //! `eval_case` reads the program of a case and gives its outputs: the program's meaning on the case's inputs.
 //! `circuit_case` lays the program out as a circuit and gives its sizes. `prove_case` gives the case with its outputs and
 //! their proof, by lines or by pairs, and `verify_case` the verdict on the case's proof, whose fourth byte tells its form.
-//! `audit_case` tells of a proof by lines what an auditor finds who runs the honest prover beside it, and `convert_case` writes
+//! `audit_case` reports of a proof by lines what an auditor finds who runs the honest prover beside it, and `convert_case` writes
 //! such a proof in another version. The refusals come in one order: the program, the number of inputs, that of outputs, and
 //! the proof's bytes. `laws` says that what is proved is accepted, is one for its kind and has a text short enough to be read,
 //! and that what is converted has the verdicts of the case.

@@ -86,7 +86,7 @@ fn prove_claim<R: Threads + Sync, G: Gate>(
 }
 
 /// The program's meaning on the case's inputs, where the program is laid out as this circuit and its layers have these values:
-/// what stands in its output layer.
+/// what is in its output layer.
 pub fn meant_outputs(
     alloc: Global,
     case: &Case,

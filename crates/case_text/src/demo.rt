@@ -1,4 +1,4 @@
-//! What a run of the demo tells.
+//! What a run of the demo reports.
 
 use field_ext::Fp;
 

@@ -1,6 +1,6 @@
 //! The forms of cases.
 
-/// Which lines a case has behind its inputs: neither outputs nor proof, both, or each or not.
+/// Which lines a case has after its inputs: neither outputs nor proof, both, or each or not.
 #[derive(Clone, Copy, Debug, PartialEq, Eq)]
 pub enum Form {
     /// Neither outputs nor a proof.

@@ -10,7 +10,7 @@ use crate::writing::put_number;
 use std::alloc::{AllocError, Global};
 use std::marker::Model;
 
-/// What happened to a job, with the job's number. With a submission stands the job's place in the script, from 0.
+/// What happened to a job, with the job's number. With a submission goes the job's place in the script, from 0.
 #[derive(Clone, Copy, Debug, PartialEq, Eq)]
 pub enum HistoryLine {
     Submit { job: u32, place: u32 },

@@ -20,7 +20,7 @@ pub fn read_exactly()
         ↔ Spells form bytes c }
 {}
 
-/// A refusal stands at the end of the longest front of the bytes with which some text begins.
+/// A refusal is at the end of the longest prefix of the bytes with which some text begins.
 pub fn refusal_place()
     ensures { (form : Form) (bytes : List ℕ) (bad : BadCase) → reading form bytes ≡ Err bad
         → IsPlace (λ c text. Spells form text c) bytes bad.at }

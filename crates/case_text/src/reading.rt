@@ -156,7 +156,7 @@ fn proof_of(alloc: Global, form: Form, bytes: &[u8]) -> Result<(Option<Vec<u8>>,
     }
 }
 
-/// Takes the case of a form that the front of the bytes spells, and answers it with what follows. It stops at the first byte
+/// Takes the case of a form that a prefix of the bytes spells, and answers it with what follows. It stops at the first byte
 /// that isn't due, or at the end; memory may run out.
 #[tactic(auto, unfolding(crate::specs::Reading::case_at))]
 pub fn case_of(alloc: Global, form: Form, bytes: &[u8]) -> Result<(Case, &[u8]), ReadError>
@@ -173,7 +173,7 @@ pub fn case_of(alloc: Global, form: Form, bytes: &[u8]) -> Result<(Case, &[u8]),
     Ok((Case::new(program, inputs, outputs, proof), rest))
 }
 
-/// Takes a case, behind which nothing stands.
+/// Takes a case, after which nothing comes.
 #[tactic(auto, using(crate::proofs::Whole::rest_follows))]
 fn whole(alloc: Global, form: Form, bytes: &[u8]) -> Result<Case, ReadError>
     ensures { Gives (λ c. c) result (case_in form bytes.now) }
@@ -185,7 +185,7 @@ fn whole(alloc: Global, form: Form, bytes: &[u8]) -> Result<Case, ReadError>
     Ok(case)
 }
 
-/// Takes a case, and tells a refusal by its place.
+/// Takes a case, and names a refusal by its place.
 fn placed(alloc: Global, form: Form, bytes: &[u8]) -> Result<Case, CaseRefused>
     ensures { Answers result (reading form bytes.now) }
 {

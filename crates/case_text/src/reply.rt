@@ -61,7 +61,7 @@ pub enum Reply {
     Session(SessionSizes),
 }
 
-/// How the kind is told.
+/// How the kind is named.
 fn kind_name(kind: DueKind) -> &'static [u8]
     ensures { result.now ≡ kind_name kind }
 {
@@ -77,7 +77,7 @@ fn kind_name(kind: DueKind) -> &'static [u8]
     }
 }
 
-/// How the kind of a program's refusal is told.
+/// How the kind of a program's refusal is named.
 fn program_kind_name(kind: ProgramKind) -> &'static [u8]
     ensures { result.now ≡ program_kind_name kind }
 {
@@ -132,7 +132,7 @@ fn put_sizes(out: &mut Vec<u8>, sizes: &CircuitSizes) -> Result<(), AllocError>
     put_totals(out, sizes)
 }
 
-/// How many layers stand above the last.
+/// How many layers are above the last.
 fn above_the_last(layers: &[LayerSize]) -> u64
     ensures { result ≡ length layers.now - 1 }
 {

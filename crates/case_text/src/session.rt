@@ -1,4 +1,4 @@
-//! What is told of a live session.
+//! What is reported of a live session.
 
 ghost use Rattle.std.specs.Prelude.{◌≡◌, ◌++◌, OnOk};
 ghost use Rattle.case_text.specs.Replies.{session_text};

@@ -1,4 +1,4 @@
-//! What is told of a proof: the verdict, and what an audit finds.
+//! What is reported of a proof: the verdict, and what an audit finds.
 
 ghost use Rattle.std.specs.Prelude.{◌≡◌, ◌++◌, OnOk};
 ghost use Rattle.case_text.specs.Replies.{audit_text, challenge_text, failed_layer_text, failed_round_text, failed_text, meaning_text, message_text, sides_text, verdict_text};

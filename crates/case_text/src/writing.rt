@@ -16,7 +16,7 @@ use field_ext::Fp;
 use itoa::Buffer;
 use std::alloc::{AllocError, Global};
 
-/// A decimal, and the byte behind it.
+/// A decimal, and the byte after it.
 pub fn put_number(out: &mut Vec<u8>, number: u64, behind: u8) -> Result<(), AllocError>
     ensures { OnOk result (out.new.items ≡ out.old.items ++ number_text number behind) }
 {
@@ -37,7 +37,7 @@ fn put_values(out: &mut Vec<u8>, values: &[Fp]) -> Result<(), AllocError>
     Ok(())
 }
 
-/// What stands behind a value that this many follow.
+/// What comes after a value that this many follow.
 pub fn behind_value(following: usize) -> u8
     ensures { result ≡ behind_value following }
 {
@@ -61,7 +61,7 @@ fn put_program(out: &mut Vec<u8>, program: &[u8]) -> Result<(), AllocError>
     Ok(())
 }
 
-/// Values behind their count.
+/// Values after their count.
 pub fn put_counted(out: &mut Vec<u8>, values: &[Fp]) -> Result<(), AllocError>
     ensures { OnOk result (out.new.items ≡ out.old.items ++ counted_text values.now) }
 {

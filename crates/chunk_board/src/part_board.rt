@@ -260,7 +260,7 @@ impl<T: Drop> PartBoard<T> {
         claimer.stopped = claimer.stopped || stopped;
     }
 
-    /// Whether each part was drawn, and the parts in their order, told by the claimer that has all shares again: for each the
+    /// Whether each part was drawn, and the parts in their order, as the claimer that has all shares again knows: for each the
     /// one that was put back for it, or the part as it was where it wasn't drawn.
     pub fn close(self, claimer: PartClaimer<T>) -> Parts<T>
         requires board { IsOfParts self claimer }

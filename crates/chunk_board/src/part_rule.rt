@@ -1,4 +1,4 @@
-//! The rule of a board of parts, that it is the claim machine with slots, and what its steps tell.
+//! The rule of a board of parts, that it is the claim machine with slots, and what its steps make known.
 
 use crate::rule::{Amount, Both, Gives};
 use atomic_table::{Join, Play, Split, TableRule};

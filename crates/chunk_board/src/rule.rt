@@ -1,4 +1,4 @@
-//! The rule of the board, that it is the claim machine, and what its steps tell.
+//! The rule of the board, that it is the claim machine, and what its steps make known.
 
 ghost use Rattle.std.specs.Prelude.{ℕ};
 

@@ -19,7 +19,7 @@ pub(crate) fn vacant<T: Drop>(alloc: Global, count: usize) -> Result<Vec<Option<
     Ok(slots)
 }
 
-/// The slots with all parts in their order. The room of the parts stays.
+/// The slots with all parts in their order. The capacity of `parts` stays.
 pub(crate) fn filled<T: Drop>(mut slots: Vec<Option<T>>, parts: &mut Vec<T>) -> Vec<Option<T>>
     requires { slots.items ≡ replicate (vec_len parts.old) None }
     ensures slots { result.items ≡ map Some parts.old.items }
@@ -33,7 +33,7 @@ pub(crate) fn filled<T: Drop>(mut slots: Vec<Option<T>>, parts: &mut Vec<T>) -> 
     slots
 }
 
-/// The parts out of the slots, in their order, into room that is there.
+/// The parts out of the slots, in their order, within the capacity that is there.
 pub(crate) fn emptied<T: Drop>(mut slots: Vec<Option<T>>, parts: &mut Vec<T>)
     requires none { vec_len parts.old ≡ 0 }
     requires room { vec_len slots ≤ vec_capacity parts.old }
@@ -51,7 +51,7 @@ pub(crate) fn emptied<T: Drop>(mut slots: Vec<Option<T>>, parts: &mut Vec<T>)
     }
 }
 
-/// The parts of a closed table, in their order, into room that is there.
+/// The parts of a closed table, in their order, within the capacity that is there.
 pub(crate) fn brought_home<T: Drop>(
     mut closed: Closed<Option<T>, Global>,
     count: usize,

@@ -130,7 +130,7 @@ impl Circuit {
         &self.shape
     }
 
-    /// How many layers stand above the input layer.
+    /// How many layers are above the input layer.
     pub fn height(&self) -> usize
         ensures { result ≡ height self.now.parts }
     {
@@ -175,7 +175,7 @@ impl Circuit {
         self.lists.gates(layer)
     }
 
-    /// The leaves, which stand from position 1 on.
+    /// The leaves, which begin at position 1.
     pub fn leaves(&self) -> &[Leaf]
         ensures value { result.now ≡ self.now.parts.leaves }
         ensures inputs { All (IsLeafWithin self.now.parts.inputs) result.now }
@@ -184,7 +184,7 @@ impl Circuit {
         self.lists.leaves()
     }
 
-    /// What stands at a position of the input layer: nothing at 0 and in the padding.
+    /// What is at a position of the input layer: nothing at 0 and in the padding.
     pub fn leaf_at(&self, position: usize) -> Option<Leaf>
         ensures { result ≡ leaf_at self.now.parts position }
     {
@@ -201,7 +201,7 @@ impl Circuit {
         self.lists.inputs
     }
 
-    /// How many outputs it has, which stand from position 1 of layer 0 on.
+    /// How many outputs it has, which begin at position 1 of layer 0.
     pub fn outputs(&self) -> u32
         ensures value { result ≡ self.now.parts.outputs }
         ensures some { 1 ≤ result }

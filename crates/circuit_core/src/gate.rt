@@ -20,7 +20,7 @@ pub struct CircuitGate {
     pub right: u32,
 }
 
-/// What stands at a position of the input layer.
+/// What is at a position of the input layer.
 #[derive(Clone, Copy, Debug, PartialEq, Eq)]
 pub enum Leaf {
     /// The input of this number, from 0.

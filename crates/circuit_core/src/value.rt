@@ -21,7 +21,7 @@ pub fn gate_value(below: &[Fp], gate: &CircuitGate) -> Fp
     }
 }
 
-/// What stands at a leaf: the input that it names, or its constant.
+/// What is at a leaf: the input that it names, or its constant.
 pub fn leaf_value(inputs: &[Fp], leaf: Leaf) -> Fp
     requires { IsLeafWithin (length inputs.now) leaf }
     ensures { result ≡ leaf_value inputs.now leaf }

@@ -16,7 +16,7 @@ fn refusal(alloc: Global, text: &[u8]) -> Option<ParseRefused>
     }
 }
 
-/// So many times the bytes of a piece behind those of a text.
+/// So many times the bytes of a piece after those of a text.
 fn repeat(text: &mut Vec<u8>, piece: &[u8], count: usize) -> Result<(), AllocError> {
     for _ in 0..count {
         text.extend_from_slice(piece)?;

@@ -9,10 +9,10 @@ use transcript_fs::{Challenges, Given, Statement, Transcript};
 
 const TEXT: &[u8] = b"input a; output a;";
 
-/// The 38 bytes that tell of the program `input a; output a;` with input 5 and output 5.
+/// The 38 bytes that state the program `input a; output a;` with input 5 and output 5.
 const STATEMENT: &[u8] = b"\x12\0\0\0input a; output a;\x01\0\0\0\x05\0\0\0\x01\0\0\0\x05\0\0\0";
 
-/// The hash of two pieces, one behind the other.
+/// The hash of two pieces, one after the other.
 fn hash(first: &[u8], second: &[u8]) -> [u8; 32] {
     let mut hasher = Sha256::new();
     hasher.update(first);

@@ -60,7 +60,7 @@ fn reads_either_version(rt: HostRuntime) -> Result<(), Fail> {
     Ok(())
 }
 
-/// With fewer than four bytes the version isn't told, and the length is that of version 1.
+/// With fewer than four bytes the version isn't known, and the length is that of version 1.
 #[test]
 fn refuses_each_prefix(rt: HostRuntime) -> Result<(), Fail> {
     for at in 0..52 {

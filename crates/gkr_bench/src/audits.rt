@@ -27,7 +27,7 @@ use std::time::Instant;
 use transcript_fs::laws::always_has;
 use transcript_fs::{Statement, Transcript};
 
-/// The outputs that the circuit has, which stand behind position 0 of the output layer's table.
+/// The outputs that the circuit has, which are after position 0 of the output layer's table.
 fn outputs_of(alloc: Global, circuit: &Circuit, table: &Table) -> Result<Vec<Fp>, AllocError> {
     let mut outputs = Vec::new(alloc);
     let items = table.values();

@@ -60,7 +60,7 @@ fn evaluating<R: Threads + Sync>(
     Ok(taken)
 }
 
-/// Room for the values of all layers, filled with zeros.
+/// Buffers for the values of all layers, filled with zeros.
 fn zeros(alloc: Global, circuit: &Circuit) -> Result<Vec<Vec<Ext>>, AllocError> {
     let mut tables = Vec::with_capacity(alloc, circuit.height() + 1)?;
     for layer in 0..circuit.height() + 1 {
@@ -69,7 +69,7 @@ fn zeros(alloc: Global, circuit: &Circuit) -> Result<Vec<Vec<Ext>>, AllocError> 
     Ok(tables)
 }
 
-/// How many microseconds it took to take as much room and fill it with zeros, the best of five.
+/// How many microseconds it took to take as large buffers and fill them with zeros, the best of five.
 fn filling(rt: &HostRuntime, circuit: &Circuit) -> io::Result<u64> {
     let alloc = rt.alloc();
     let mut taken = u64::MAX;

@@ -19,7 +19,7 @@ pub struct Plain {
 
 pub const ZERO: Plain = Plain { re: 0, im: 0 };
 
-/// The room of a layer.
+/// The buffers of a layer.
 #[derive(Drop)]
 pub struct PlainRoom {
     pub point_equality: Vec<Plain>,

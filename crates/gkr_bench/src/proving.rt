@@ -113,7 +113,7 @@ pub(crate) fn case_of(alloc: Global, k: u32) -> Result<Option<LayerCase>, AllocE
     }))
 }
 
-/// The working tables of the layer in the room, where its sizes fit.
+/// The working tables of the layer in the buffers, where its sizes fit.
 pub(crate) fn started<'a>(
     room: Room,
     circuit: &'a Circuit,
@@ -132,7 +132,7 @@ pub(crate) fn started<'a>(
     Ok(Some(tables))
 }
 
-/// The room that a layer used, and a digest of its messages.
+/// The buffers that a layer used, and a digest of its messages.
 #[derive(Drop)]
 pub(crate) struct Proved {
     pub(crate) room: Room,
@@ -169,7 +169,7 @@ pub(crate) fn nanoseconds(time: Duration) -> u64 {
     u64::try_from(time.as_nanos()).unwrap_or(u64::MAX)
 }
 
-/// The best of twenty times of the proved prover, which uses the same room again.
+/// The best of twenty times of the proved prover, which uses the same buffers again.
 fn time_proved<R: Threads + Sync>(
     rt: &HostRuntime,
     threads: &R,

@@ -1,4 +1,4 @@
-//! What is told of a proof and of a refusal.
+//! What is reported of a proof and of a refusal.
 
 ghost use Rattle.std.specs.Prelude.{◌≡◌, option_map};
 ghost use Rattle.gkr_cmd.specs.Told.{audit_lines, message_place, refused_reply, sum_line, verdict_line};

@@ -31,7 +31,7 @@ pub fn one_value()
         (input_table p inputs) }
 {}
 
-/// The extension of a layer's values where a claim stands is the sum of the summand over all Boolean points of the two
+/// The extension of a layer's values at the place of a claim is the sum of the summand over all Boolean points of the two
 /// operands.
 pub fn layer_sum()
     ensures { (k : ℕ) (gates : List CircuitGate) (below : List K) (j : ℕ) (place : Place K)

@@ -1,6 +1,6 @@
 //! The Goldwasser-Kalai-Rothblum protocol as definitions and laws, for its prover and its verifier alike.
 //!
-//! The claim on a layer stands at a point, or at two points, the second with a weight. Two rounds of sumcheck for each
+//! The claim on a layer is at a point, or at two points, the second with a weight. Two rounds of sumcheck for each
 //! coordinate of the layer below, and one last message, lead to a claim on that layer: a line through both operands'
 //! points, or the pair of values there. `specs/` defines for both forms the summand and the true polynomials, the
 //! equations of all layers, the challenges that let a false claim pass, and the honest messages; [`laws`] has completeness

@@ -1,8 +1,8 @@
-//! Where a claim stands, as the prover and the verifier keep it.
+//! Where a claim is, as the prover and the verifier keep it.
 
 use field_ext::Ext;
 
-/// Where the claim on a layer stands: at a point, or at a first point with weight 1 and at a second with the weight given.
+/// Where the claim on a layer is: at a point, or at a first point with weight 1 and at a second with the weight given.
 #[derive(Clone, Copy)]
 pub enum Standing<'a> {
     One(&'a [Ext]),

@@ -1,4 +1,4 @@
-//! Where a claim stands, kept between two layers.
+//! Where a claim is, kept between two layers.
 
 ghost use Rattle.std.specs.Prelude.{◌≡◌, IfOk, length};
 ghost use Rattle.field_ext.specs.Field.{k_ops};
@@ -36,7 +36,7 @@ impl KeptPlace {
         }
     }
 
-    /// The place between the points of the two operands, for the challenge behind a last message of this form. Err only where
+    /// The place between the points of the two operands, for the challenge after a last message of this form. Err only where
     /// no memory is found.
     pub fn between(
         alloc: Global,

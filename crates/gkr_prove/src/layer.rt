@@ -25,7 +25,7 @@ use std::marker::Sync;
 use std::thread::Threads;
 use transcript_fs::Challenges;
 
-/// A layer's messages, the place of the claim that they lead to, and the room that it used.
+/// A layer's messages, the place of the claim that they lead to, and the buffers that it used.
 #[derive(Drop)]
 pub(crate) struct ProvedLayer {
     pub(crate) messages: LayerMessages,
@@ -33,7 +33,7 @@ pub(crate) struct ProvedLayer {
     pub(crate) room: Room,
 }
 
-/// Proves a layer of at most 65,536 gates over the values of the layer below, where the claim on it stands.
+/// Proves a layer of at most 65,536 gates over the values of the layer below, at the place of the claim on it.
 pub(crate) fn prove_layer<R: Threads + Sync, C: Challenges, G: Gate>(
     rt: &R,
     alloc: Global,

@@ -25,7 +25,7 @@ use std::marker::Sync;
 use std::thread::Threads;
 use transcript_fs::Challenges;
 
-/// Proves all layers, the output layer first, from where the claim on it stands, in the same room.
+/// Proves all layers, the output layer first, from the place of the claim on it, in the same buffers.
 pub(crate) fn prove_layers<R: Threads + Sync, C: Challenges, G: Gate>(
     rt: &R,
     alloc: Global,

@@ -1,7 +1,7 @@
 //! The prover of the Goldwasser-Kalai-Rothblum protocol.
 //!
 //! [`prove`] gives the honest messages of all layers, the output layer first: the true polynomial of each round of
-//! sumcheck, and of the line between the two operands' points, at the challenges that the source gives behind the
+//! sumcheck, and of the line between the two operands' points, at the challenges that the source gives after the
 //! messages before. They are the only honest messages, and the verifier accepts them. [`prove_pair`] is the same body for
 //! proofs that end each layer with the values at both points in place of the line. [`last_message`], [`KeptPlace`] and
 //! [`room_for`] are its steps from layer to layer, for a prover that is fed its challenges. Source: Thaler, "Proofs, Arguments,

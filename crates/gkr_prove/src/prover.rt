@@ -133,7 +133,7 @@ pub fn prove_as<R: Threads + Sync, C: Challenges, G: Gate>(
     })
 }
 
-/// Room for the working tables of any layer of a circuit. Err only where no memory is found.
+/// Buffers for the working tables of any layer of a circuit. Err only where no memory is found.
 pub fn room_for(alloc: Global, circuit: &Circuit) -> Result<Room, AllocError> {
     let mut widest = 0;
     for layer in 0..circuit.height() + 1 {

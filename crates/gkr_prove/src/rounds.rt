@@ -16,7 +16,7 @@ use std::thread::Threads;
 use sumcheck_prove::{bind_round, round};
 use transcript_fs::Challenges;
 
-/// The messages of all rounds of a layer, the challenge after each, and the room that the layer used.
+/// The messages of all rounds of a layer, the challenge after each, and the buffers that the layer used.
 #[derive(Drop)]
 pub(crate) struct ProvedRounds {
     pub(crate) messages: Vec<Round>,

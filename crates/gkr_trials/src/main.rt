@@ -8,7 +8,7 @@
 //!   same, and `verify` accepts it, also where it is a proof by pairs;
 //! - with one byte changed it is refused, or rejected, or its outputs are still the program's meaning on its inputs.
 //!
-//! Each number at which something doesn't hold is told. The last line counts how the cases went.
+//! Each number at which something doesn't hold is reported. The last line counts how the cases went.
 #![tactic(auto)]
 
 mod counts;

@@ -16,7 +16,7 @@ pub struct Ran {
     pub written: Vec<u8>,
 }
 
-/// Runs `gkr` with these words behind its name on this input. Memory is the status where none is found.
+/// Runs `gkr` with these words after its name on this input. Memory is the status where none is found.
 pub fn run<R: Threads + Sync>(
     rt: &R,
     alloc: Global,

@@ -1,4 +1,4 @@
-//! The equality polynomial where a claim stands at two points, for a walk over positions in blocks of 256.
+//! The equality polynomial where a claim is at two points, for a walk over positions in blocks of 256.
 
 ghost use Rattle.std.specs.Prelude.{◌≡◌, ◌≤◌, ◌<◌, ◌^◌, ◌/◌, ℕ, List, length};
 ghost use Rattle.field_ext.specs.Field.{K, k_ops, add_k, mul_k, zero_k};

@@ -1,4 +1,4 @@
-//! Sums over the gates of a layer, and over the leaves, where a claim stands at two points.
+//! Sums over the gates of a layer, and over the leaves, where a claim is at two points.
 
 ghost use Rattle.std.specs.Prelude.{◌≡◌, ◌≤◌, ◌<◌, ◌^◌, ℕ, All, length, map};
 ghost use Rattle.field_ext.specs.Field.{k_ops, embed_k, zero_k, add_k};
@@ -59,7 +59,7 @@ impl GateShares {
     }
 }
 
-/// The wiring polynomials of a list of gates, by position, where the claim on their layer stands at two points, the second
+/// The wiring polynomials of a list of gates, by position, where the claim on their layer is at two points, the second
 /// with this weight, and at the points `left` and `right` of their operands. No memory is taken.
 pub(crate) fn gates_at_both(
     gates: &[CircuitGate],
@@ -102,7 +102,7 @@ pub(crate) fn gates_at_both(
     sums
 }
 
-/// The extension of the table 0, the leaves' values, zeros, where a claim stands at two points, the second with this weight.
+/// The extension of the table 0, the leaves' values, zeros, where a claim is at two points, the second with this weight.
 /// No memory is taken.
 pub(crate) fn leaves_at_both(
     leaves: &[Leaf],

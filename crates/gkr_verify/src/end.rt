@@ -24,7 +24,7 @@ struct Said {
     right: Ext,
 }
 
-/// What the summand of a layer is where its claim stands and at `left` and `right`, where the extension of the layer below
+/// What the summand of a layer is at the place of its claim and at `left` and `right`, where the extension of the layer below
 /// has there the values that the last message says.
 pub(crate) fn end_value(
     form: ProofForm,

@@ -140,7 +140,7 @@ fn claim_there<C: Challenges>(outputs: &[Fp], point: &mut [Ext], challenges: &mu
     values_extension(outputs, point)
 }
 
-/// Fills in the messages of layers from the claim on the first, and puts the challenges behind those drawn before.
+/// Fills in the messages of layers from the claim on the first, and adds the challenges to those drawn before.
 fn fill_layers<C: Challenges>(
     alloc: Global,
     layers: &[LayerPairs],
@@ -235,7 +235,7 @@ fn fill_round(pair: &RoundPair, rounds: &mut Rounds) -> [Ext; 3]
     [pair.c0, rounds.take_two(pair.c0, pair.c2), pair.c2]
 }
 
-/// Takes a message in, and puts the challenge after it behind those drawn before.
+/// Takes a message in, and adds the challenge after it to those drawn before.
 fn draw_behind<C: Challenges>(
     message: &[Ext],
     drawn: &mut Vec<Ext>,

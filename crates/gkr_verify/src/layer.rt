@@ -23,7 +23,7 @@ use proof_wire::{LayerMessages, ProofForm};
 use run_wiring::LayerWiring;
 use transcript_fs::Challenges;
 
-/// The claim on the layer below, and the challenge that says where it stands.
+/// The claim on the layer below, and the challenge that says where it is.
 #[derive(Clone, Copy)]
 pub(crate) struct NextClaim {
     pub(crate) value: Ext,
@@ -31,7 +31,7 @@ pub(crate) struct NextClaim {
 }
 
 /// Checks the messages of a layer against the claim. Where its equations hold, it gives the claim on the layer below,
-/// which stands between the points of the two operands, whose coordinates it leaves in `drawn`.
+/// which is between the points of the two operands, whose coordinates it leaves in `drawn`.
 pub(crate) fn check_layer<C: Challenges>(
     form: ProofForm,
     circuit: &Circuit,

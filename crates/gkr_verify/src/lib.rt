@@ -10,7 +10,7 @@
 //! let verdict = check(alloc, &circuit, &inputs, &outputs, &messages, &mut challenges)?;
 //! ```
 //!
-//! A proof of version 2 leaves out a coefficient of each round, the one that the claim tells. [`fill`] puts it back, and
+//! A proof of version 2 leaves out a coefficient of each round, the one that the claim determines. [`fill`] puts it back, and
 //! [`check_two`] is [`check`] of the messages so filled; [`first_sum`] says whether messages are those that would be filled
 //! in, by the first round that does not add to its claim.
 #![tactic(auto)]

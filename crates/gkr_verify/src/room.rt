@@ -18,7 +18,7 @@ use run_wiring::{LayerWiring, wirings};
 use std::alloc::{AllocError, Global};
 use transcript_fs::{Challenges, draw_point};
 
-/// The runs of a circuit's layers, where they are few, and room for the challenges and points of a check.
+/// The runs of a circuit's layers, where they are few, and buffers for the challenges and points of a check.
 #[derive(Drop)]
 pub struct CheckRoom {
     wirings: Vec<LayerWiring>,
@@ -26,7 +26,7 @@ pub struct CheckRoom {
 }
 
 impl CheckRoom {
-    /// The room for a circuit. Err only where no memory is found; no check in it takes any.
+    /// The buffers for a circuit. Err only where no memory is found; no check in them takes any.
     pub fn new(alloc: Global, circuit: &Circuit) -> Result<CheckRoom, AllocError>
         ensures { IfOk result (λ room. IsRoomFor circuit.now.parts room) }
     {
@@ -36,7 +36,7 @@ impl CheckRoom {
         Ok(CheckRoom { wirings, points })
     }
 
-    /// Checks the messages of a proof of this form, layer by layer, as `check_as` does, in this room of its circuit.
+    /// Checks the messages of a proof of this form, layer by layer, as `check_as` does, in these buffers of its circuit.
     pub fn check<C: Challenges>(
         &mut self,
         form: ProofForm,

@@ -1,4 +1,4 @@
-//! What the verifier computes where a claim stands.
+//! What the verifier computes at the place of a claim.
 
 ghost use Rattle.std.specs.Prelude.{◌≡◌, ◌≤◌, ◌<◌, ◌+◌, ◌^◌, [], All, length, map, slice_index_or};
 ghost use Rattle.field_ext.specs.Field.{k_ops, embed_k};
@@ -23,7 +23,7 @@ use proof_wire::ProofForm;
 use run_wiring::LayerWiring;
 use wiring_poly::WiringSums;
 
-/// The wiring polynomials of a layer where its claim stands, and at `left` and `right`.
+/// The wiring polynomials of a layer at the place of its claim, and at `left` and `right`.
 pub(crate) fn wiring_there(
     circuit: &Circuit,
     layer: usize,
@@ -55,7 +55,7 @@ pub(crate) fn wiring_there(
     }
 }
 
-/// The wiring polynomials of a layer where its claim stands at two points, the second with this weight: gates are gone over
+/// The wiring polynomials of a layer where its claim is at two points, the second with this weight: gates are gone over
 /// once, runs once for each point.
 fn wiring_at_both(
     circuit: &Circuit,
@@ -95,7 +95,7 @@ fn wiring_at_both(
     }
 }
 
-/// The extension of 0, the leaves and zeros, `2^k` values in all, where the claim stands.
+/// The extension of 0, the leaves and zeros, `2^k` values in all, at the place of the claim.
 pub(crate) fn leaves_there(leaves: &[Leaf], inputs: &[Fp], k: usize, place: &Standing<'_>) -> Ext
     requires few { k ≤ 16 }
     requires place { IsOver k (place_of place.now) }
@@ -113,7 +113,7 @@ pub(crate) fn leaves_there(leaves: &[Leaf], inputs: &[Fp], k: usize, place: &Sta
     }
 }
 
-/// Where the claim on the layer below stands, for the points of its operands and the challenge after the last message;
+/// Where the claim on the layer below is, for the points of its operands and the challenge after the last message;
 /// `point` is the point of the line there.
 pub(crate) fn standing_below<'a>(
     form: ProofForm,

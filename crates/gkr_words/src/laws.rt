@@ -13,7 +13,7 @@ pub fn number_by_decimal()
 {}
 
 /// A subcommand's name by itself names that command; `prove` then means one worker and a proof by
-/// lines, and `serve` one of each. `serve --history` tells the history too.
+/// lines, and `serve` one of each. `serve --history` reports the history too.
 pub fn words_alone()
     ensures eval { (program : List ℕ)
         → command_of (program ∷ codes "eval" ∷ []) ≡ Some (Command.OfCase CaseCommand.Eval) }
@@ -48,7 +48,7 @@ pub fn words_with_numbers()
 {}
 
 /// `prove --proof pair` asks for a proof by pairs, and `prove --proof 1` and `prove --proof 2` for one by lines in that
-/// version, by one worker or by as many as `--workers` says behind it. `convert --to 1` and `convert --to 2` name a version.
+/// version, by one worker or by as many as `--workers` says after it. `convert --to 1` and `convert --to 2` name a version.
 pub fn words_with_forms()
     ensures pair { (program : List ℕ)
         → command_of (program ∷ codes "prove" ∷ codes "--proof" ∷ codes "pair" ∷ [])
@@ -76,7 +76,7 @@ pub fn words_with_forms()
 {}
 
 /// `session --piece B` names a session in pieces of B bytes, for each B from 1 to 65,536 in decimal and for no other below 2^32, by
-/// one worker or by as many as `--workers` says behind it. Without its piece it is no command.
+/// one worker or by as many as `--workers` says after it. Without its piece it is no command.
 pub fn words_with_pieces()
     ensures piece { (program : List ℕ) (piece : ℕ) → 1 ≤ piece → piece ≤ 65536
         → command_of (program ∷ codes "session" ∷ codes "--piece" ∷ decimal piece ∷ [])
@@ -90,7 +90,7 @@ pub fn words_with_pieces()
     ensures alone { (program : List ℕ) → command_of (program ∷ codes "session" ∷ []) ≡ None }
 {}
 
-/// Words name a command only where the first behind the program's own name is a subcommand's.
+/// Words name a command only where the first after the program's own name is a subcommand's.
 pub fn other_words()
     ensures none { command_of [] ≡ None }
     ensures own_name { (program : List ℕ) → command_of (program ∷ []) ≡ None }

@@ -2,9 +2,9 @@
 //!
 //! [`Source`] and [`Sink`] follow `std::io::Read` and `std::io::Write`, and add a count of failures that never falls:
 //! a call answers [`Failed`] only where that count rose. A proof over any source and sink thus names the failure that
-//! it met. [`StdSource`] and [`StdSink`] stand over a reader and a writer of std, and are the program's own edge. The
+//! it met. [`StdSource`] and [`StdSink`] work over a reader and a writer of std, and are the program's own edge. The
 //! ends in memory serve tests: [`MemorySource`] and [`MemorySink`] move a few bytes a call and fail where they are
-//! told, and [`SteadySource`] and [`SteadySink`] never fail. [`Gate`] is where a test holds a worker.
+//! to, and [`SteadySource`] and [`SteadySink`] never fail. [`Gate`] is where a test holds a worker.
 //!
 //! ```
 //! let mut source = SteadySource::new(alloc, b"abc", 2)?;

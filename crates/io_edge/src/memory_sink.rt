@@ -6,8 +6,8 @@ use crate::schedule::Schedule;
 use crate::{Failed, Sink};
 use std::alloc::{AllocError, Global};
 
-/// A sink into memory, whose room is taken when it is made. It takes at most `piece` bytes a call, fails where no
-/// room is left, and at the calls that it was told.
+/// A sink into memory, whose buffer is taken when it is made. It takes at most `piece` bytes a call, fails where no
+/// capacity is left, and at the calls that it was given.
 #[derive(Drop)]
 pub struct MemorySink {
     bytes: Vec<u8>,
@@ -22,7 +22,7 @@ pub struct MemorySink {
 impl MemorySink {
     ghost use Rattle.io_edge.specs.MemoryEnds.{held, room_of, IsFresh};
 
-    /// A sink with room for `room` bytes. The numbers in `fails` count calls from 1. An error where no memory is left.
+    /// A sink with a buffer for `room` bytes. The numbers in `fails` count calls from 1. An error where no memory is left.
     pub fn new(alloc: Global, room: usize, piece: usize, fails: &[u64]) -> Result<Self, AllocError>
         requires { 0 < piece }
         ensures bytes { IfOk result (λ made. (held made ≡ []) × (room_of made ≡ room)) }
@@ -59,7 +59,7 @@ impl Sink for MemorySink {
         ensures count { TakesSome result piece.now }
         ensures bytes { WriteGrows (Some (held self.old)) (Some (held self.new)) result piece.now }
         ensures cause { HasCause self.old.schedule.faults self.new.schedule.faults result }
-        // It fails at the calls that it was told, where no room is left, and at no other.
+        // It fails at the calls that it was given, where no capacity is left, and at no other.
         ensures fails { IsErr result ↔ (FailsNow self.new.schedule ⊎ (room_left self.old ≡ 0)) }
         ensures next { IsNextCall self.old.schedule self.new.schedule }
         ensures taken { IfOk result

@@ -7,7 +7,7 @@ use crate::schedule::Schedule;
 use crate::{Failed, Source};
 use std::alloc::{AllocError, Global};
 
-/// A source over bytes in memory. It gives at most `piece` of them a call, and fails at the calls that it was told.
+/// A source over bytes in memory. It gives at most `piece` of them a call, and fails at the calls that it was given.
 #[derive(Drop)]
 pub struct MemorySource {
     bytes: Vec<u8>,
@@ -62,7 +62,7 @@ impl Source for MemorySource {
         ensures called { CallsAtMost 1 (length room.old) (Some (calls_of self.old))
             (Some (calls_of self.new)) }
         ensures most_room { self.new.most_room ≡ max self.old.most_room (length room.old) }
-        // It fails at the calls that it was told, and at no other.
+        // It fails at the calls that it was given, and at no other.
         ensures fails { IsErr result ↔ FailsNow self.new.schedule }
         ensures next { IsNextCall self.old.schedule self.new.schedule }
         ensures count { IfOk result

@@ -5,8 +5,8 @@ ghost use Rattle.std.specs.Prelude.{◌≡◌, ◌≤◌, [], true, IfOk, vec_le
 use crate::{Failed, Sink};
 use std::alloc::{AllocError, Global};
 
-/// A sink into memory that never fails. Its room is taken when it is made. Past it the sink still takes bytes, and
-/// from then on it tells nothing.
+/// A sink into memory that never fails. Its buffer is taken when it is made. Past it the sink still takes bytes, and
+/// from then on nothing is known of it.
 #[derive(Drop)]
 pub struct SteadySink {
     bytes: Vec<u8>,
@@ -19,7 +19,7 @@ pub struct SteadySink {
 impl SteadySink {
     ghost use Rattle.io_edge.specs.MemoryEnds.{steady_held, steady_room};
 
-    /// A sink that tells up to `room` bytes. An error where no memory is left.
+    /// A sink of which up to `room` bytes are known. An error where no memory is left.
     pub fn new(alloc: Global, room: usize) -> Result<Self, AllocError>
         ensures { IfOk result (λ made. (steady_held made ≡ []) × (steady_room made ≡ room)
             × (made.tells ≡ true)) }
@@ -31,14 +31,14 @@ impl SteadySink {
         })
     }
 
-    /// Whether it tells what was written.
+    /// Whether what was written is known.
     pub fn tells(&self) -> bool
         ensures { result ≡ self.now.tells }
     {
         self.tells
     }
 
-    /// The bytes that were written, while it tells them.
+    /// The bytes that were written, while they are known.
     pub fn bytes(&self) -> &[u8]
         ensures { result.now ≡ steady_held self.now }
     {
@@ -61,7 +61,7 @@ impl Sink for SteadySink {
         ensures bytes { WriteGrows (told self.old) (told self.new) result piece.now }
         ensures cause { HasCause 0 0 result }
         ensures whole { result ≡ Ok (length piece.now) }
-        // It tells on while the piece goes into the room that is left.
+        // The bytes stay known while the piece goes into the buffer that is left.
         ensures tells { IsTrue self.new.tells
             ↔ (IsTrue self.old.tells
             × (length (steady_held self.old) + length piece.now ≤ steady_room self.old)) }

@@ -1,4 +1,4 @@
-//! What happens to a job, and where it stands.
+//! What happens to a job, and the state that it is in.
 
 ghost use Rattle.std.specs.Prelude.{◌≡◌};
 ghost use Rattle.job_core.specs.JobMachine.{is_queued};
@@ -12,7 +12,7 @@ pub enum Entry {
     Withdraw(u32),
 }
 
-/// Where a job stands.
+/// The state that a job is in.
 #[derive(Clone, Copy, Drop)]
 pub enum JobState {
     Queued,

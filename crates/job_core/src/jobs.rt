@@ -50,7 +50,7 @@ fn first_from(jobs: &[JobState], from: u32) -> u32
 }
 
 impl Jobs {
-    /// Takes all the room that the steps will need.
+    /// Takes all the capacity that the steps will need.
     pub fn new(alloc: Global, capacity: u32) -> Result<Jobs, AllocError>
         ensures { IfOk result (λ j. j ≡ (capacity, [])) }
     {

@@ -37,7 +37,7 @@ impl Receipt {
     }
 }
 
-/// A case that the table had no room for.
+/// A case that the table had no capacity for.
 #[derive(Drop)]
 pub struct Full<C> {
     pub case: C,
@@ -223,7 +223,7 @@ impl<C, A: Fits<C>> TableOver<State<C, A>, Event<C, A>> {
         front
     }
 
-    /// The job as it stands at this call's step. Want of memory comes only for the copy of an answer.
+    /// The job as it is at this call's step. Memory runs out only for the copy of an answer.
     pub fn fetch<R: Wait>(
         &self,
         rt: &R,

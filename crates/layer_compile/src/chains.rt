@@ -5,7 +5,7 @@ ghost use Rattle.layer_compile.specs.Next.{AreChains};
 
 use std::alloc::{AllocError, Global};
 
-/// The first node of each level, and behind each node the next one of its level: a number past the last where there is
+/// The first node of each level, and after each node the next one of its level: a number past the last where there is
 /// none.
 #[derive(Drop)]
 pub struct Chains {

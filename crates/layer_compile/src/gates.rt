@@ -46,7 +46,7 @@ impl<'a> Plan<'a> {
         Ok(gates)
     }
 
-    /// The gate at the next height of a node that stands there.
+    /// The gate at the next height of a node that is there.
     fn gate_above(&self, places: &[u32], height: usize, k: u32) -> CircuitGate
         requires places { ArePlaces self.now.list.now height places.now }
         requires room { length places.now ≡ length self.now.list.now.nodes }

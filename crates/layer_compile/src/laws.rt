@@ -24,7 +24,7 @@ pub fn outputs_stand()
         (output_values n inputs) }
 {}
 
-/// Output j stands at position j + 1 of layer 0.
+/// Output j is at position j + 1 of layer 0.
 pub fn outputs_behind_position_0()
     ensures { (n : Nodes) (inputs : List F) (j : ℕ) → IsNodeList n → j < length n.outputs
         → slice_index_or (layer_values (circuit_of n) inputs 0) (1 + j) zero_f ≡ slice_index_or
@@ -37,7 +37,7 @@ pub fn zero_before_the_outputs()
         → slice_index_or (layer_values (circuit_of n) inputs 0) 0 zero_f ≡ zero_f }
 {}
 
-/// Layer 0 holds 0 at each position behind the outputs.
+/// Layer 0 holds 0 at each position after the outputs.
 pub fn zeros_behind_the_outputs()
     ensures { (n : Nodes) (inputs : List F) (g : ℕ) → IsNodeList n → length n.outputs < g
         → slice_index_or (layer_values (circuit_of n) inputs 0) g zero_f ≡ zero_f }

@@ -1,4 +1,4 @@
-//! Where the nodes of a height stand.
+//! Where the nodes of a height are.
 
 ghost use Rattle.std.specs.Prelude.{◌≡◌, ◌<◌, ◌^◌, length};
 ghost use Rattle.layer_compile.specs.Levels.{height_of};

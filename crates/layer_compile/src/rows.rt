@@ -1,4 +1,4 @@
-//! Which nodes stand at each height.
+//! Which nodes are at each height.
 
 ghost use Rattle.std.specs.Prelude.{◌≡◌, ◌≤◌, ◌<◌, ◌+◌, ◌^◌, ◌++◌, ◌∷◌, [], suc, length, OnOk, IfOk, if◌then◌else◌};
 ghost use Rattle.circuit_core.specs.Parts.{zero_gate};
@@ -118,7 +118,7 @@ impl<'a> Plan<'a> {
         Ok(())
     }
 
-    /// Adds a node that stands at a place of this height where it is used above the next.
+    /// Adds a node that is at a place of this height where it is used above the next.
     fn add_carried(&self, above: &mut Row, height: usize, k: u32, at: u32) -> Result<(), AllocError>
         requires inside { k < length self.now.list.now.nodes }
         requires low { level self.now.list.now k ≤ height }
@@ -172,7 +172,7 @@ impl<'a> Plan<'a> {
     }
 }
 
-/// A row with no node yet, with room for so many.
+/// A row with no node yet, with capacity for so many.
 fn begun(alloc: Global, nodes: usize) -> Result<Row, AllocError>
     requires { nodes < 2 ^ 32 }
     ensures nodes { IfOk result (λ r. r.nodes.items ≡ []) }

@@ -108,7 +108,7 @@ pub(crate) fn go_on<'a, R: Threads + Sync, G: Gate>(
     }
 }
 
-/// Begins a layer where its claim stands, and sends its first message behind what was sent.
+/// Begins a layer where its claim is, and sends its first message after what was sent.
 fn begin<'a, R: Threads + Sync, G: Gate>(
     rt: &R,
     alloc: Global,
@@ -188,7 +188,7 @@ fn bind<'a, R: Threads + Sync, G: Gate>(
     })
 }
 
-/// Goes down to the next layer by the challenge behind a layer's line, or ends behind the last.
+/// Goes down to the next layer by the challenge after a layer's line, or ends after the last.
 fn descend<'a, R: Threads + Sync, G: Gate>(
     rt: &R,
     alloc: Global,

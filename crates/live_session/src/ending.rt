@@ -1,4 +1,4 @@
-//! The verdict at the end of a session, in room that was taken at its start.
+//! The verdict at the end of a session, in buffers that were taken at its start.
 
 ghost use Rattle.std.specs.Prelude.{◌≡◌, length, IfOk};
 ghost use Rattle.gkr_layers.specs.Acceptance.{claim_of, verdict_of};
@@ -16,7 +16,7 @@ use proof_wire::{LayerMessages, ProofForm};
 use std::alloc::{AllocError, Global};
 use transcript_fs::Given;
 
-/// Room for all messages and for their check, and the challenges that it will draw.
+/// Buffers for all messages and for their check, and the challenges that it will draw.
 #[derive(Drop)]
 pub(crate) struct Ending {
     alloc: Global,
@@ -26,7 +26,7 @@ pub(crate) struct Ending {
 }
 
 impl Ending {
-    /// The room for a circuit, with these challenges. Err only where no memory is found.
+    /// The buffers for a circuit, with these challenges. Err only where no memory is found.
     pub(crate) fn new(alloc: Global, circuit: &Circuit, words: &[Ext]) -> Result<Ending, AllocError>
         ensures ready { IfOk result (λ ending. IsReadyFor circuit.now.parts ending) }
         ensures challenges { IfOk result (λ ending. ending.challenges ≡ words.now) }

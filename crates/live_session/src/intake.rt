@@ -7,7 +7,7 @@ use field_ext::Ext;
 use std::alloc::{AllocError, Global};
 use std::marker::Model;
 
-/// Room for so many elements and for their bytes, with what was fed of them. Contracts see the bytes.
+/// Buffers for so many elements and for their bytes, with what was fed of them. Contracts see the bytes.
 #[derive(Drop)]
 pub(crate) struct Intake {
     bytes: Vec<u8>,
@@ -32,7 +32,7 @@ impl Model for Intake {
 }
 
 impl Intake {
-    /// Room for so many elements, and for so many bytes behind theirs. Err only where no memory is found; no other call
+    /// Buffers for so many elements, and for so many bytes after theirs. Err only where no memory is found; no other call
     /// takes any.
     pub(crate) fn new(alloc: Global, elements: usize, more: usize) -> Result<Intake, AllocError>
         requires elements { elements < 2 ^ 32 }
@@ -50,7 +50,7 @@ impl Intake {
         })
     }
 
-    /// Takes more bytes, as far as there is room.
+    /// Takes more bytes, as far as the buffer goes.
     pub(crate) fn feed(&mut self, more: &[u8])
         ensures { self.new
             ≡ record self.old { bytes = take self.old.room (self.old.bytes ++ more.now) } }
@@ -84,7 +84,7 @@ impl Intake {
     }
 }
 
-/// Writes bytes behind the first `at`.
+/// Writes bytes after the first `at`.
 fn put(bytes: &mut [u8], at: usize, more: &[u8])
     requires { at + length more.now ≤ length bytes.old }
     ensures { take (at + length more.now) bytes.new ≡ take at bytes.old ++ more.now }

@@ -41,7 +41,7 @@ pub(crate) fn whole_messages(circuit: &Circuit, n: usize) -> usize
     count
 }
 
-/// Room for all messages of a proof by lines.
+/// Buffers for all messages of a proof by lines.
 pub(crate) fn message_room(
     alloc: Global,
     circuit: &Circuit,
@@ -55,7 +55,7 @@ pub(crate) fn message_room(
     Ok(layers)
 }
 
-/// Room for the messages of a layer, where the layer below has `k` coordinates.
+/// Buffers for the messages of a layer, where the layer below has `k` coordinates.
 fn layer_room(alloc: Global, k: usize) -> Result<LayerMessages, AllocError>
     requires { k ≤ 16 }
     ensures { IfOk result (λ layer. HasShape Line k layer) }

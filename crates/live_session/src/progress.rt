@@ -17,7 +17,7 @@ pub enum Progress {
 pub enum LiveFault {
     /// The element that begins there has a half at or above the field's prime.
     Range { at: usize },
-    /// A byte stands there behind all that is due.
+    /// There is a byte after all that is due.
     Extra { at: usize },
 }
 
@@ -26,7 +26,7 @@ pub enum LiveFault {
 pub enum ProverStop {
     /// The challenge that begins there has a half at or above the field's prime, or the last byte, there, is neither 0 nor 1.
     Range { at: usize },
-    /// A byte stands there behind all that is due.
+    /// There is a byte after all that is due.
     Extra { at: usize },
     /// No memory is left.
     Memory,

@@ -78,7 +78,7 @@ impl<'a> LiveProver<'a> {
     }
 
     /// Takes more bytes of the verifier's, challenges and then the last byte, and goes on as far as they lead. A challenge out
-    /// of range, a last byte that is neither 0 nor 1 and a byte behind it stop the prover, by the lowest place; so does want
+    /// of range, a last byte that is neither 0 nor 1 and a byte after it stop the prover, by the lowest place; so does running out
     /// of memory. The messages are summed by so many workers.
     pub fn feed<R: Threads + Sync, G: Gate>(
         self,

@@ -23,9 +23,9 @@ use std::alloc::{AllocError, Global};
 use std::marker::Model;
 
 /// A verifier that takes the prover's messages as bytes, in pieces of any length, and sends the challenges that it was given:
-/// those of the output point at its start, one behind each message that is whole, and at last whether it accepts. Contracts
-/// see the statement, the challenges and the bytes that it was fed, of which those past the first behind the messages are
-/// told apart by nothing.
+/// those of the output point at its start, one after each message that is whole, and at last whether it accepts. Contracts
+/// see the statement, the challenges and the bytes that it was fed, of which those past the first after the messages are
+/// not told apart.
 #[derive(Drop)]
 pub struct LiveVerifier<'a> {
     circuit: &'a Circuit,
@@ -63,7 +63,7 @@ impl<'a> Model for LiveVerifier<'a> {
 
 impl<'a> LiveVerifier<'a> {
     /// A verifier of the statement that the circuit on these inputs has these outputs, as many of both as the circuit has,
-    /// with as many words as there are challenges. All its room is taken here; Err only where none is found.
+    /// with as many words as there are challenges. All its memory is taken here; Err only where none is found.
     pub fn start(
         alloc: Global,
         circuit: &'a Circuit,
@@ -99,7 +99,7 @@ impl<'a> LiveVerifier<'a> {
 
     /// Takes more bytes of the prover's. `Waiting` says that no fault came and some message isn't whole, `Ended` that no
     /// fault came and all messages are, with the verdict on them. The fault of the lowest place is the answer, now and to
-    /// whatever is fed behind it. No memory is taken.
+    /// whatever is fed after it. No memory is taken.
     pub fn feed(&mut self, bytes: &[u8]) -> Result<Progress, LiveFault>
         ensures state { self.new ≡ kept (joined self.old bytes.now) }
         ensures progress { result ≡ progress_in (joined self.old bytes.now) }

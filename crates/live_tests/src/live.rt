@@ -108,7 +108,7 @@ fn answers_alike_for_any_pieces(rt: HostRuntime) -> Result<(), Fail> {
 }
 
 /// Each message is due once all challenges before it are there, and each challenge once the message before it is: the verifier
-/// has sent 8 bytes at its start, and 8 more behind each message of 24, 24 and 16 bytes.
+/// has sent 8 bytes at its start, and 8 more after each message of 24, 24 and 16 bytes.
 #[test]
 fn sends_what_is_due(rt: HostRuntime) -> Result<(), Fail> {
     let Ok(circuit) = copy(rt.alloc()) else {
@@ -182,12 +182,12 @@ fn tells_the_first_fault(rt: HostRuntime) -> Result<(), Fail> {
     for half in 0..16 {
         let mut bytes = out_of_range(&rt, 8, half)?;
         let at = half / 2 * 8;
-        // Nothing is sent behind the fault: 8 bytes at the start, and 8 more behind each message of three elements.
+        // Nothing is sent after the fault: 8 bytes at the start, and 8 more after each message of three elements.
         let range = (Err(LiveFault::Range { at }), 8 + half / 6 * 8);
         for piece in [1, 9, 65536] {
             assert_eq!(rt; answered(&rt, &circuit, 5, &bytes, piece)?, range);
         }
-        // Bytes behind the messages change nothing.
+        // Bytes after the messages change nothing.
         bytes.push(0)?;
         assert_eq!(rt; answered(&rt, &circuit, 5, &bytes, 65536)?, range);
     }

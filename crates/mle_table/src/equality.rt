@@ -7,7 +7,7 @@ ghost use Rattle.mle_table.specs.Equality.{IsEqTable};
 use field_ext::Ext;
 
 /// Fills the first `2^k` places of a table with the equality polynomial's values at a point of k coordinates. The places
-/// behind them stay as they are.
+/// after them stay as they are.
 pub fn fill_equality(table: &mut [Ext], point: &[Ext])
     requires { 2 ^ length point.now ≤ length table.old }
     ensures filled { IsEqTable k_ops point.now table.new }
@@ -22,7 +22,7 @@ pub fn fill_equality(table: &mut [Ext], point: &[Ext])
     }
 }
 
-/// Doubles a table of `size` values by one more coordinate, behind those that it has.
+/// Doubles a table of `size` values by one more coordinate, after those that it has.
 fn extend_equality(table: &mut [Ext], size: usize, u: Ext)
     requires { 2 * size ≤ length table.old }
     ensures filled { (us : List K) → size ≡ 2 ^ length us → IsEqTable k_ops us table.old →

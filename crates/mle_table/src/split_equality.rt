@@ -10,7 +10,7 @@ use field_ext::Ext;
 use std::marker::Model;
 
 /// The equality polynomial's values at a point of at most 16 coordinates, each a product of one value of each of two
-/// tables, so that all `2^16` of them need only 512 values of room.
+/// tables, so that all `2^16` of them need only 512 values of memory.
 #[derive(Drop)]
 pub struct SplitEquality {
     low: [Ext; 256],

@@ -122,7 +122,7 @@ impl Table {
         self.k -= 1;
     }
 
-    /// Writes the table with its first coordinate bound to `r` into room for half of the values.
+    /// Writes the table with its first coordinate bound to `r` into a buffer for half of the values.
     pub fn fold_into(&self, r: Ext, room: &mut [Ext])
         requires { length room.old * 2 ≡ 2 ^ self.now.k }
         ensures { room.new ≡ folded k_ops self.now.items r }

@@ -38,7 +38,7 @@ impl Model for NodeList {
 impl NodeList {
     ghost use Rattle.node_core.specs.Nodes.{IsNodeList, values};
 
-    /// The list of these nodes and outputs, which have to stand in order.
+    /// The list of these nodes and outputs, which have to be in order.
     pub fn of(inputs: u32, nodes: Vec<Node>, outputs: Vec<u32>) -> NodeList
         requires { IsNodeList (record {
           inputs = inputs;
@@ -65,7 +65,7 @@ impl NodeList {
         self.inputs
     }
 
-    /// The nodes by number, of which each stands on earlier ones.
+    /// The nodes by number, of which each depends on earlier ones.
     pub fn nodes(&self) -> &[Node]
         ensures value { result.now ≡ self.now.nodes }
         ensures fine { IsNodeList self.now }

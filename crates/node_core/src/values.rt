@@ -11,7 +11,7 @@ use circuit_core::gate_value;
 use field_ext::Fp;
 use std::alloc::{AllocError, Global};
 
-/// The values of nodes, each of which stands on earlier ones.
+/// The values of nodes, each of which depends on earlier ones.
 pub fn node_values(alloc: Global, nodes: &[Node], inputs: &[Fp]) -> Result<Vec<Fp>, AllocError>
     requires { (k : ℕ) → k < length nodes.now
         → IsFineAt (length inputs.now) k (slice_index_or nodes.now k (node.Input 0)) }
@@ -24,7 +24,7 @@ pub fn node_values(alloc: Global, nodes: &[Node], inputs: &[Fp]) -> Result<Vec<F
     Ok(values)
 }
 
-/// The value of a node that stands on those before it.
+/// The value of a node that depends on those before it.
 fn node_value(inputs: &[Fp], earlier: &[Fp], node: &Node) -> Fp
     requires { IsFineAt (length inputs.now) (length earlier.now) node.now }
     ensures { result ≡ node_value inputs.now earlier.now node.now }

@@ -1,6 +1,6 @@
 //! Proofs by pairs: from the claims at both operands' points to one claim at both, without a line between them.
 //!
-//! Behind a layer's rounds the prover sends the values of the layer below at both points, `u` and `w`, and the claim goes
+//! After a layer's rounds the prover sends the values of the layer below at both points, `u` and `w`, and the claim goes
 //! on at both with the weights 1 and the next challenge `a`: it is `u + a w`. [`pair_at`] gives the true values.
 //! [`encode_pair`] writes `GKRP`, and for each layer its rounds and its pair; [`decode_pair`] reads them. Source: the
 //! combination of two claims by a random weight as in Xie and others, "Libra" (2019).

@@ -11,7 +11,7 @@ use io_edge::Gate;
 use std::alloc::{AllocError, Global};
 use std::thread::{Threads, join};
 
-/// Claims pieces, enters the gate and works each, until no piece is left. At want of memory it claims no more.
+/// Claims pieces, enters the gate and works each, until no piece is left. Out of memory, it claims no more.
 fn work_on<W: PieceWork, G: Gate>(
     alloc: Global,
     board: &ChunkBoard,
@@ -60,8 +60,8 @@ fn both<X: Drop>(
     Ok(all)
 }
 
-/// Runs a worker for each share of the claimer, numbered from `first`. All of them end before it returns; where one met
-/// want of memory, the others went on.
+/// Runs a worker for each share of the claimer, numbered from `first`. All of them end before it returns; where one ran
+/// out of memory, the others went on.
 #[cycle(workers)]
 pub(crate) fn spread<R: Threads + Sync, W: PieceWork + Sync, G: Gate>(
     rt: &R,

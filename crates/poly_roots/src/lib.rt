@@ -1,7 +1,7 @@
 //! Polynomials over K, as lists of coefficients with the constant first.
 //!
 //! `Poly` is evaluated by Horner's rule, added and multiplied; `value_at` and `sum01` do the same for lent coefficients,
-//! as of a sumcheck message. The law of roots, on which soundness rests, stands in `laws`.
+//! as of a sumcheck message. The law of roots, on which soundness rests, is in `laws`.
 //! Source: Thaler, "Proofs, Arguments, and Zero-Knowledge", 2.1 (Schwartz-Zippel in one variable) and 4.1.
 //!
 //! ```rust

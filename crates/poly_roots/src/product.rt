@@ -51,7 +51,7 @@ fn add_rows(room: &mut [Ext], left: &[Ext], right: &[Ext])
     }
 }
 
-/// Adds `c` times the coefficients to the room from `row` on.
+/// Adds `c` times the coefficients to the buffer from `row` on.
 fn add_row(room: &mut [Ext], row: usize, c: Ext, coefficients: &[Ext])
     requires { row + length coefficients.now ≤ length room.old }
     ensures before { (k : ℕ) → k < row

@@ -20,7 +20,7 @@ pub fn one_length()
         → length (spelling_two pairs) ≡ length_two ks }
 {}
 
-/// No proof of a shape, of either version, is the front of a longer one.
+/// No proof of a shape, of either version, is a prefix of a longer one.
 pub fn no_front()
     ensures { (ks : List ℕ) (some others : AnyProof) (more : List ℕ) → HasAnyShape ks some
         → HasAnyShape ks others → any_spelling some ++ more ≡ any_spelling others → more ≡ [] }
@@ -44,7 +44,7 @@ pub fn no_trouble()
         → TroubleIsAny ks (any_spelling proof) trouble → ⊥ }
 {}
 
-/// Bytes have at most one first trouble, so that a refusal is the only one that can be told.
+/// Bytes have at most one first trouble, so that a refusal is the only one that can be reported.
 pub fn one_trouble()
     ensures two { (ks bytes : List ℕ) (trouble other : BadProof)
         → TroubleIsTwo ks bytes trouble → TroubleIsTwo ks bytes other → trouble ≡ other }

@@ -17,7 +17,7 @@ pub fn one_length()
         → length (spelling form messages) ≡ length_of form ks }
 {}
 
-/// No proof of a form and a shape is the front of a longer one.
+/// No proof of a form and a shape is a prefix of a longer one.
 pub fn no_front()
     ensures { (form : ProofForm) (ks : List ℕ) (some others : Messages) (more : List ℕ)
         → HaveShape form (drop 1 ks) some.layers → HaveShape form (drop 1 ks) others.layers
@@ -43,7 +43,7 @@ pub fn no_trouble()
         → TroubleIs form ks (spelling form messages) trouble → ⊥ }
 {}
 
-/// Bytes have at most one first trouble in a form, so that a refusal is the only one that can be told.
+/// Bytes have at most one first trouble in a form, so that a refusal is the only one that can be reported.
 pub fn one_trouble()
     ensures { (form : ProofForm) (ks bytes : List ℕ) (trouble other : BadProof)
         → TroubleIs form ks bytes trouble → TroubleIs form ks bytes other → trouble ≡ other }

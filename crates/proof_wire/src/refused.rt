@@ -11,7 +11,7 @@ pub enum BadProof {
     Short { at: usize, need: u64 },
     /// The coefficient that begins at the byte `at` has a half at or above the field's prime.
     Range { at: usize },
-    /// So many bytes stand behind the last coefficient.
+    /// So many bytes come after the last coefficient.
     Long { extra: usize },
 }
 

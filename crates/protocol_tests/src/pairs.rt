@@ -74,7 +74,7 @@ fn accepts_a_false_pair_at_its_exceptional_challenge(rt: HostRuntime) -> Result<
     Ok(())
 }
 
-/// The second layer's claim stands at 3 and, twice, at -1.
+/// The second layer's claim is at 3 and, twice, at -1.
 #[test]
 fn follows_a_product(rt: HostRuntime) -> Result<(), Fail> {
     let Ok(circuit) = product(rt.alloc()) else {

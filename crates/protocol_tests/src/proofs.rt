@@ -95,7 +95,7 @@ fn proves_a_copy_by_a_pair(rt: HostRuntime) -> Result<(), Fail> {
     Ok(())
 }
 
-/// The claim on the layer below stands at 3 and, twice, at -1.
+/// The claim on the layer below is at 3 and, twice, at -1.
 #[test]
 fn proves_a_product_by_pairs(rt: HostRuntime) -> Result<(), Fail> {
     let Ok(circuit) = product(rt.alloc()) else {

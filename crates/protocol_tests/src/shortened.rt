@@ -159,7 +159,7 @@ fn follows_a_product(rt: HostRuntime) -> Result<(), Fail> {
     Ok(())
 }
 
-/// The value at 0 of a message stands twice in its sum; all claims are 0.
+/// The value at 0 of a message comes twice in its sum; all claims are 0.
 #[test]
 fn names_the_first_round_that_does_not_add(rt: HostRuntime) -> Result<(), Fail> {
     let Ok(circuit) = product(rt.alloc()) else {

@@ -22,7 +22,7 @@ pub(crate) fn short_bytes(alloc: Global, coefficients: &[i32]) -> Result<Vec<u8>
     bytes_behind(alloc, b"GKR2", coefficients)
 }
 
-/// These coefficients behind the bytes that tell the kind of proof.
+/// These coefficients after the bytes that tell the kind of proof.
 fn bytes_behind(
     alloc: Global,
     magic: &[u8; 4],

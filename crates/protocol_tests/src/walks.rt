@@ -101,7 +101,7 @@ fn verdict_on<R: Abort + AllocGlobal>(
     Ok(check_pair(alloc, circuit, &inputs, &outputs, &messages, &mut given)?)
 }
 
-/// The sum over the gates of a kind where the second layer's claim stands, for the challenges after the output's point.
+/// The sum over the gates of a kind at the place of the second layer's claim, for the challenges after the output's point.
 fn gates_sum(gates: &[CircuitGate], kind: Kind, drawn: &[Ext], k: usize) -> Ext {
     let mut sum = Ext::zero();
     if k > 9 || drawn.len() < 4 * k + 2 {
@@ -118,7 +118,7 @@ fn gates_sum(gates: &[CircuitGate], kind: Kind, drawn: &[Ext], k: usize) -> Ext 
     sum
 }
 
-/// The sum over the inputs 1, 2, 3 .. where their claim stands.
+/// The sum over the inputs 1, 2, 3 .. at the place of their claim.
 fn inputs_sum(inputs: usize, drawn: &[Ext], k: usize) -> Ext {
     let mut sum = Ext::zero();
     if k > 9 || drawn.len() < 4 * k + 2 {

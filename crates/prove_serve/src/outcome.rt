@@ -2,7 +2,7 @@
 
 use job_core::Entry;
 
-/// How a job ended: with an answer, for want of memory, or withdrawn before any thread took it.
+/// How a job ended: with an answer, out of memory, or withdrawn before any thread took it.
 #[derive(Drop)]
 pub enum HistoryOutcome<A> {
     Answer(A),

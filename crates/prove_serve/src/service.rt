@@ -137,7 +137,7 @@ fn spread<
     all
 }
 
-/// How many jobs a table needs room for, which is one at least.
+/// How many jobs a table needs capacity for, which is one at least.
 fn room_for<C>(jobs: &Vec<Job<C>>) -> u32
     requires { vec_len jobs.now ≤ 256 }
     ensures room { vec_len jobs.now ≤ result }

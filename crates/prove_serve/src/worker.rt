@@ -180,7 +180,7 @@ fn submit_one<R: Wait, C: Drop, A: Fits<C> + Drop>(
     keep(receipts, submitted, marked);
 }
 
-/// Submits the jobs in order. The table has room for all.
+/// Submits the jobs in order. The table has capacity for all.
 fn submit_all<R: Wait, C: Drop, A: Fits<C> + Drop>(
     rt: &R,
     table: &JobTable<Job<C>, Reply<A>>,

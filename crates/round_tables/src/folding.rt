@@ -14,7 +14,7 @@ use step_count::Steps;
 const BLOCK: usize = 128;
 
 /// Binds the first coordinate of the table in the first `2 * half` values to `r`.
-/// The folded table stands in the first `half` values. It takes a step for each pair.
+/// The folded table is in the first `half` values. It takes a step for each pair.
 pub(crate) fn fold_front<V: Operand, L: Ledger>(
     values: &mut [Ext],
     half: usize,
@@ -40,7 +40,7 @@ pub(crate) fn fold_front<V: Operand, L: Ledger>(
     );
 }
 
-/// Folds `count` pairs behind the first `from`, by way of room beside the table.
+/// Folds `count` pairs after the first `from`, by way of a buffer beside the table.
 fn fold_block<V: Operand, L: Ledger>(
     values: &mut [Ext],
     from: usize,
@@ -64,7 +64,7 @@ fn fold_block<V: Operand, L: Ledger>(
     write_block(values, from, count, block);
 }
 
-/// Writes the folds of `count` pairs behind the first `from` to the front of other room.
+/// Writes the folds of `count` pairs after the first `from` to the beginning of another buffer.
 fn fold_into<V: Operand, L: Ledger>(
     values: &[Ext],
     from: usize,
@@ -89,7 +89,7 @@ fn fold_into<V: Operand, L: Ledger>(
     }
 }
 
-/// Writes the first `count` values of a block behind the first `from` of the table.
+/// Writes the first `count` values of a block after the first `from` of the table.
 fn write_block(values: &mut [Ext], from: usize, count: usize, block: &[Ext])
     requires table { from + count ≤ length values.old }
     requires block { count ≤ length block.now }

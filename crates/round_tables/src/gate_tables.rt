@@ -76,8 +76,8 @@ impl<'a> GateTables<'a> {
         Ok(GateTables::start_in(room, gates, table, point)?)
     }
 
-    /// The sumcheck of a layer of gates over the table of the layer below, at a point of the layer, in room that is there. Err
-    /// only where the room is too small and no memory is found, and then the room is handed back.
+    /// The sumcheck of a layer of gates over the table of the layer below, at a point of the layer, in buffers that are there. Err
+    /// only where they are too small and no memory is found, and then they are handed back.
     pub fn start_in(
         room: Room,
         gates: &'a [CircuitGate],
@@ -109,7 +109,7 @@ impl<'a> GateTables<'a> {
         })
     }
 
-    /// The sumcheck of a layer of a circuit whose claim stands at two points, the first with weight 1 and the second with
+    /// The sumcheck of a layer of a circuit whose claim is at two points, the first with weight 1 and the second with
     /// the weight given. Err only where no memory is found; no later call takes any.
     pub fn start_two(
         alloc: Global,
@@ -133,8 +133,8 @@ impl<'a> GateTables<'a> {
         Ok(GateTables::start_two_in(room, gates, table, first, second, weight)?)
     }
 
-    /// The same sumcheck, of a layer of gates over the table of the layer below, in room that is there. Err only where the
-    /// room is too small and no memory is found, and then the room is handed back.
+    /// The same sumcheck, of a layer of gates over the table of the layer below, in buffers that are there. Err only where they
+    /// are too small and no memory is found, and then they are handed back.
     pub fn start_two_in(
         room: Room,
         gates: &'a [CircuitGate],
@@ -170,8 +170,8 @@ impl<'a> GateTables<'a> {
         })
     }
 
-    /// The sumcheck of a layer of at most 65,536 gates in room that is there, wherever the claim stands. Err only where the
-    /// room isn't enough and no memory is found.
+    /// The sumcheck of a layer of at most 65,536 gates in buffers that are there, wherever the claim is. Err only where they
+    /// aren't enough and no memory is found.
     pub fn start_at(
         room: Room,
         gates: &'a [CircuitGate],
@@ -194,7 +194,7 @@ impl<'a> GateTables<'a> {
         }
     }
 
-    /// The room, for another layer.
+    /// The buffers, for another layer.
     pub fn into_room(self) -> Room
         requires { self.lent ≡ [] }
     {

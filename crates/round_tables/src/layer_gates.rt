@@ -1,4 +1,4 @@
-//! The gates of a layer, lent for the time of its sumcheck, and where its claim stands.
+//! The gates of a layer, lent for the time of its sumcheck, and where its claim is.
 
 ghost use Rattle.std.specs.Prelude.{◌≡◌, ◌≤◌, ◌<◌, ◌^◌, ℕ, IsTrue, length, slice_index_or, vec_len};
 ghost use Rattle.field_ext.specs.Field.{K, k_ops};
@@ -11,7 +11,7 @@ use circuit_core::CircuitGate;
 use field_ext::Ext;
 use mle_table::{SplitEquality, Table, fill_equality};
 
-/// The gates of a layer over the `2^k` values of the layer below, and where the claim on it stands: at `first`, or at
+/// The gates of a layer over the `2^k` values of the layer below, and where the claim on it is: at `first`, or at
 /// `first` with weight 1 and `second` with the weight given.
 #[derive(Drop)]
 pub(crate) struct LayerGates<'a> {
@@ -36,7 +36,7 @@ pub(crate) fn power(k: usize) -> usize
 }
 
 impl<'a> LayerGates<'a> {
-    /// Keeps the layer with the weights of its positions, which are written to room of its size, for a claim at the first
+    /// Keeps the layer with the weights of its positions, which are written to a buffer of its size, for a claim at the first
     /// point.
     pub(crate) fn new(
         mut point_equality: Vec<Ext>,
@@ -100,7 +100,7 @@ impl<'a> LayerGates<'a> {
         }
     }
 
-    /// Writes the values into room for all of them.
+    /// Writes the values into a buffer for all of them.
     pub(crate) fn write_values(&self, room: &mut [Ext])
         requires { length room.old ≡ 2 ^ self.now.values.now.k }
         ensures { room.new ≡ self.now.values.now.items }
@@ -109,7 +109,7 @@ impl<'a> LayerGates<'a> {
     }
 }
 
-/// Fills a table with the weights of the positions of a layer whose claim stands at two points.
+/// Fills a table with the weights of the positions of a layer whose claim is at two points.
 fn fill_weights(table: &mut [Ext], first: &[Ext], second: &[Ext], weight: Ext)
     requires few { length second.now ≤ 16 }
     requires same { length first.now ≡ length second.now }

@@ -17,7 +17,7 @@ use std::marker::{Brand, Model};
 use std::sync::ledger::{Blank, Ledger};
 use step_count::Steps;
 
-/// The same range of a phase's three tables, in room of its own, so that it can be worked by itself.
+/// The same range of a phase's three tables, in buffers of its own, so that it can be worked by itself.
 #[derive(Drop)]
 pub struct Part {
     table: Vec<Ext>,
@@ -46,7 +46,7 @@ impl Model for Part {
         × (p.room ≤ vec_capacity p.shifts) × (IsTrue p.base → AreBase p.table.items) };
 }
 
-/// Folds a table, whose values lie in the base field where V says so, and keeps the front half. One of a single value stays.
+/// Folds a table, whose values lie in the base field where V says so, and keeps the first half. One of a single value stays.
 fn halve<V: Operand, L: Ledger>(values: &mut Vec<Ext>, r: Ext, steps: &mut Steps<L>)
     requires values { (i : ℕ) → V.holds (slice_index_or values.old.items i zero_k) }
     ensures halved { values.new.items ≡ halved r values.old.items }
@@ -62,7 +62,7 @@ fn halve<V: Operand, L: Ledger>(values: &mut Vec<Ext>, r: Ext, steps: &mut Steps
 }
 
 impl Part {
-    /// An empty part with room for so many values of each table.
+    /// An empty part with capacity for so many values of each table.
     pub(crate) fn new(alloc: Global, room: usize) -> Result<Part, AllocError>
         ensures { IfOk result (λ part. part.room ≡ room) }
     {
@@ -75,7 +75,7 @@ impl Part {
         })
     }
 
-    /// Makes room for so many values of each table.
+    /// Reserves capacity for so many values of each table.
     pub(crate) fn fit(&mut self, room: usize) -> Result<(), AllocError>
         ensures { IfOk result (λ _. self.new.room ≡ room) }
     {
@@ -137,7 +137,7 @@ impl Part {
         self.base = base;
     }
 
-    /// Puts the values of another part behind its own.
+    /// Puts the values of another part after its own.
     pub(crate) fn append(&mut self, other: &Part)
         requires table { length self.old.table + length other.now.table ≤ self.old.room }
         requires scales { length self.old.scales + length other.now.scales ≤ self.old.room }
@@ -161,7 +161,7 @@ impl Part {
         self.base = false;
     }
 
-    /// Takes the values of parts of one value, behind one another.
+    /// Takes the values of parts of one value, one after another.
     pub(crate) fn gather(&mut self, parts: &[Part])
         requires room { length parts.now ≤ self.old.room }
         requires sizes { All (HasSize 1) parts.now }

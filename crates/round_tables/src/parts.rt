@@ -23,7 +23,7 @@ pub(crate) fn cut_count(k: usize) -> usize
     k.saturating_sub(PART_EXPONENT)
 }
 
-/// Gives so many parts room for so many values each, with parts from the spare ones where there are.
+/// Gives so many parts capacity for so many values each, with parts from the spare ones where there are.
 pub(crate) fn fit_parts(
     alloc: Global,
     parts: &mut Vec<Part>,
@@ -49,7 +49,7 @@ pub(crate) fn fit_parts(
     fit_each(parts, room)
 }
 
-/// Gives each part room for so many values.
+/// Gives each part capacity for so many values.
 fn fit_each(parts: &mut [Part], room: usize) -> Result<(), AllocError>
     ensures { IfOk result (λ _. All (HasRoom room) parts.new) }
 {
@@ -96,7 +96,7 @@ pub(crate) fn fold_parts<L: Ledger>(parts: &mut [Part], half: usize, r: Ext, ste
     }
 }
 
-/// Puts the values of parts of one value behind one another into one part.
+/// Puts the values of parts of one value into one part, one after another.
 pub(crate) fn merge_parts(parts: &[Part], one: &mut [Part])
     requires some { length one.old ≡ 1 }
     requires room { All (HasRoom (length parts.now)) one.old }

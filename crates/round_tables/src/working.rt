@@ -22,8 +22,8 @@ use std::snapshot::Snapshot;
 use std::sync::ledger::Ledger;
 use step_count::Steps;
 
-/// The rooms of both phases, and the challenges bound so far. The gates of a phase are gathered into `scales` and `shifts`, and
-/// its tables then stand in `many` parts until each has one value, and from then on in `one`.
+/// The buffers of both phases, and the challenges bound so far. The gates of a phase are gathered into `scales` and `shifts`, and
+/// its tables then are in `many` parts until each has one value, and from then on in `one`.
 #[derive(Drop)]
 pub(crate) struct Working {
     pub(crate) alloc: Global,
@@ -66,7 +66,7 @@ fn gather_first(layer: &LayerGates<'_>, values: &[Ext], scales: &mut [Ext], shif
 }
 
 impl Working {
-    /// Rooms for tables of up to so many values.
+    /// Buffers for tables of up to so many values.
     pub(crate) fn empty(alloc: Global, values: usize) -> Result<Working, AllocError> {
         let count = (values / PART_VALUES).max(1);
         let mut many = Vec::with_capacity(alloc, count)?;
@@ -89,7 +89,7 @@ impl Working {
         })
     }
 
-    /// Gives the rooms the sizes of both phases over `2^k` values.
+    /// Gives the buffers the sizes of both phases over `2^k` values.
     pub(crate) fn fit(&mut self, k: usize) -> Result<(), AllocError>
         requires { k ≤ 16 }
         ensures { IfOk result (λ _. HasRooms k self.new) }
@@ -110,7 +110,7 @@ impl Working {
         fit_parts(self.alloc, &mut self.one, &mut self.spare, 1, power(cuts))
     }
 
-    /// Begins the first phase in these rooms, with no challenge bound.
+    /// Begins the first phase in these buffers, with no challenge bound.
     pub(crate) fn begin(mut self, layer: &LayerGates<'_>) -> Working
         requires layer { IsLayerGates layer.now }
         requires rooms { HasRooms layer.now.k self }

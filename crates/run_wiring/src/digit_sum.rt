@@ -104,7 +104,7 @@ fn sum_within(table: &[Ext]) -> Ext
     sum
 }
 
-/// A coordinate of a point, and 0 behind the last.
+/// A coordinate of a point, and 0 after the last.
 fn coordinate(point: &[Ext], j: usize) -> Ext
     ensures { result ≡ slice_index_or point.now j zero_k }
 {

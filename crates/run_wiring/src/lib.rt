@@ -1,6 +1,6 @@
 //! Wiring polynomials by runs of gates.
 //!
-//! The gates of most layers stand in few runs: of one kind, with operands that move by the same step. A run's share of a
+//! The gates of most layers fall into few runs: of one kind, with operands that move by the same step. A run's share of a
 //! wiring polynomial is a sum over the places t of products of three equality polynomials, at `first + t`,
 //! `left + t * lstep` and `right + t * rstep`; it is summed over the binary digits of t, with a table entry for what the
 //! low digits carry over. So the time follows the runs of a layer and the length of its points, and not its gates. The

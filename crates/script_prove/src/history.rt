@@ -17,7 +17,7 @@ use std::marker::Sync;
 use std::sync::Wait;
 use std::thread::Threads;
 
-/// The replies to the jobs of a script, in its order, and the lines of a history of them, as `IsServedHistory` says. Want of
+/// The replies to the jobs of a script, in its order, and the lines of a history of them, as `IsServedHistory` says. Running out of
 /// memory in one job is that of all.
 pub fn serve_script_history<R: Threads + Wait + Sync, G: Gate>(
     rt: &R,
@@ -95,7 +95,7 @@ fn history_line(entry: Entry, places: &[u32]) -> HistoryLine
     }
 }
 
-/// The number at a place of a list, or 0 behind its end.
+/// The number at a place of a list, or 0 after its end.
 fn number_at(numbers: &[u32], place: usize) -> u32
     ensures { result ≡ get_or numbers.now place 0 }
 {
@@ -121,7 +121,7 @@ fn history_lines(
     Ok(lines)
 }
 
-/// What is told of an outcome.
+/// What is reported of an outcome.
 fn told(
     alloc: Global,
     outcome: HistoryOutcome<JobReply>,
@@ -136,7 +136,7 @@ fn told(
     }
 }
 
-/// The replies, where no outcome is want of memory.
+/// The replies, where no outcome is out of memory.
 fn replies(
     alloc: Global,
     outcomes: Vec<HistoryOutcome<JobReply>>,

@@ -10,7 +10,7 @@ use crate::script::{MarkedJob, ScriptJob};
 use case_text::{CaseRefused, DueKind, ReadError, stop_at, word};
 use std::alloc::Global;
 
-/// Takes the mark behind a job, where one stands.
+/// Takes the mark after a job, where there is one.
 #[tactic(auto, unfolding(crate::specs::Scripts::mark_at))]
 fn mark(bytes: &[u8]) -> Result<(bool, &[u8]), ReadError>
     ensures { Gives (λ x. (x.0, x.1.now)) result (mark_at bytes.now) }
@@ -45,7 +45,7 @@ impl Job for MarkedJob {
     }
 }
 
-/// The jobs of the script that all of the bytes spell, at most 256 of them, where the line `withdraw` may stand behind
+/// The jobs of the script that all of the bytes spell, at most 256 of them, where the line `withdraw` may come after
 /// each case.
 ///
 /// `Bad` comes where they spell none, with the place of the first byte that isn't taken and what was due there.

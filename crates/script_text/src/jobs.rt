@@ -22,7 +22,7 @@ fn client_number() -> Rule
     }
 }
 
-/// Takes a decimal that isn't 0, and the byte behind it.
+/// Takes a decimal that isn't 0, and the byte after it.
 #[tactic(auto, unfolding(crate::specs::Scripts::positive_at))]
 fn positive(rule: Rule, bytes: &[u8]) -> Result<(u32, &[u8]), ReadError>
     requires { rule.limit ≤ 2 ^ 31 }

@@ -13,7 +13,7 @@ pub fn one_script()
         → SpellsScript bytes ks → js ≡ ks }
 {}
 
-/// A refusal of a script stands at the end of the longest front of the bytes with which some script begins.
+/// A refusal of a script is at the end of the longest prefix of the bytes with which some script begins.
 pub fn script_refusal_place()
     ensures { (bytes : List ℕ) (bad : BadCase) → script_reading bytes ≡ Err bad
         → IsPlace (λ jobs text. SpellsScript text jobs) bytes bad.at }
@@ -31,7 +31,7 @@ pub fn one_history_script()
         → SpellsHistoryScript bytes ks → js ≡ ks }
 {}
 
-/// A refusal of such a script stands at the end of the longest front of the bytes with which some such script begins.
+/// A refusal of such a script is at the end of the longest prefix of the bytes with which some such script begins.
 pub fn history_script_refusal_place()
     ensures { (bytes : List ℕ) (bad : BadCase) → history_script_reading bytes ≡ Err bad
         → IsPlace (λ jobs text. SpellsHistoryScript text jobs) bytes bad.at }

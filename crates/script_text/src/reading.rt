@@ -10,13 +10,13 @@ use std::alloc::Global;
 /// The most jobs of a script.
 const MOST_JOBS: u32 = 256;
 
-/// A job as it stands in a script.
+/// A job as a script has it.
 pub(crate) trait Job: Drop {
     ghost use Rattle.std.specs.Prelude.{List, ℕ};
     ghost use Rattle.case_text.specs.Due.{Taking};
     ghost use Rattle.case_text.specs.Reading.{Gives};
 
-    /// The job at the front of the bytes and what follows it, or where taking it stops.
+    /// The job at the beginning of the bytes and what follows it, or where taking it stops.
     ghost taking: { List ℕ → Taking Self };
 
     /// Takes a job.
@@ -59,7 +59,7 @@ fn jobs<J: Job>(alloc: Global, bytes: &[u8]) -> Result<(Vec<J>, &[u8]), ReadErro
     Ok((jobs, rest))
 }
 
-/// Takes a script, behind which nothing stands.
+/// Takes a script, after which nothing comes.
 fn whole<J: Job>(alloc: Global, bytes: &[u8]) -> Result<Vec<J>, ReadError>
     ensures { Gives (λ jobs. jobs.items) result (script_in J.taking bytes.now) }
 {

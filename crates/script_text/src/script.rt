@@ -18,6 +18,6 @@ pub struct MarkedJob {
     pub client: u32,
     /// The case, of the form Plain.
     pub case: Case,
-    /// Whether the line `withdraw` stands behind the case.
+    /// Whether the line `withdraw` comes after the case.
     pub withdraw: bool,
 }

@@ -92,6 +92,6 @@ fn feed_verifier(verifier: &mut LiveVerifier<'_>, sent: &[u8], taken: usize, cou
 {
     let (_, behind) = sent.split_at(taken);
     let (more, _) = behind.split_at(count);
-    // What it answers is told by the last byte that it sends.
+    // What it answers is known by the last byte that it sends.
     let _progress = verifier.feed(more);
 }

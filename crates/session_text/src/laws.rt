@@ -11,7 +11,7 @@ pub fn one_session()
         → SpellsSession bytes t → s ≡ t }
 {}
 
-/// A refusal of a session stands at the end of the longest front of the bytes with which some session begins.
+/// A refusal of a session is at the end of the longest prefix of the bytes with which some session begins.
 pub fn session_refusal_place()
     ensures { (bytes : List ℕ) (bad : BadCase) → session_reading bytes ≡ Err bad
         → IsPlace (λ session text. SpellsSession text session) bytes bad.at }

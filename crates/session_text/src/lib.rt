@@ -1,6 +1,6 @@
 //! Session text: a case, and the challenges of a live session on it.
 //!
-//! It is the text of a Plain case, then a line `words C v1 .. vC`, in which each challenge stands as its real and its
+//! It is the text of a Plain case, then a line `words C v1 .. vC`, in which each challenge is given by its real and its
 //! imaginary part, and then a line `done`. Reading takes the bytes one by one, each by the part that is due, so a refusal has
 //! one place and one kind, as for a case. The format is this project's own.
 //!

@@ -29,7 +29,7 @@ fn session(alloc: Global, bytes: &[u8]) -> Result<(SessionCase, &[u8]), ReadErro
     Ok((SessionCase::new(case, words), rest))
 }
 
-/// Takes a session, behind which nothing stands.
+/// Takes a session, after which nothing comes.
 #[tactic(auto, using(case_text::proofs::Whole::rest_follows))]
 fn whole(alloc: Global, bytes: &[u8]) -> Result<SessionCase, ReadError>
     ensures { Gives (λ s. s) result (session_in bytes.now) }

@@ -7,7 +7,7 @@ use std::rc::Rc;
 pub enum Held<T> {
     One(T),
     Rows(Rc<Vec<T>>),
-    /// The transpose of so many rows of so many columns; past the end of the list stands `nothing`.
+    /// The transpose of so many rows of so many columns; past the end of the list is `nothing`.
     Turned {
         items: Rc<Vec<T>>,
         rows: usize,

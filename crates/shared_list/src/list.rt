@@ -140,7 +140,7 @@ impl<T: Copy> SharedList<T> {
         }
     }
 
-    /// The items in order, copied only where they stand in another order.
+    /// The items in order, copied only where they are in another order.
     pub fn in_order(&self, alloc: Global) -> Result<Rc<Vec<T>>, AllocError>
         ensures { IfOk result (λ items. items.value.items ≡ self.now) }
     {
@@ -153,7 +153,7 @@ impl<T: Copy> SharedList<T> {
         }
     }
 
-    /// The items as a vector, copied only where others hold them too or they stand in another order.
+    /// The items as a vector, copied only where others hold them too or they are in another order.
     pub fn into_vec(self, alloc: Global) -> Result<Vec<T>, AllocError>
         ensures { IfOk result (λ items. items.items ≡ self) }
     {
@@ -269,7 +269,7 @@ fn taken<T: Copy>(alloc: Global, items: Rc<Vec<T>>) -> Result<Vec<T>, AllocError
     }
 }
 
-/// Sets an item where nobody else holds the list, and tells whether so.
+/// Sets an item where nobody else holds the list, and answers whether so.
 fn set_alone<T: Copy>(items: &mut Rc<Vec<T>>, place: usize, item: T) -> bool
     ensures alone { IsTrue result → items.new.value.items ≡ set items.old.value.items place item }
     ensures others { ¬ IsTrue result → items.new ≡ items.old }

@@ -25,7 +25,7 @@ pub fn turned_items<T: Copy>(
     Ok(found)
 }
 
-/// Column j of n rows of m, behind the columns before it.
+/// Column j of n rows of m, after the columns before it.
 fn add_column<T: Copy>(
     found: &mut Vec<T>,
     n: usize,

@@ -134,7 +134,7 @@ impl Rounds {
         self.waiting = false;
     }
 
-    /// The claim that stands now.
+    /// The claim as it is now.
     pub fn claim(&self) -> Ext
         ensures { result ≡ self.now.claim }
     {

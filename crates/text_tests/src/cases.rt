@@ -1,4 +1,4 @@
-//! Worked texts: what is read, what is written, and where a refusal stands.
+//! Worked texts: what is read, what is written, and where a refusal is.
 
 use arr_ast::ProgramKind;
 use case_text::{
@@ -39,7 +39,7 @@ fn tells_where_a_case_is_refused(rt: HostRuntime) {
     refused(&rt, Form::Plain, rest, DueKind::Rest, 55);
     refused(&rt, Form::Plain, length, DueKind::Length, 23);
     refused(&rt, Form::Plain, WITH_OUTPUTS, DueKind::Section, 51);
-    // The four digits of the proof stand at byte 70.
+    // The four digits of the proof are at byte 70.
     let digit =
         b"gkr case 1\nprogram 18\ninput a; output a;\ninput 1 5\noutput 1 5\nproof 2\nabgd\nend\n";
     let digits =

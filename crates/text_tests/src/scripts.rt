@@ -16,7 +16,7 @@ fn reads_a_script(rt: HostRuntime) {
     }
 }
 
-/// A mark may stand behind each case, where marks are read.
+/// A mark may come after each case, where marks are read.
 #[test]
 fn reads_the_marks_of_a_script(rt: HostRuntime) {
     let text =

@@ -1,4 +1,4 @@
-//! One table of jobs, its answers and its fronts.
+//! One table of jobs, its answers and the lengths of its history.
 
 ghost use Rattle.std.specs.Prelude.{◌≡◌, Some, length};
 ghost use Rattle.job_table.specs.Passes.{IsPassOf};

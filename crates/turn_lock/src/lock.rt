@@ -150,7 +150,7 @@ fn wake<S: Storied<E>, E>(shared: &Shared<Option<S>, View<E>, Terms<S>, InTurn<S
 }
 
 impl<S: Storied<E>, E> TurnLock<S, E> {
-    /// A lock for so many seats, and the turn that has them all. At want of memory the state comes back.
+    /// A lock for so many seats, and the turn that has them all. Out of memory, the state comes back.
     pub fn new(alloc: Global, state: S, seats: u32) -> Result<(TurnLock<S, E>, Turn<S, E>), S>
         requires fresh { S.history state ≡ [] }
         requires seats { 0 < seats }
@@ -217,7 +217,7 @@ impl<S: Storied<E>, E> TurnLock<S, E> {
         wake(shared, served);
     }
 
-    /// Gives seats, whose number stands in a type, to a new turn.
+    /// Gives seats, whose number is in a type, to a new turn.
     fn cut<K: Amount>(&self, turn: &mut Turn<S, E>, give: u32) -> Turn<S, E>
         requires lock { turn.old.table ≡ self.now.table }
         requires free { turn.old.holds ≡ false }

@@ -1,4 +1,4 @@
-//! The rule of the lock, and what each kind of step tells.
+//! The rule of the lock, and what each kind of step makes known.
 
 ghost use Rattle.std.specs.Prelude.{ℕ};
 
@@ -85,7 +85,7 @@ impl<S: Storied<E>, E> Play<Option<S>, View<E>> for Leave<S> {
     ghost then = { left S.history S.owns S.fixed };
 }
 
-/// A look that tells what the rule says of the turn's own view.
+/// A look that makes known what the rule says of the turn's own view.
 pub struct Tell<S> {
     of: PhantomData<S>,
 }

@@ -95,7 +95,7 @@ fn rejects_what_version_two_says_falsely(rt: HostRuntime) -> Result<(), Fail> {
 }
 
 /// The sums are looked through in all layers, and nothing else is: here the first round, the third round of the lower layer, and
-/// the first of the lower layer behind an end that fails.
+/// the first of the lower layer after an end that fails.
 #[test]
 fn converts_no_proof_whose_sum_fails(rt: HostRuntime) -> Result<(), Fail> {
     let alloc = rt.alloc();

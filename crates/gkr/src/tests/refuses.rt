@@ -3,7 +3,7 @@
 use super::*;
 use io_edge::{SteadySink, SteadySource};
 
-/// A case of 55 bytes, whose one input stands at byte 49.
+/// A case of 55 bytes, whose one input is at byte 49.
 const COPIES: &[u8; 55] = b"gkr case 1\nprogram 18\ninput a; output a;\ninput 1 5\nend\n";
 
 #[test]
@@ -291,7 +291,7 @@ fn tells_failures_of_source_and_sink(rt: HostRuntime) -> Result<(), Fail> {
     Ok(())
 }
 
-/// A front, a part again and again up to a length, and an end.
+/// A prefix, a part again and again up to a length, and an end.
 fn repeated(
     alloc: Global,
     front: &[u8],

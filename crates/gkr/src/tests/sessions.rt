@@ -27,7 +27,7 @@ fn session_of(
     Ok(text)
 }
 
-/// So many words of zero, behind their count.
+/// So many words of zero, after their count.
 fn zero_words(alloc: Global, count: usize) -> Result<Vec<u8>, AllocError> {
     let mut words = Vec::new(alloc);
     words.extend_from_slice(format!(in alloc; "{}", count)?.as_bytes())?;

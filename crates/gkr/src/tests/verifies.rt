@@ -32,7 +32,7 @@ impl<'a> Claim<'a> {
     }
 }
 
-/// A front, and so many zeros.
+/// A prefix, and so many zeros.
 pub(crate) fn with_zeros(alloc: Global, front: &[u8], count: usize) -> Result<Vec<u8>, AllocError> {
     let mut proof = Vec::from_slice(alloc, front)?;
     for _ in 0..count {
