@@ -1,4 +1,4 @@
--- A program means the same when the places of its parts are forgotten: places stand only in refusals, which meanings don't tell apart.
+-- A program means the same when the places of its parts are forgotten: places are in refusals alone, which meanings don't tell apart.
 use Rattle.std.proofs.Common.{◌≡◌, ℕ, zero, suc, ℤ, negsuc, ◌+◌, ◌-◌, ◌*◌, ◌==◌, ◌&&◌, Bool, true, false, List, [], ◌∷◌, map, Option, Some, None, Ok, Err, refl, ap, sym, ◌∙◌}
 use Rattle.std.specs.Prelude.{if◌then◌else◌, option_map, nat_le, nat_lt, nat_abs, pos, ◌^◌, ◌*ℤ◌}
 use Rattle.std.specs.FinSet as set

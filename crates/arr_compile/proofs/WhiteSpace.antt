@@ -91,13 +91,13 @@ tokens-between anywhere moves front (byte ∷ bytes) back tokens found blank =
     (sym (anywhere (length front + 1) (bytes ++ back)) ∙ blanks-passed bytes back (length front + 1) blank.1
     ∙ ap (λ at. tokens_from at 0 back) same ∙ anywhere (length (front ++ byte ∷ bytes)) back)
 
--- the tokens behind, where all are there
+-- the tokens after it, where all are there
 behind_ok : (distance : ℕ) (front : List Token) (read : Result (List Token) ℕ) (tokens : List Token) → with_front front (moved distance read) ≡ Ok tokens →
     (rest : List Token) × (read ≡ Ok rest) × (tokens ≡ front ++ map (moved_token distance) rest)
 behind_ok distance front (Ok rest) tokens e = (rest, refl, cc)
 behind_ok distance front (Err place) tokens e = cc
 
--- the words are those of the text before and of the text behind
+-- the words are those of the text before and of the text after it
 record Words (front back text : List ℕ) (tokens all : List Token) : Type 0 where
   rest : List Token
   lexed : tokens_from 0 0 back ≡ Ok rest

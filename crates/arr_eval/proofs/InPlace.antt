@@ -73,7 +73,7 @@ element_wise-take op [] (b ∷ right) = refl
 element_wise-take op (a ∷ left) [] = refl
 element_wise-take op (a ∷ left) (b ∷ right) = ap (λ rest. op a b ∷ rest) (element_wise-take op left right)
 
--- a vector whose front, cut to the length of the right side, was combined
+-- a vector whose prefix, cut to the length of the right side, was combined
 pub cut_and_combined : (op : F → F → F) (left right cut now : List F) (size : ℕ) → cut ≡ take (length right) left → size ≡ length cut → length now ≡ length cut → now ≡ element_wise op cut right →
     take size (now ++ drop (length now) cut) ≡ element_wise op left right
 cut_and_combined op left right cut now size is_cut sized same is_now =

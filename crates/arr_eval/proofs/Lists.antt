@@ -1,4 +1,4 @@
--- Changes of lists of vectors, and fronts of lists.
+-- Changes of lists of vectors, and prefixes of lists.
 use Rattle.std.proofs.Common.{◌≡◌, ℕ, zero, suc, ◌<◌, List, [], ◌∷◌, take, drop, length, refl, ap, arith}
 use Rattle.std.specs.List.{take-map}
 use Rattle.std.proofs.lemmas.List.{map-set}

@@ -12,7 +12,7 @@ at_places-more f count x found more so_far pushed value =
     pushed ∙ ap (λ front. front ++ (x ∷ [])) so_far ∙ ap (λ y. at_places count f ++ (y ∷ [])) value
     ∙ sym (map-range_with_len_more f 0 count count (omega arith))
 
--- the sum of one element more, told by a number that stands for it
+-- the sum of one element more, by a number that stands for it
 pub sum_of-more : (f : ℕ → F) (count total part : ℕ) (value : F) → of total ≡ sum_of (at_places count f) → of part ≡ value → value ≡ f count → of (total + part) ≡ sum_of (at_places (count + 1) f)
 sum_of-more f count total part value so_far stands is_next =
     sym (add-of total part)

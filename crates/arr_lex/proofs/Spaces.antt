@@ -1,4 +1,4 @@
--- White space ends a token and changes no other: what was read before it stays, and what comes behind it is read as at the text's beginning, further on.
+-- White space ends a token and changes no other: what was read before it stays, and what comes after it is read as at the text's beginning, further on.
 use Rattle.std.proofs.Common.{◌≡◌, ℕ, zero, suc, ◌+◌, ◌-◌, ◌≤◌, ◌==◌, Bool, true, false, cond, ◌&&◌, ◌||◌, ◌⊎◌, inl, inr, List, [], ◌∷◌, ◌++◌, length, map, take, Option, Some, None, Result, Ok, Err, refl, ap, ap₂, sym, subst, ◌∙◌, arith}
 use Rattle.std.specs.Prelude.{if◌then◌else◌}
 use Rattle.std.specs.List.{take_while, prefix_len}
@@ -68,7 +68,7 @@ tokens_from-moved distance at zero (byte ∷ bytes) =
     (ap (λ t. token_first (at + distance) t (λ inside. tokens_from (at + distance + 1) inside bytes)) (moved_taken distance at byte bytes)
     ∙ moved_first distance at (taken at (byte ∷ bytes)) (λ inside. tokens_from (at + 1) inside bytes) (λ inside. tokens_from (at + distance + 1) inside bytes) behind)
 
--- ---- a blank behind
+-- ---- a blank after
 
 one_of : (a b : Bool) → (a || b) ≡ true → (a ≡ true) ⊎ (b ≡ true)
 one_of true b e = inl refl
@@ -157,12 +157,12 @@ with_front-none : (read : Result (List Token) ℕ) → with_front [] read ≡ re
 with_front-none (Ok tokens) = refl
 with_front-none (Err place) = refl
 
--- the tokens behind the first, where all are there
+-- the tokens after the first, where all are there
 front_ok : (front : Token) (read : Result (List Token) ℕ) (tokens : List Token) → with_front (front ∷ []) read ≡ Ok tokens → (rest : List Token) × (read ≡ Ok rest) × (tokens ≡ front ∷ rest)
 front_ok front (Ok rest) tokens e = (rest, refl, cc)
 front_ok front (Err place) tokens e = cc
 
--- what the rest of the text gives behind so many bytes, with white space and more behind it
+-- what the rest of the text gives after so many bytes, with white space and more after it
 abbrev Goes : List ℕ → ℕ → ℕ → List ℕ → Type 0
 Goes bytes at blank back = (inside : ℕ) (tokens : List Token) → inside ≤ length bytes → tokens_from (at + 1) inside bytes ≡ Ok tokens →
     tokens_from (at + 1) inside (bytes ++ blank ∷ back) ≡ with_front tokens (tokens_from (at + 1 + length bytes + 1) 0 back)

@@ -98,12 +98,12 @@ spans-later at byte bytes (token ∷ tokens) blank (next, rest) =
     let more : suc (token.end - (at + 1)) ≡ token.end - at = omega (arith, begins, some) in
     (next-later at byte bytes token blank next, subst (λ n. AreSpans token.end (drop n (byte ∷ bytes)) tokens) more rest)
 
--- the tokens behind the first, where all are there
+-- the tokens after the first, where all are there
 front_ok : (front : Token) (read : Result (List Token) ℕ) (tokens : List Token) → with_front (front ∷ []) read ≡ Ok tokens → (rest : List Token) × (read ≡ Ok rest) × (tokens ≡ front ∷ rest)
 front_ok front (Ok rest) tokens e = (rest, refl, cc)
 front_ok front (Err place) tokens e = cc
 
--- what holds of the tokens from each place behind a byte
+-- what holds of the tokens from each place after a byte
 abbrev Goes : ℕ → List ℕ → Type 0
 Goes at bytes = (inside : ℕ) (tokens : List Token) → inside ≤ length bytes → tokens_from (at + 1) inside bytes ≡ Ok tokens → AreSpans (at + 1 + inside) (drop inside bytes) tokens
 

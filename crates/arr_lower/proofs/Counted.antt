@@ -107,7 +107,7 @@ constant-counted at n before counts kept e counted =
     constant_if (has (of n) kept.nodes) at n before counts kept refl
     (ap (λ b. if b then Ok before else (nodes_at at 1 before >>= λ counts. Ok (with_constant (element_number n) counts))) (sym known) ∙ e) counted
 
--- -1, and nodes behind it
+-- -1, and nodes after it
 behind-minus_one : (at more : ℕ) (before counts : Counts) (kept : Kept) (made : List Node) → ((middle : Counts) × (constant_at at 2147483646 before ≡ Ok middle) × (nodes_at at more middle ≡ Ok counts)) →
     Adds more (constant_node minus_one kept.nodes).nodes made → IsCounted before kept → IsCounted counts (with_made made kept)
 behind-minus_one at more before counts kept made parts adds counted =

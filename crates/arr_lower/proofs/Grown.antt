@@ -1,4 +1,4 @@
--- Nodes behind nodes: what is made later leaves the values of those before as they are.
+-- Nodes after nodes: what is made later leaves the values of those before as they are.
 use Rattle.std.proofs.Common.{◌≡◌, ℕ, ◌<◌, true, not, List, [], ◌∷◌, ◌++◌, length, get_or, refl, sym, ap, ap₂, ◌∙◌, subst, inl, inr, arith, append_assoc, length-append}
 use Rattle.std.proofs.lemmas.Bool.{cases_lt, lt-ltb, le-ltb, cond-true, cond-false, eqb-true, false≢true}
 use Rattle.std.proofs.lemmas.List.{get_or_append_left, get_or_push, length_push, append-nil}
@@ -22,7 +22,7 @@ module _ (inputs : List F) where
   pub record IsFine (nodes : List Node) : Type 0 where
     pub at : (k : ℕ) → k < length nodes → IsFineAt (length inputs) k (get_or nodes k (Input 0))
 
-  -- nodes behind those before them
+  -- nodes after those before them
   pub record Grows (before after : List Node) : Type 0 where
     pub more : List Node
     pub is : after ≡ before ++ more
@@ -33,7 +33,7 @@ module _ (inputs : List F) where
     pub inside : item < length nodes
     pub is : value nodes item ≡ x
 
-  -- one node for a value, behind those before
+  -- one node for a value, after those before
   pub record HasOne (before : List Node) (one : MadeOne) (x : F) : Type 0 where
     pub grows : Grows before one.nodes
     pub stands : Stands one.nodes one.item x
@@ -107,6 +107,6 @@ module _ (inputs : List F) where
       let pushed = push-has nodes (Operation (record { kind = kind; left = pair.0; right = pair.1 })) (l.inside, r.inside) in
       subst (HasOne nodes (operation_node kind pair nodes)) (ap₂ (combined kind) l.is r.is) pushed
 
-  -- one node made behind others that were made before it
+  -- one node made after others that were made before it
   pub one-then : (first middle : List Node) (one : MadeOne) (x : F) → Grows first middle → HasOne middle one x → HasOne first one x
   one-then first middle one x g h = record { grows = grows-then first middle one.nodes g h.grows; stands = h.stands }

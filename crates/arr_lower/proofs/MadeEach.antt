@@ -19,7 +19,7 @@ module _ (inputs : List F) where
   abbrev pub AllStand : List Node → List ℕ → List F → Type 0
   AllStand nodes items xs = Each (Stands inputs nodes) items xs
 
-  -- nodes for a list of values, behind those before
+  -- nodes for a list of values, after those before
   pub record HasEach (before : List Node) (made : Made) (xs : List F) : Type 0 where
     pub grows : Grows inputs before made.nodes
     pub stand : AllStand made.nodes made.items xs
@@ -30,7 +30,7 @@ module _ (inputs : List F) where
   pub each-then : (first middle : List Node) (made : Made) (xs : List F) → Grows inputs first middle → HasEach middle made xs → HasEach first made xs
   each-then first middle made xs g h = record { grows = grows-then inputs first middle made.nodes g h.grows; stand = h.stand }
 
-  -- what stays when nodes are made behind
+  -- what stays when nodes are made after them
   abbrev pub IsKept : {A : Type 0} → (List Node → A → F → Type 0) → Type 0
   IsKept {A} R = (before after : List Node) → Grows inputs before after → (a : A) (x : F) → R before a x → R after a x
 

@@ -1,4 +1,4 @@
--- The run over nodes beside the run over numbers: each operation makes nodes of the values that it means, behind those that they name.
+-- The run over nodes beside the run over numbers: each operation makes nodes of the values that it means, after those that they name.
 use Rattle.std.proofs.Common.{◌≡◌, ℕ, ◌+◌, ◌-◌, ◌*◌, ◌<◌, ◌≤◌, ◌==◌, List, [], ◌∷◌, map, take, drop, length, replicate, get_or, Option, Some, Ok, Err, refl, sym, ap, ◌∙◌, subst, arith}
 use Rattle.std.specs.Prelude.{slice_index_or, All}
 use Rattle.std.specs.List.{zip}

@@ -1,4 +1,4 @@
--- Two lists of one length whose elements stand in a relation, place by place.
+-- Two lists of one length whose elements are in a relation, place by place.
 use Rattle.std.proofs.Common.{◌≡◌, ℕ, zero, suc, ◌+◌, ◌<◌, ◌≤◌, List, [], ◌∷◌, ◌++◌, map, take, drop, set, length, get_or, refl, ap, arith}
 use Rattle.std.specs.List.{zip, range_with_len}
 

@@ -1,4 +1,4 @@
--- Where constants stand: after one more constant, and by what a map has.
+-- Where constants are: after one more constant, and by what a map has.
 use Rattle.std.proofs.Common.{◌≡◌, ℕ, ◌≤◌, Bool, true, false, List, [], ◌∷◌, ◌++◌, length, Some, None, ⊎_elim, not, refl, ap, sym, subst, ◌∙◌, arith}
 use Rattle.std.specs.Prelude.{if◌then◌else◌, cond, Result, Ok, Err, IfOk, OnOk}
 use Rattle.std.specs.BTreeMap.{BTreeMap, get}
@@ -56,7 +56,7 @@ cmp-same x y = unsigned_tied x y
 is_constant-same : (x y : F) → x.value ≡ y.value → (node : Node) → is_constant x node ≡ is_constant y node
 is_constant-same x y same node = ap (λ z. is_constant z node) (F_eq x y same)
 
--- a constant that had no place has one behind the nodes
+-- a constant that had no place has one after the nodes
 pub answers_more : (before after : BTreeMap ℕ ℕ) (nodes : List Node) (constant : F) (value place : ℕ) → Answers before nodes → position (is_constant constant) nodes ≡ None → place ≡ length nodes
     → value ≡ constant.value → ((key : ℕ) → get nat_cmp after key ≡ cond (is_eq (nat_cmp value key)) (Some place) (get nat_cmp before key)) → Answers after (nodes ++ Constant constant ∷ [])
 answers_more before after nodes constant value place answers none is_place is_value updates_value x =

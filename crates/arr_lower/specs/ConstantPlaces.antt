@@ -1,4 +1,4 @@
--- A map that answers where constants stand among nodes.
+-- A map that answers where constants are among nodes.
 use Rattle.std.specs.Prelude.{◌≡◌, ℕ, List}
 use Rattle.std.specs.BTreeMap.{BTreeMap, get}
 use Rattle.std.specs.List.{position}

@@ -1,4 +1,4 @@
--- How the nodes of an array's elements are made, behind those made so far. A node's number is its place in the list.
+-- How the nodes of an array's elements are made, after those made so far. A node's number is its place in the list.
 use Rattle.std.specs.Prelude.{ℕ, zero, suc, ◌+◌, ◌*◌, ◌/◌, ◌%◌, List, [], ◌∷◌, ◌++◌, length, map, take, drop, get_or, Bool, false, ◌==◌, nat_lt, if◌then◌else◌}
 use Rattle.std.specs.List.{zip, range_with_len, position_or_len}
 use Rattle.arr_ast.specs.declared.expression.Sign.{Sign}
@@ -40,7 +40,7 @@ leaf_nodes count nodes = record {
   nodes = nodes ++ map Input (range_with_len (length nodes) count);
 }
 
--- the nodes of a list, each made behind those of the elements before it
+-- the nodes of a list, each made after those of the elements before it
 abbrev pub made_after : {A : Type 0} → (A → List Node → MadeOne) → List A → Made → Made
 made_after make [] made = made
 made_after make (x ∷ xs) made =
@@ -55,7 +55,7 @@ is_constant x (Input j) = false
 is_constant x (Constant y) = y.value == x.value
 is_constant x (Operation gate) = false
 
--- where a constant stands, or the number of nodes
+-- where a constant is, or the number of nodes
 abbrev pub constant_place : ℕ → List Node → ℕ
 constant_place value nodes = position_or_len (is_constant (of value)) nodes
 

@@ -1,4 +1,4 @@
--- What reading goes on with behind a token, where nothing is refused.
+-- What reading goes on with after a token, where nothing is refused.
 use Rattle.std.proofs.Common.{◌≡◌, ◌⊎◌, inl, inr, ℕ, Bool, true, false, ◌&&◌, List, [], ◌∷◌, ◌++◌, Option, Some, None, length, suc, ◌<◌, map, refl, ap, sym, ◌∙◌, arith}
 use Rattle.std.specs.Prelude.{if◌then◌else◌, nat_lt}
 use Rattle.std.specs.List.{list_all}
@@ -11,7 +11,7 @@ use Rattle.arr_parse.specs.Reading.{levels, taken, due_after, unless_refused, re
 use Rattle.arr_parse.specs.declared.refused.ParseRefused.{ParseRefused}
 use Rattle.arr_parse.specs.declared.refused.ParseRefused.TheVariants.{Syntax, Nesting}
 
--- A tree whose spelling the tokens begin with, and the tokens behind it, with which reading goes on.
+-- A tree whose spelling the tokens begin with, and the tokens after it, with which reading goes on.
 pub record Found (X : Type 0) (marks : X → List Mark) (source : Source) (due : List Part) (tokens : List Token) : Type 0 where
   pub tree : X
   pub rest : List Token
@@ -45,7 +45,7 @@ passed : (b : Bool) (x : ParseRefused) (y : Option ParseRefused) → (if b then 
 passed true x y e = cc
 passed false x y e = e
 
--- the row that a symbol begins is due behind it
+-- the row that a symbol begins is due after it
 taken_on : (end at : ℕ) (next : Option (List Part)) (new : List Part) (tokens : List Token) → next ≡ Some new →
     unless_refused at next (λ due. refusal end due tokens) ≡ None → refusal end new tokens ≡ None
 taken_on end at next new tokens is h =
@@ -91,7 +91,7 @@ same_separator symbol.CloseCurly symbol.CloseCurly e = refl
 same_separator symbol.Range symbol.Range e = refl
 same_separator s t e = cc
 
--- The tokens begin with this separator, and reading goes on behind it.
+-- The tokens begin with this separator, and reading goes on after it.
 pub record Separated (s : Symbol) (source : Source) (due : List Part) (tokens : List Token) : Type 0 where
   pub rest : List Token
   pub spelled : map (mark source) tokens ≡ Separator s ∷ map (mark source) rest

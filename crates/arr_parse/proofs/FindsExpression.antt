@@ -20,7 +20,7 @@ use Rattle.arr_parse.proofs.Due.{refusal-expression, refusal-term, refusal-negat
 use Rattle.arr_parse.proofs.Finding.{Found, Finds, FoundUpTo, FindsUpTo, after, no_row, skipped, none_left, marked, rowed, separator}
 use Rattle.arr_parse.proofs.FindsIndex.{finds_index}
 
--- an index behind its bracket, up to the closing one
+-- an index after its bracket, up to the closing one
 closed_index : (source : Source) (due : List Part) (token : Token) (tokens : List Token) → token.symbol ≡ symbol.OpenSquare →
     refusal (length source.text) (AnIndex ∷ The symbol.CloseSquare ∷ due) tokens ≡ None → Found Sum bracket_marks source due (token ∷ tokens)
 closed_index source due token tokens is h =
@@ -113,7 +113,7 @@ ended source n below s separates due tokens few h =
       shorter = omega arith;
     }
 
--- what stands behind the opening bracket of a call
+-- what comes after the opening bracket of a call
 single_at : (source : Source) (n : ℕ) → Below source n → (due : List Part) (token : Token) (tokens : List Token) (s : Symbol) → token.symbol ≡ s → length tokens < n →
     refusal (length source.text) (OneArgument ∷ due) (token ∷ tokens) ≡ None →
     Found ExpressionTree (λ e. Placed token.start symbol.OpenRound ∷ (expression_marks e ++ Separator symbol.CloseRound ∷ [])) source due (token ∷ tokens)
@@ -195,12 +195,12 @@ pair source n below function due word (token ∷ tokens) placed few h =
       shorter = let a : length inner.rest < suc (length tokens) = inner.shorter in omega arith;
     }
 
--- a name with the indices found behind it
+-- a name with the indices found after it
 named : (name : NameTree) (indices : Option IndicesTree) → (factor : FactorTree) × (factor_marks factor ≡ name_marks name ++ maybe_indices_marks indices)
 named name None = (Name name, refl)
 named name (Some indices) = (Element name indices, refl)
 
--- what is due behind the symbol that begins a factor
+-- what is due after the symbol that begins a factor
 behind : (source : Source) (due : List Part) (token : Token) (tokens : List Token) (s : Symbol) (new : List Part) → token.symbol ≡ s → row AFactor s ≡ Some new →
     refusal (length source.text) (AFactor ∷ due) (token ∷ tokens) ≡ None → refusal (length source.text) (new ++ due) tokens ≡ None
 behind source due token tokens s new is at h = after (length source.text) AFactor due token tokens new (rowed AFactor token s (Some new) is at) h

@@ -75,7 +75,7 @@ record Below (source : Source) (n : ℕ) : Type 0 where
   statement : Finds StatementTree statement_marks AStatement source n
   statements : FindsUpTo BlockTree block_marks Statements source n
 
--- what stands behind the bracket that opens a block
+-- what comes after the bracket that opens a block
 block_at : (source : Source) (n : ℕ) → Below source n → (due : List Part) (token : Token) (tokens : List Token) (s : Symbol) → token.symbol ≡ s → length tokens < n →
     refusal (length source.text) (Block ∷ due) (token ∷ tokens) ≡ None →
     Found BlockTree (λ b. Separator symbol.OpenCurly ∷ (block_marks b ++ Separator symbol.CloseCurly ∷ [])) source due (token ∷ tokens)
@@ -100,7 +100,7 @@ block : (source : Source) (n : ℕ) → Below source n → (due : List Part) (to
 block source n below due [] few h = absurd (none_left (length source.text) Block due refl h)
 block source n below due (token ∷ tokens) few h = block_at source n below due token tokens token.symbol refl (omega arith) h
 
--- an assignment behind its name
+-- an assignment after its name
 set_behind : (name : NameTree) (indices : Option IndicesTree) (value : ExpressionTree) →
     (statement : StatementTree) × (statement_marks statement ≡ name_marks name ++ (maybe_indices_marks indices ++ value_marks value))
 set_behind name None value = (Set name value, refl)
@@ -172,7 +172,7 @@ for_at source n below due token tokens is few h =
       shorter = omega arith;
     }
 
--- what is due behind the symbol that begins a statement
+-- what is due after the symbol that begins a statement
 statement_behind : (source : Source) (due : List Part) (token : Token) (tokens : List Token) (s : Symbol) (new : List Part) → token.symbol ≡ s → row AStatement s ≡ Some new →
     refusal (length source.text) (AStatement ∷ due) (token ∷ tokens) ≡ None → refusal (length source.text) (new ++ due) tokens ≡ None
 statement_behind source due token tokens s new is at h = after (length source.text) AStatement due token tokens new (rowed AStatement token s (Some new) is at) h
@@ -191,7 +191,7 @@ statement : (source : Source) (n : ℕ) → Below source n → Finds StatementTr
 statement source n below due [] few h = absurd (none_left (length source.text) AStatement due refl h)
 statement source n below due (token ∷ tokens) few h = statement_at source n below due token tokens token.symbol refl (omega arith) h
 
--- a statement, and those behind it in its block
+-- a statement, and those after it in its block
 then_more : (source : Source) (n : ℕ) → Below source n → (due : List Part) (token : Token) (tokens : List Token) → length tokens < n →
     Found StatementTree statement_marks source (Statements ∷ due) (token ∷ tokens) → FoundUpTo BlockTree block_marks source due (token ∷ tokens)
 then_more source n below due token tokens few first =
@@ -206,7 +206,7 @@ then_more source n below due token tokens few first =
       within = omega arith;
     }
 
--- what is due behind the symbol that begins a further statement
+-- what is due after the symbol that begins a further statement
 more_behind : (source : Source) (due : List Part) (token : Token) (tokens : List Token) (s : Symbol) (new : List Part) → token.symbol ≡ s → row Statements s ≡ Some new →
     refusal (length source.text) (Statements ∷ due) (token ∷ tokens) ≡ None → refusal (length source.text) (new ++ due) tokens ≡ None
 more_behind source due token tokens s new is at h = after (length source.text) Statements due token tokens new (rowed Statements token s (Some new) is at) h
@@ -249,7 +249,7 @@ record Tops (source : Source) (tokens : List Token) : Type 0 where
   trees : List TopTree
   spelled : map (mark source) tokens ≡ flat_map top_marks trees
 
--- a statement of the top level, and those behind it
+-- a statement of the top level, and those after it
 tops_behind : (source : Source) (token : Token) (tokens : List Token) (first : Found TopTree top_marks source (TopStatements ∷ []) (token ∷ tokens)) → Tops source first.rest → Tops source (token ∷ tokens)
 tops_behind source token tokens first more = record {
   trees = first.tree ∷ more.trees;

@@ -137,7 +137,7 @@ none_below : (at : ℕ) (name : List ℕ) (all : List (Symbol × List ℕ)) (pla
 none_below at name [] place e = cc
 none_below at name (word ∷ all) place e = below_step word.0 word.1 name at (names_from (at + 1) all) place (none_below (at + 1) name all place) e
 
--- both are this word, or stand behind it
+-- both are this word, or come after it
 one_if : (b c : Bool) (name other bytes : List ℕ) (at : ℕ) (names : List (List ℕ × ℕ)) (place : ℕ) → bytes_eq name bytes ≡ b → bytes_eq other bytes ≡ c →
     (found_in names name ≡ Some place → at + 1 ≤ place) → (found_in names other ≡ Some place → at + 1 ≤ place) →
     (found_in names name ≡ Some place → found_in names other ≡ Some place → name ≡ other) →

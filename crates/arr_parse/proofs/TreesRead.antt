@@ -75,13 +75,13 @@ symbol_of_mark s at word = refl
 symbol_is : (source : Source) (token : Token) (m : Mark) → mark source token ≡ m → token.symbol ≡ symbol_of m
 symbol_is source token m is = sym (symbol_of_mark token.symbol token.start (number_at source token)) ∙ ap symbol_of is
 
--- taking a token opens one level too many, or goes on behind it
+-- taking a token opens one level too many, or goes on after it
 unless : (end at : ℕ) (new : List Part) (tokens : List Token) (r : Option ParseRefused) (b : Bool) → r ≡ (if b then Some (Nesting at) else refusal end new tokens) →
     ((at : ℕ) × (r ≡ Some (Nesting at))) ⊎ (r ≡ refusal end new tokens)
 unless end at new tokens r true is = inl (at, is)
 unless end at new tokens r false is = inr is
 
--- the first mark's symbol begins a row of the part, which is due behind it
+-- the first mark's symbol begins a row of the part, which is due after it
 step : (source : Source) (part : Part) (due : List Part) (tokens : List Token) (m : Mark) (ms : List Mark) (new : List Part) → row part (symbol_of m) ≡ Some new →
     map (mark source) tokens ≡ m ∷ ms → Passed source (part ∷ due) tokens (new ++ due) ms
 step source part due [] m ms new rowed h = cc
@@ -213,7 +213,7 @@ reads_indices source e due tokens m ends h =
     on source (FirstIndex ∷ due) (AnIndex ∷ The symbol.CloseSquare ∷ SecondIndex ∷ due) due tokens behind a m
     (on source (AnIndex ∷ The symbol.CloseSquare ∷ SecondIndex ∷ due) (SecondIndex ∷ due) due a.rest (second_marks e.second ++ m) b m c)
 
--- an expression is read whatever is due behind it
+-- an expression is read whatever is due after it
 abbrev ReadsExpression : Source → ExpressionTree → Type 0
 ReadsExpression source e = (due : List Part) (tokens : List Token) (m : List Mark) → EndsExpression m → map (mark source) tokens ≡ expression_marks e ++ m → Passed source (AnExpression ∷ due) tokens due m
 
@@ -348,7 +348,7 @@ no_statement symbol.Name at word ms ends = absurd ends
 no_statement symbol.For at word ms ends = absurd ends
 no_statement s at word ms ends = refl
 
--- A part that begins with a statement, and what is due behind that.
+-- A part that begins with a statement, and what is due after that.
 record Begins (part next : Part) : Type 0 where
   is_let : row part symbol.Let ≡ Some (AName ∷ The symbol.Equals ∷ AnExpression ∷ The symbol.Semicolon ∷ next ∷ [])
   is_set : row part symbol.Name ≡ Some (FirstIndex ∷ The symbol.Equals ∷ AnExpression ∷ The symbol.Semicolon ∷ next ∷ [])
@@ -456,7 +456,7 @@ reads_tops source (top ∷ tops) tokens h =
     let a = reads_top source TopStatements top_begins refl top tokens (flat_map top_marks tops) h in
     passes source (TopStatements ∷ []) (TopStatements ∷ []) tokens (flat_map top_marks tops) a (reads_tops source tops a.rest a.left_is)
 
--- the first statement may stand where an input may
+-- the first statement may be where an input may
 reads_first : (source : Source) (tops : List TopTree) (tokens : List Token) → map (mark source) tokens ≡ flat_map top_marks tops → OnlyNests (refusal (length source.text) (Inputs ∷ []) tokens)
 reads_first source [] [] h = tt
 reads_first source [] (token ∷ tokens) h = cc

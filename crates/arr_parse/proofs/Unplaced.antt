@@ -28,7 +28,7 @@ bare (Named at number) = Named 0 number
 abbrev bares : List Mark → List Mark
 bares marks = map bare marks
 
--- two spellings behind each other
+-- two spellings, one after the other
 both : (a b a' b' : List Mark) → a ≡ bares a' → b ≡ bares b' → a ++ b ≡ bares (a' ++ b')
 both a b a' b' e f = ap₂ ◌++◌ e f ∙ sym (map-append bare a' b')
 
@@ -96,7 +96,7 @@ mutual
       (both _ _ (expression_marks left) (Separator symbol.Comma ∷ (expression_marks right ++ Separator symbol.CloseRound ∷ [])) (bare_expression left)
       (ap (λ marks. Separator symbol.Comma ∷ marks) (closed _ (expression_marks right) symbol.CloseRound (bare_expression right))))
 
--- a value and the semicolon behind it
+-- a value and the semicolon after it
 bare_ended : (value : ExpressionTree) → expression_marks (unplaced_expression value) ++ Separator symbol.Semicolon ∷ [] ≡ bares (expression_marks value ++ Separator symbol.Semicolon ∷ [])
 bare_ended value = closed _ (expression_marks value) symbol.Semicolon (bare_expression value)
 

@@ -15,7 +15,7 @@ pub record Rest : Type 0 where
   pub tokens : List Token
   pub levels : ℕ
 
--- Behind what was read before, the first tokens complete this spelling, and the rest follows.
+-- After what was read before, the first tokens complete this spelling, and the rest follows.
 pub record Takes (before : List Mark) (old : Rest) (spelling : List Mark) (new : Rest) : Type 0
   where
     pub spelled : before ++ map (mark old.source) old.tokens
@@ -24,7 +24,7 @@ pub record Takes (before : List Mark) (old : Rest) (spelling : List Mark) (new :
     pub source : new.source ≡ old.source
     pub levels : new.levels ≡ old.levels
 
--- Where the first parts are due, reading goes on with the next ones, whatever is due behind them.
+-- Where the first parts are due, reading goes on with the next ones, whatever is due after them.
 abbrev pub Leads : {X : Type 0} → List Part → (X → List Part) → Rest → Result X ParseRefused
     → Rest → Type 0
 Leads first next old result new = (due : List Part) → levels due ≡ old.levels
@@ -35,12 +35,12 @@ Leads first next old result new = (due : List Part) → levels due ≡ old.level
 abbrev pub Reads : {X : Type 0} → List Part → Rest → Result X ParseRefused → Rest → Type 0
 Reads parts old result new = Leads parts (λ found. []) old result new
 
--- the part that is due behind what was found
+-- the part that is due after what was found
 abbrev pub behind : {X : Type 0} → Part → Option X → List Part
 behind part None = []
 behind part (Some found) = part ∷ []
 
--- The tokens begin no row of the part, so it is skipped, whatever is due behind it.
+-- The tokens begin no row of the part, so it is skipped, whatever is due after it.
 abbrev pub IsSkipped : Part → List Token → Type 0
 IsSkipped part tokens = (end : ℕ) (due : List Part)
     → refusal end (part ∷ due) tokens ≡ refusal end due tokens

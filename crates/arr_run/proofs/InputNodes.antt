@@ -1,4 +1,4 @@
--- The nodes behind the inputs are as many as the inputs have numbers.
+-- The nodes after the inputs are as many as the inputs have numbers.
 use Rattle.std.proofs.Common.{◌≡◌, ℕ, ◌+◌, ◌&&◌, ◌≤◌, List, [], ◌∷◌, Ok, ap, sym, ◌∙◌, subst, arith}
 use Rattle.std.specs.Prelude.{nat_lt, nat_le}
 use Rattle.std.proofs.lemmas.Bool.Decides.{nat_tests}

@@ -1,4 +1,4 @@
--- A list beside a list of names still answers where names stand after one more name, and after the last is forgotten.
+-- A list beside a list of names still answers where names are after one more name, and after the last is forgotten.
 use Rattle.std.proofs.Common.{◌≡◌, ◌≢◌, ◌==◌, ℕ, ◌+◌, ◌<◌, Bool, true, false, List, [], ◌∷◌, ◌++◌, length, set, Option, Some, None, get_or, refl, ap, sym, subst, ◌∙◌, inl, inr, arith}
 use Rattle.std.specs.Prelude.{if◌then◌else◌, zero, suc, IsSome}
 use Rattle.std.specs.Option.{option_eq}
@@ -9,7 +9,7 @@ use Rattle.arr_run.specs.declared.bound.Bound.{Bound}
 use Rattle.arr_run.specs.Places.{Answers}
 use Rattle.arr_run.specs.Scope.{Names, binding_of, place_from, place_of, with_binding}
 
--- ---- where names stand
+-- ---- where names are
 
 abbrev or_place : Option ℕ → Option ℕ → Option ℕ
 or_place None other = other
@@ -65,7 +65,7 @@ missing_from from name (entry ∷ names) e = missing_step (entry.0 == name) from
 pub binding-missing : {A : Type 0} (name : ℕ) (names : Names A) → place_of name names ≡ None → binding_of name names ≡ None
 binding-missing name names e = missing_from 0 name names e
 
--- what stands for a name behind one more name, by whether it is that name
+-- what a name stands for after one more name, by whether it is that name
 module _ {A : Type 0} (names : Names A) (last : ℕ) (binding : Bound A) where
   place-other : (name : ℕ) → (last == name) ≡ false → place_of name (names ++ (last, binding) ∷ []) ≡ place_of name names
   place-other name n = place_from-append 0 name names last binding ∙ ap (λ b. or_place (place_of name names) (if b then Some (0 + length names) else None)) n ∙ unchanged (place_of name names)
@@ -86,7 +86,7 @@ module _ {A : Type 0} (names : Names A) (last : ℕ) (binding : Bound A) where
 
 -- ---- the list after a change
 
--- room behind the last place changes no answer
+-- capacity after the last place changes no answer
 pub more_room : (places : List (Option ℕ)) (name : ℕ) → get_or (places ++ None ∷ []) name None ≡ get_or places name None
 more_room [] zero = refl
 more_room [] (suc name) = refl
@@ -107,7 +107,7 @@ module _ {A : Type 0} (names : Names A) (last : ℕ) (binding : Bound A) where
   pub declared_again : (places : List (Option ℕ)) → Answers places names → IsSome (place_of last names) → Answers places (names ++ (last, binding) ∷ [])
   declared_again places answers some = again places answers (place_of last names) refl some
 
-  -- a name that wasn't is found behind the others
+  -- a name that wasn't is found after the others
   pub declared_new : (places : List (Option ℕ)) → Answers places names → place_of last names ≡ None → last < length places → Answers (set places last (Some (length names))) (names ++ (last, binding) ∷ [])
   declared_new places answers none room name = elim (cases_eq name last) [
     | inl same ↦

@@ -51,7 +51,7 @@ module _ {A S B T : Type 0} (operations : Operations A S) (others : Operations B
   abbrev pub Gives : Counts → S → T → ShapeOf → A × S → B × T → Type 0
   Gives counts s t shape x y = Alike counts x.1 y.1 × Stands x.1 y.1 shape x.0 y.0 × Later s t x.1 y.1
 
-  -- what the operations of expressions have to do, behind what is counted of them
+  -- what the operations of expressions have to do, after what is counted of them
   pub record GoTogether : Type 0 where
     pub stays : (s : S) (t : T) → Later s t s t
     pub further : (s s' s'' : S) (t t' t'' : T) → Later s t s' t' → Later s' t' s'' t'' → Later s t s'' t''
@@ -344,7 +344,7 @@ module _ {A S B T : Type 0} (operations : Operations A S) (others : Operations B
       then_states (Ok x) (Err f) next next' both goes = absurd both
       then_states (Err e) (Ok y) next next' both goes = absurd both
 
-      -- a state behind a value
+      -- a state after a value
       then_state : (s : S) (t : T) (x : Answer (Valued A S)) (y : Answer (Valued B T)) (next : Valued A S → Answer (State A S)) (next' : Valued B T → Answer (State B T)) → Both s t x y →
           ((shape : ShapeOf) (a : A) (b : B) (counts : Counts) (s' : S) (t' : T) → Alike counts s' t' → Stands s' t' shape a b → Later s t s' t' → BothStates (next (shape, a, counts, s')) (next' (shape, b, counts, t'))) →
           BothStates (x >>= next) (y >>= next')

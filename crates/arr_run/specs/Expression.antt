@@ -1,4 +1,4 @@
--- The values of expressions: a shape and an array, and what is counted and kept behind it.
+-- The values of expressions: a shape and an array, and what is counted and kept after it.
 use Rattle.std.specs.Prelude.{ℕ, ◌+◌, ◌*◌, Option, Some, None, Ok, Err}
 use Rattle.arr_ast.specs.declared.expression.Sign.{Sign}
 use Rattle.arr_ast.specs.declared.expression.SingleFunction.{SingleFunction}
@@ -18,7 +18,7 @@ use Rattle.arr_run.specs.Operations.{Operations}
 use Rattle.arr_run.specs.Scope.{Names, binding_of}
 use Rattle.arr_run.specs.Shape.{Shaped, size_of, for_minus_one, sum_shape, product_shape, single_shape, pair_shape}
 
--- a shape and an array, and what is counted and kept behind it
+-- a shape and an array, and what is counted and kept after it
 abbrev pub Valued : Type 0 → Type 0 → Type 0
 Valued A S = ShapeOf × A × Counts × S
 

@@ -5,7 +5,7 @@ use Rattle.arr_ast.specs.declared.expression.SingleFunction.{SingleFunction}
 use Rattle.arr_ast.specs.declared.expression.PairFunction.{PairFunction}
 use Rattle.arr_ast.specs.declared.shape.ShapeOf.{ShapeOf}
 
--- Arrays are of type A, and S is what is kept beside them. Shapes are told, and fit.
+-- Arrays are of type A, and S is what is kept beside them. Shapes are given, and fit.
 pub record Operations (A S : Type 0) : Type 0 where
   -- the next input of a shape
   pub input : ShapeOf → S → A × S
@@ -20,5 +20,5 @@ pub record Operations (A S : Type 0) : Type 0 where
   -- the element at a place, as a scalar; and with a scalar in its place
   pub element : A → ℕ → A
   pub with_element : A → ℕ → A → A
-  -- what is left behind by an output
+  -- what an output leaves
   pub output : A → S → S

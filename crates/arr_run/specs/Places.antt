@@ -1,4 +1,4 @@
--- A list that answers where names stand in scope.
+-- A list that answers where names are in scope.
 use Rattle.std.specs.Prelude.{◌≡◌, ℕ, List, Option, None, get_or}
 use Rattle.arr_run.specs.Scope.{Names, place_of}
 

@@ -12,13 +12,13 @@ binding_of name [] = None
 binding_of name (entry ∷ names) =
     if entry.0 == name then Some entry.1 else binding_of name names
 
--- where a name stands in scope, counted from so many on
+-- where a name is in scope, counted from so many on
 abbrev pub place_from : {A : Type 0} → ℕ → ℕ → Names A → Option ℕ
 place_from place name [] = None
 place_from place name (entry ∷ names) =
     if entry.0 == name then Some place else place_from (place + 1) name names
 
--- where a name stands in scope
+-- where a name is in scope
 abbrev pub place_of : {A : Type 0} → ℕ → Names A → Option ℕ
 place_of name names = place_from 0 name names
 

@@ -64,7 +64,7 @@ claimed-first width outputs = refl
 pub claimed-read : (width : ℕ) (outputs : List F) (g : ℕ) → get_or (map embed_k (padded_values width outputs)) (suc g) zero_k ≡ embed_k (get_or outputs g zero_f)
 claimed-read width outputs g = read-embed (padded_values width outputs) (suc g) ∙ ap embed_k (padding-read zero_f outputs (width - (1 + length outputs)) g)
 
--- behind the outputs 0 is claimed, and at them they are
+-- past the outputs 0 is claimed, and at them they are
 pub claimed-past : (width : ℕ) (outputs : List F) (g : ℕ) → length outputs < g → zero_k ≡ get_or (map embed_k (padded_values width outputs)) g zero_k
 claimed-past width outputs zero u = absurd (omega arith)
 claimed-past width outputs (suc g) u = sym (claimed-read width outputs g ∙ ap embed_k (get_or_past outputs g zero_f (omega arith)))

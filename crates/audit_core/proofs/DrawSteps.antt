@@ -1,4 +1,4 @@
--- Challenges that are left behind some of a layer's messages
+-- Challenges that are left after some of a layer's messages
 use Rattle.std.proofs.Common.{◌≡◌, ℕ, suc, ◌+◌, ◌-◌, ◌<◌, ◌≤◌, List, [], ◌∷◌, ◌++◌, length, take, get_or, IsTrue, sym, ◌∙◌, ap, subst, arith, length-append, length-take, append_assoc}
 use Rattle.std.proofs.lemmas.List.{take_more, take_all, length-map, get_or-map}
 use Rattle.field_ext.specs.Field.{K}
@@ -12,7 +12,7 @@ use Rattle.gkr_prove.proofs.LayerSteps.{messages-more}
 use Rattle.audit_core.proofs.Flat.{number_most}
 
 module _ (source : Source) (s : List ℕ) (rounds : List Round) (last : List K) where
-  -- behind some of a layer's rounds there is one more challenge
+  -- after some of a layer's rounds there is one more challenge
   pub has_here : (i : ℕ) → i ≤ length rounds → IsTrue (source.has s (length (round_messages rounds ++ last ∷ []))) → IsTrue (source.has (state_after source s (take i (round_messages rounds))) 1)
   has_here i u h =
       let size : length (take i (round_messages rounds)) ≡ i = omega (arith, u, length-take i (round_messages rounds), length-map rounds coefficients_of) in

@@ -20,7 +20,7 @@ use Rattle.audit_core.proofs.Truth.{part_of, true_round, true_last, true_below, 
 use Rattle.audit_core.proofs.Truth.Part.{InRound, Last, Below}
 
 module _ (form : ProofForm) where
-  -- behind a message the exceptional challenges are those at which it isn't the true polynomial and has its value
+  -- after a message the exceptional challenges are those at which it isn't the true polynomial and has its value
   pub exceptional_to : (layers : List GateLayer) (input : List K) (place : Place K) (qs : List (List K)) (rs : List K) (n : ℕ) (v : K) →
       IsExceptional k_ops form layers input place qs rs n v → IsExceptionalFor k_ops (get_or qs n []) (true_message form layers input place rs n) v
   exceptional_to [] input place qs rs n v h = absurd h
@@ -97,7 +97,7 @@ module _ (stated : CircuitClaim) (qs : List (List K)) (rs : List K) where
     read_challenge : get_or rs (stated.k + m) zero_k ≡ get_or (drop stated.k rs) m zero_k
     read_challenge = sym (get_or-drop stated.k rs m zero_k)
 
-    -- a challenge behind a message
+    -- a challenge after a message
     pub message_to : IsDrawnExceptional stated qs rs (stated.k + m) → IsExceptionalFor k_ops (get_or qs m []) (truth_at m) (get_or (drop stated.k rs) m zero_k)
     message_to h =
         coe 0 1 (i. IsExceptionalFor k_ops (read_message i) (read_truth i) (read_challenge i))

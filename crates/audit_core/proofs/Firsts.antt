@@ -38,7 +38,7 @@ pub named_map : {A : Type 0} (P : ℕ → Type 0) (count : ℕ) (name : ℕ → 
 named_map P count name None f = f
 named_map P count name (Some m) f = (f.0, f.1, ap name f.2)
 
--- numbers from k on behind those below
+-- numbers from k on after those below
 pub named_behind : (P : ℕ → Type 0) (k count : ℕ) (first found : Option ℕ) → Named P k first → Named (λ n. P (k + n)) count found → Named P (k + count) (option_or first (option_map (λ n. k + n) found))
 named_behind P k count (Some m) found f g = (f.0, record { below = (let u = f.1.below in omega arith); holds = f.1.holds; none_before = f.1.none_before }, f.2)
 named_behind P k count None None f g = λ n u h.

@@ -16,7 +16,7 @@ first_number ms i = length (all_messages (take i ms))
 pub length-layer : (m : LayerMessages) → length (messages_of m) ≡ length m.rounds + 1
 length-layer m = omega (arith, length-append (round_messages m.rounds) (m.last ∷ []), length-map m.rounds coefficients_of)
 
--- a layer's messages stand from there on
+-- a layer's messages begin there
 pub layer_stands : (ms : List LayerMessages) (i : ℕ) (d : LayerMessages) → i < length ms → StandsAt (all_messages ms) (first_number ms i) (messages_of (get_or ms i d))
 layer_stands [] i d u j v = absurd (omega arith)
 layer_stands (m ∷ ms) zero d u j v = (let z : 0 + j ≡ j = omega arith in ap (λ (n : ℕ). get_or (all_messages (m ∷ ms)) n []) z) ∙ get_or_append_left (messages_of m) (all_messages ms) [] j v
@@ -28,7 +28,7 @@ layer_stands (m ∷ ms) (suc i) d u j v =
     ∙ ap (λ (n : ℕ). get_or (all_messages ms) n []) left
     ∙ layer_stands ms i d (omega arith) j v
 
--- and the next layer's behind them
+-- and the next layer's after them
 pub number_more : (ms : List LayerMessages) (i : ℕ) (d : LayerMessages) → i < length ms → first_number ms (i + 1) ≡ first_number ms i + length (messages_of (get_or ms i d))
 number_more [] i d u = absurd (omega arith)
 number_more (m ∷ ms) zero d u = length-append (messages_of m) [] ∙ omega arith

@@ -45,7 +45,7 @@ same_table p read inputs h = ap (λ (values : List F). map embed_k (padded_value
     same [] g = refl
     same (leaf ∷ leaves) g = λ i. g 0 leaf (omega arith) i ∷ same leaves (λ j d u. g (suc j) d (omega arith)) i
 
--- where a leaf's value stands
+-- where a leaf's value is
 pub leaf_values : (p : Parts) (inputs : List F) → AreLeafValues inputs p.leaves (table_of p inputs (height p))
 leaf_values p inputs i d u =
     let values : List F = map (leaf_value inputs) p.leaves in

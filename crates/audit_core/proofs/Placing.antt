@@ -1,4 +1,4 @@
--- Where a message stands, one more layer at a time
+-- Where a message is, one more layer at a time
 use Rattle.std.proofs.Common.{◌≡◌, ℕ, suc, ◌+◌, ◌-◌, ◌*◌, ◌<◌, List, Some, None, ◌∙◌, ap, arith}
 use Rattle.circuit_core.specs.Parts.{Parts, height}
 use Rattle.circuit_core.specs.Sound.{exponent_at}

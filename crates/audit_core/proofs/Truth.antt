@@ -17,7 +17,7 @@ use Rattle.gkr_layers.proofs.Degree.{length-round_polynomial, length-last}
 use Rattle.gkr_layers.proofs.Coefficients.{length-coefficients}
 use Rattle.audit_core.specs.Truth.{true_message}
 
--- what stands in place n of a layer of k coordinates and of those below it: one thing for a round, one for the last message, one below
+-- what is in place n of a layer of k coordinates and of those below it: one thing for a round, one for the last message, one below
 module _ {A : Type 0} (n k : ℕ) (x y z : A) where
   abbrev pub choice : A
   choice = if nat_lt n (k + k) then x else (if nat_eq n (k + k) then y else z)

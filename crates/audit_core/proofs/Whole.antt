@@ -113,7 +113,7 @@ module _ (c : SoundCircuit) where
       let first = size_of c 0 (omega arith) in
       omega (arith, most, bounds.1, first.2, circuit_count c.parts)
 
--- as many challenges are behind messages as there are messages
+-- as many challenges come after messages as there are messages
 pub behind_size : (p : Parts) (rs : List K) → length rs ≡ challenges_of p → length (drop (exponent_at p 0) rs) ≡ message_count (layers_of p)
 behind_size p rs e = omega (arith, e, length-drop (exponent_at p 0) rs)
 

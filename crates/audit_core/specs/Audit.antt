@@ -12,7 +12,7 @@ use Rattle.audit_core.specs.declared.report.Audit.{Audit}
 use Rattle.audit_core.specs.First.{NamesFirst}
 use Rattle.audit_core.specs.Truth.{IsFalseMessage}
 
--- where message n stands, counted from 0 over these layers, the first of which has this number
+-- where message n is, counted from 0 over these layers, the first of which has this number
 abbrev pub place_in : List GateLayer → ℕ → ℕ → Place
 place_in [] number n = record { layer = number; round = None }
 place_in (layer ∷ layers) number n =
@@ -32,7 +32,7 @@ IsDrawnExceptional stated qs rs n =
     (slice_index_or rs n zero_k)
 
 -- What is to be said of these messages, and of these challenges that were drawn with them: the first equation that fails; whether the
--- outputs are the circuit's; where the first message stands that differs from the true one; and the first exceptional challenge, by
+-- outputs are the circuit's; where the first message that differs from the true one is; and the first exceptional challenge, by
 -- its number from 0 and its value.
 pub record IsAuditOf (form : ProofForm) (p : Parts) (inputs outputs : List F) (qs : List (List K))
     (rs : List K) (audit : Audit) : Type 0 where

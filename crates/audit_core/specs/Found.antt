@@ -10,7 +10,7 @@ use Rattle.audit_core.specs.First.{NamesFirst}
 abbrev pub Differs : List (List K) → List (List K) → ℕ → Type 0
 Differs qs ts n = ¬ (slice_index_or qs n [] ≡ slice_index_or ts n [])
 
--- message n differs, and has none the less the other's value at the challenge behind it
+-- message n differs, and has none the less the other's value at the challenge after it
 abbrev pub Passes : List (List K) → List (List K) → List K → ℕ → Type 0
 Passes qs ts rs n =
     let r = slice_index_or rs n zero_k in
@@ -23,7 +23,7 @@ pub record IsFoundBelow (qs ts : List (List K)) (rs : List K) (count : ℕ) (fou
   pub message : NamesFirst (Differs qs ts) count (λ n. n) found.message
   pub challenge : NamesFirst (Passes qs ts rs) count (λ n. n) found.challenge
 
--- a list stands in another from place n on
+-- a list is in another from place n on
 abbrev pub StandsAt : List (List K) → ℕ → List (List K) → Type 0
 StandsAt whole n part =
     (j : ℕ) → j < length part → slice_index_or whole (n + j) [] ≡ slice_index_or part j []

@@ -36,7 +36,7 @@ pub record IsKnown : Type 0 where
 no_fault : {X : Type 0} (o : Option X) → o ≡ None → IsTrue (is_none o)
 no_fault o e = subst (λ p. IsTrue (is_none p)) (sym e) refl
 
--- the first values behind position 0, as many as there are outputs
+-- the first values after position 0, as many as there are outputs
 front : (xs ys : List F) → take (length xs) (xs ++ ys) ≡ xs
 front [] ys = refl
 front (x ∷ xs) ys = ap (λ (zs : List F). x ∷ zs) (front xs ys)

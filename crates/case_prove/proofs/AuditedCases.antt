@@ -1,4 +1,4 @@
--- A case has one audit, which tells whether the outputs are the meaning and names a challenge of each accepted falsehood, and nothing of what is proved.
+-- A case has one audit, which says whether the outputs are the meaning and names a challenge of each accepted falsehood, and nothing of what is proved.
 use Rattle.std.proofs.Common.{◌≡◌, ◌↔◌, ℕ, List, IsTrue, IsSome, length, drop, refl, sym, subst}
 use Rattle.field_ext.specs.Field.{F, K}
 use Rattle.circuit_core.specs.Parts.{Parts}

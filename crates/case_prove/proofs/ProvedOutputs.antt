@@ -1,4 +1,4 @@
--- The circuit of a text has no fault, and its output layer holds what the program means behind position 0.
+-- The circuit of a text has no fault, and its output layer holds after position 0 what the program means.
 use Rattle.std.proofs.Common.{◌≡◌, ℕ, zero, suc, ◌+◌, ◌<◌, ◌≤◌, List, [], ◌∷◌, ◌++◌, Option, Some, IsTrue, length, get_or, map, take, drop, replicate, refl, sym, ap, ap₂, ◌∙◌, subst, arith}
 use Rattle.std.specs.Prelude.{is_none, slice_get, slice_index_or}
 use Rattle.std.proofs.lemmas.List.{take_more, map-append}
@@ -80,7 +80,7 @@ stand tree p inputs computed =
     ∙ ap (λ (n : ℕ). take n (computed.outputs ++ replicate computed.zeros zero_f)) (sym computed.as_many)
     ∙ take-front computed.outputs (replicate computed.zeros zero_f)
 
--- what is read behind position 0 of the output layer's table is the program's meaning
+-- what is read after position 0 of the output layer's table is the program's meaning
 pub evaluated : InputsAre → IsComputed → (c : Content) (circuit : SoundCircuit) → IsCompiled c.program circuit.parts → length c.inputs ≡ circuit.parts.inputs →
     (inputs outputs : List F) (tables : List (List K)) (items : List K) (n : ℕ) → inputs ≡ c.inputs → AreTables circuit.parts inputs tables → items ≡ slice_index_or tables 0 [] → n ≡ circuit.parts.outputs →
     outputs ≡ map (λ (x : K). x.re) (take n (drop 1 items)) → (length outputs ≡ circuit.parts.outputs) × IsEvaluated c outputs
@@ -107,7 +107,7 @@ one_meaning one c xs ys is is' =
     let same = one c.program is.tree is'.tree is.accepted.read is'.accepted.read in
     one_list (meaning is.tree c.inputs) xs ys is.meaning_is (ap (λ (tree : ProgramTree). meaning tree c.inputs) same ∙ is'.meaning_is)
 
--- The inputs and outputs are as many as the circuit's, and the outputs stand behind position 0 of its output layer.
+-- The inputs and outputs are as many as the circuit's, and the outputs come after position 0 of its output layer.
 pub record AreThere (p : Parts) (inputs outputs : List F) : Type 0 where
   pub counted : length inputs ≡ p.inputs
   pub as_many : length outputs ≡ p.outputs

@@ -27,7 +27,7 @@ abbrev pub is_proved_case : Reply → Bool
 is_proved_case (replies.Proved proved) = true
 is_proved_case reply = false
 
--- The text is the reply of `prove` to the case, with a proof of version 1, and tells whether the case was proved.
+-- The text is the reply of `prove` to the case, with a proof of version 1, and says whether the case was proved.
 pub record IsAnswered (c : Content) (proved : Bool) (text : List ℕ) : Type 0 where
   pub reply : Reply
   pub is_answer : IsProveAnswer (ByLines One) c reply

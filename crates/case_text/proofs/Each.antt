@@ -42,7 +42,7 @@ is_done {A} item front count i bytes total le so_far =
     let one : with_front front (each_at item (count - i) bytes) ≡ Ok (front, bytes) = rw k (ap (λ (xs : List A). Ok (xs, bytes)) (append-nil front)) in
     sym so_far ∙ one
 
--- where a part fails, so do those behind it
+-- where a part fails, so do those after it
 pub fails_on : {A B : Type 0} (e : ReadError) (r : Taking A) (f : A × List ℕ → Taking B) → Fails e r → Fails e (r >>= f)
 fails_on errors.Memory r f h = tt
 fails_on {A} (errors.Stopped s) r f h = ap (λ (t : Taking A). t >>= f) h

@@ -38,7 +38,7 @@ abbrev pub taken : Result (List ℕ) FromHexError → List ℕ → List ℕ → 
 taken (Ok values) rest bytes = Ok (values, rest)
 taken (Err e) rest bytes = Err (digits_stop bytes)
 
--- one byte more, in front of what follows it
+-- one byte more, before what follows it
 in_front : (v : ℕ) (found : Result (List ℕ) FromHexError) (rest bytes more : List ℕ) → digits_stop more ≡ digits_stop bytes →
     (taken found rest bytes >>= λ others. Ok (v ∷ others.0, others.1)) ≡ taken (decoded.◌>>=◌ found (λ others. Ok (v ∷ others))) rest more
 in_front v (Ok values) rest bytes more e = refl

@@ -26,11 +26,11 @@ one_of_one : (b : Bool) (x : ℕ) → cond b x x ≡ x
 one_of_one true x = refl
 one_of_one false x = refl
 
--- a decimal below a limit, and one byte behind it
+-- a decimal below a limit, and one byte after it
 abbrev pub Number : ℕ → ℕ → ℕ → List ℕ → Type 0
 Number limit close n text = (n < limit) × (text ≡ decimal n ++ close ∷ [])
 
--- what stands behind is the same for each number
+-- what comes after is the same for each number
 pub number_exact : (rule : Rule) (close : ℕ) → IsSound rule → rule.behind_zero ≡ close → rule.behind_other ≡ close → IsExact (Number rule.limit close) (decimal_at rule)
 number_exact rule close sound at_zero other =
     let one : (n : ℕ) → behind rule n ≡ close = λ n. rw (at_zero, other) (one_of_one (eqb n 0) close) in
@@ -48,7 +48,7 @@ value_closes following = closes (eqb following 0) 10 32 refl refl
 value_number_exact : (following : ℕ) → IsExact (Number prime (behind_value following)) (decimal_at (value_rule following))
 value_number_exact following = number_exact (value_rule following) (behind_value following) (record { some = omega arith; fits = omega arith; zero_closes = value_closes following; other_closes = value_closes following }) refl refl
 
--- a value's number, and one byte behind it
+-- a value's number, and one byte after it
 abbrev pub IsValue : ℕ → F → List ℕ → Type 0
 IsValue following v text = text ≡ number v.value (behind_value following)
 

@@ -13,7 +13,7 @@ use Rattle.case_text.proofs.Exact.{Blocks, IsExact}
 ok_is : {A : Type 0} (a b : A) → (let x : Result A Stop = Ok a in let y : Result A Stop = Ok b in x ≡ y) → a ≡ b
 ok_is a b e = cc
 
--- a part that went well, with nothing behind it
+-- a part that went well, with nothing after it
 ended : {A : Type 0} (taking : Taking A) (a : A) → at_end taking ≡ Ok a → taking ≡ Ok (a, [])
 ended {A} (Ok (b, [])) a e = ap (λ (x : A). Ok (x, [])) (ok_is b a e)
 ended (Ok (b, c ∷ bytes)) a e = absurd cc
@@ -41,7 +41,7 @@ whole_only Text taking exact bytes a h = ap at_end (ap taking (sym (append-nil b
 pub whole_one : {A : Type 0} (Text : A → List ℕ → Type 0) (taking : List ℕ → Taking A) → IsExact Text taking → (bytes : List ℕ) (a b : A) → Text a bytes → Text b bytes → a ≡ b
 whole_one Text taking exact bytes a b h k = ok_is a b (sym (whole_only Text taking exact bytes a h) ∙ whole_only Text taking exact bytes b k)
 
--- a part that went well in all of the bytes has nothing behind it
+-- a part that went well in all of the bytes has nothing after it
 nothing_behind : {A : Type 0} (a b : A) (more : List ℕ) → at_end (Ok (a, more)) ≡ Ok b → more ≡ []
 nothing_behind a b [] e = refl
 nothing_behind a b (c ∷ more) e = absurd cc

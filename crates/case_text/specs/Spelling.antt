@@ -11,21 +11,21 @@ use Rattle.case_text.specs.Content.{Content, Fits}
 abbrev pub header : List ℕ
 header = codes "gkr case 1" ++ 10 ∷ []
 
--- a decimal, and the byte behind it
+-- a decimal, and the byte after it
 abbrev pub number : ℕ → ℕ → List ℕ
 number n close = decimal n ++ close ∷ []
 
--- the program behind its length, each on lines of its own
+-- the program after its length, each on lines of its own
 abbrev pub program_text : List ℕ → List ℕ
 program_text program = concat (codes "program " ∷ number (length program) 10 ∷ program ∷ (10 ∷ [])
     ∷ [])
 
--- values, a space behind each but the last
+-- values, a space after each but the last
 abbrev pub values_text : List F → List ℕ
 values_text [] = []
 values_text (v ∷ vs) = number v.value (behind_value (length vs)) ++ values_text vs
 
--- values behind their count
+-- values after their count
 abbrev pub counted_text : List F → List ℕ
 counted_text vs = number (length vs) (behind_value (length vs)) ++ values_text vs
 
@@ -36,7 +36,7 @@ abbrev pub outputs_text : Option (List F) → List ℕ
 outputs_text None = []
 outputs_text (Some vs) = codes "output " ++ counted_text vs
 
--- a proof by its hex digits, behind the count of its bytes
+-- a proof by its hex digits, after the count of its bytes
 abbrev pub proof_text : Option (List ℕ) → List ℕ → List ℕ
 proof_text None digits = []
 proof_text (Some proof) digits =

@@ -28,7 +28,7 @@ module _ {X : Type 0} (out : ℕ → X) where
   here k r rs true e is h more = let same : k ≡ r.0 = grind (arith, nat_tests) in ap Some (is ∙ ap out (sym same))
   here k r rs false e is h more = let none : cond {A = ℕ} (eqb k r.0) 1 0 ≡ 0 = ap (λ (b : Bool). cond b 1 0) e in more (omega arith)
 
-  -- a piece that stands in the results has its output there
+  -- a piece that is in the results has its output there
   found : (k : ℕ) (rs : List (ℕ × X)) → All (λ (r : ℕ × X). r.1 ≡ out r.0) rs → 1 ≤ times k (pieces_of rs) → result_at k rs ≡ Some (out k)
   found k [] a h = absurd (omega arith)
   found k (r ∷ rs) a h = here k r rs (eqb k r.0) refl (All-head (λ (r : ℕ × X). r.1 ≡ out r.0) r rs a) h (λ l. found k rs (All-tail (λ (r : ℕ × X). r.1 ≡ out r.0) r rs a) l)
@@ -83,7 +83,7 @@ module _ {A : Type 0} (add : A → A → A) (z : A) (comm : (x y : A) → add x 
   sum_once (suc n) xs h = let s = split_at n xs (let e = h n in omega (arith, last_below n)) in
       ap sum_of s.2 ∙ to_front s.0 n s.1 ∙ ap (add (f n)) (sum_once n (s.0 ++ s.1) (without n xs s.0 s.1 s.2 h)) ∙ sym (at_back (range_with_len 0 n) n) ∙ ap sum_of (sym (range_last n 0 n (omega arith)))
 
--- what stands in the laws
+-- what is in the laws
 pub interleavings : {X : Type 0} (n shares : ℕ) (out : ℕ → X) (ss : List ClaimStep) (p : Phase X) → 0 < shares → IsRun n out ss (start shares) p → AllStopped p → AllWorked p
     → IsPermutation (range_with_len 0 n) (pieces_of p.results) × (map (λ k. result_at k p.results) (range_with_len 0 n) ≡ map (λ k. Some (out k)) (range_with_len 0 n))
 interleavings n shares out ss p some_share run stopped worked = (

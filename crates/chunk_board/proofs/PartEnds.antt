@@ -68,7 +68,7 @@ module _ {T : Type 0} where
   whole_drawn parts shares next back homes hands i v b at is x = let r = rule parts shares next back homes hands b in
       sym (whole (λ u. times x u.drawn) (λ u. u.shares) (map worker_in hands) i (worker_in v) (at_map worker_in hands i v at) (λ j u e z. ap (times x) (r.idle j u e z)) (r.shared ∙ sym is)) ∙ r.drawn x
 
-  -- a number that is counted stands in the list
+  -- a number that is counted is in the list
   found : (l : List (ℕ × T)) (k : ℕ) → 1 ≤ times k (map number_of l) → (i : ℕ) × (x : T) × (get_elem? l i ≡ some (k, x))
   found [] k h = absurd (omega arith)
   found (p ∷ l) k h = dite (ℕ_discrete k p.0)

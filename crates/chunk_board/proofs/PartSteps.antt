@@ -52,7 +52,7 @@ no_some : {A : Type 0} {a : A} → None ≡ Some a → ⊥
 no_some e = cc
 
 module _ {T : Type 0} where
-  -- a number that stands in the list is counted
+  -- a number that is in the list is counted
   pub counted : (l : List (ℕ × T)) (i k : ℕ) (x : T) → get_elem? l i ≡ some (k, x) → 1 ≤ times k (map number_of l)
   counted [] i k x e = absurd (some-ne-none (k, x) (sym e))
   counted (p ∷ l) zero k x e = let is : p.0 ≡ k = ap (λ (q : ℕ × T). q.0) (some-injective p (k, x) e) in let one = self_one k in let a : cond {A = ℕ} (eqb k p.0) 1 0 ≡ 1 = ap (λ (y : ℕ). cond {A = ℕ} (eqb k y) 1 0) is ∙ one in omega arith

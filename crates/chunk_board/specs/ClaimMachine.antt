@@ -14,7 +14,7 @@ pub record Worker : Type 0 where
 abbrev pub worker : ℕ → List ℕ → Bool → Worker
 worker k xs b = record { shares = k; drawn = xs; stopped = b }
 
--- A phase under way: the next piece, the workers, and the results, each behind the number of its piece, in order of arrival
+-- A phase under way: the next piece, the workers, and the results, each after the number of its piece, in order of arrival
 pub record Phase (X : Type 0) : Type 0 where
   pub next : ℕ
   pub workers : List Worker
@@ -108,7 +108,7 @@ pub record IsRule (n shares next : ℕ) (ws : List Worker) : Type 0 where
   pub done : (w : ℕ) (v : Worker) → get_elem? ws w ≡ some v → v.stopped ≡ true → n ≤ next
   pub bound : next ≤ n + total stopped_shares ws
 
--- each result is its piece's output, and its piece was drawn, and stands in no other result
+-- each result is its piece's output, and its piece was drawn, and is in no other result
 pub record AreResults {X : Type 0} (out : ℕ → X) (ws : List Worker) (rs : List (ℕ × X))
     : Type 0 where
   pub outputs : All (λ (r : ℕ × X). r.1 ≡ out r.0) rs

@@ -55,7 +55,7 @@ abbrev pub Claimed : Step (Unit {0}) → Me (Unit {0}) Hand → ℕ → Me (Unit
 Claimed st m found m' = (m'.0 ≡ claimed m.0 found) × (m'.1 ≡ m.1) × (length m'.0.drawn ≤ m.0.pieces)
     × IsClaimStep m.0.pieces (worker_of m.0) found (worker_of m'.0)
 
--- a look at the board tells that the shares of a hand are among all
+-- a look at the board makes known that the shares of a hand are among all
 abbrev pub Counted : Step (Unit {0}) → Me (Unit {0}) Hand → ℕ → Me (Unit {0}) Hand → Type 0
 Counted st m found m' = (m'.0 ≡ m.0) × (m'.1 ≡ m.1) × (m.0.shares < 2 ^ 32)
 

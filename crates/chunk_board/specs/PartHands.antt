@@ -127,7 +127,7 @@ module _ {T : Type 0} where
       → (m'.0 ≡ record m.0 { put = m.0.put ++ (k, x) ∷ []; held = None })
       × IsPutStep m.0 k m'.0)
 
-  -- a look at the board tells that the shares of a hand are among all
+  -- a look at the board makes known that the shares of a hand are among all
   abbrev pub CountedParts : Step (Option T) → Me (Option T) (PartHand T) → ℕ
       → Me (Option T) (PartHand T) → Type 0
   CountedParts st m found m' = (m'.0 ≡ m.0) × (m'.1 ≡ m.1) × (m.0.shares < 2 ^ 32)

@@ -17,7 +17,7 @@ module _ (c : SoundCircuit) where
   pub gates_over : (i : ℕ) → i < height c.parts → All (IsOver (2 ^ exponent_at c.parts (i + 1))) (get_or c.parts.layers i [])
   gates_over i u = subst (λ (n : ℕ). All (IsOver n) (get_or c.parts.layers i [])) (size_of (i + 1) (omega arith)).0 (layer_over c.parts (none_from_test _ c.faultless) i u)
 
--- the shape tells it of each layer
+-- the shape gives it of each layer
 pub exponents-length : (p : Parts) → length (exponents p) ≡ height p + 1
 exponents-length p = length-map-range_with_len (exponent_at p) 0 (height p + 1)
 

@@ -29,7 +29,7 @@ depth_fault limits p = unless (nat_le 1 (height p) && nat_le (height p) limits.h
 abbrev pub exponent_of : Limits → ℕ → Option ℕ
 exponent_of limits n = first_below limits.exponent (λ j. unless (not (n == 2 ^ (j + 1))) (j + 1))
 
--- the positions that a layer has to hold: 0, and behind it the outputs at layer 0 and the leaves at the input layer
+-- the positions that a layer has to hold: 0, and after it the outputs at layer 0 and the leaves at the input layer
 abbrev pub held_by : Parts → ℕ → ℕ
 held_by p i = 1 + (if i == 0 then p.outputs else if i == height p then length p.leaves else 0)
 
@@ -88,7 +88,7 @@ fault_of limits p =
     (option_or (first_at_gate p (zero_fault p))
     (option_or (first_at_gate p (operand_fault p)) (first_below (length p.leaves) (leaf_fault p)))))
 
--- whether a refusal tells the first fault
+-- whether a refusal names the first fault
 abbrev pub IsCauseOf : Limits → Parts → CircuitRefused → Type 0
 IsCauseOf limits p (Bad fault) = fault_of limits p ≡ Some fault
 IsCauseOf limits p Memory = Unit {0}

@@ -20,7 +20,7 @@ of_self a = F_eq (of a.value) a (of-value a.value ∙ mod-eq_of_lt a.below)
 pub of_same : (m n : ℕ) → m % prime ≡ n % prime → of m ≡ of n
 of_same m n e = F_eq (of m) (of n) (of-value m ∙ e ∙ sym (of-value n))
 
--- what an element is, told by a number that leaves its remainder
+-- what an element is, by a number that leaves its remainder
 pub is_of : (a : F) (n : ℕ) → a.value ≡ n % prime → a ≡ of n
 is_of a n e = F_eq a (of n) (e ∙ sym (of-value n))
 

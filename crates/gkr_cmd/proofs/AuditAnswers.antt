@@ -74,7 +74,7 @@ audit_done one proofs c reply has is = answer_done one proofs c has (answer c re
 
 -- ---- the reply of `audit` with status 0
 
--- the audit that a reply tells
+-- the audit that a reply reports
 pub record TellsAudit (c : Content) (reply : Reply) : Type 0 where
   pub audit : Audit
   pub is_audited : IsAudited c audit

@@ -91,7 +91,7 @@ answer_done one c is (laid_out sizes value) = refl
 pub circuit_done : IsOne → (c : Content) (reply : Reply) → HasCircuit c → IsCircuitAnswer c reply → status_of reply ≡ Done
 circuit_done one c reply is found = answer_done one c is (answer c reply found)
 
--- a case whose program has a circuit with as many inputs is refused for want of memory alone
+-- a case whose program has a circuit with as many inputs is refused only where memory runs out
 pub memory_alone : IsOne → (c : Content) (refused : Refused) → HasCircuit c → RefusesCircuit c refused → refused ≡ refusals.Memory
 memory_alone one c (refusals.Program bad) has is = absurd (one.either c.program has.parts bad has.compiled is)
 memory_alone one c (refusals.Input have need) has is = absurd (counted_or_not one c have need has.parts has.compiled has.counted is)

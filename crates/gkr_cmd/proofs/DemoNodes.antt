@@ -144,7 +144,7 @@ any-kept end before after e = by (before.counts.outputs == 0) e
     by true e = cc
     by false e = same_ok before after e
 
--- leaves behind leaves
+-- leaves after leaves
 leaves-behind : (first more count : ℕ) → map Input (range_with_len first more) ++ map Input (range_with_len (first + more) count) ≡ map Input (range_with_len first (more + count))
 leaves-behind first zero count =
     let from : first + zero ≡ first = omega arith in
@@ -214,7 +214,7 @@ nodes_are n least most =
 
 -- ---- they are laid out
 
--- the sum stands at most 13 above the inputs, and there are fewer than 10,000 nodes
+-- the sum is at most 13 above the inputs, and there are fewer than 10,000 nodes
 pub record IsSmall (n : ℕ) : Type 0 where
   low : IsLow (demo_nodes n).nodes 13 (total n).item
   few : length (demo_nodes n).nodes ≤ 10000

@@ -32,7 +32,7 @@ name_at at number = record { at = at; number = number }
 abbrev pub size_at : ℕ → ℕ → Dimension
 size_at at n = record { at = at; size = n }
 
--- the declaration of a square matrix that stands at a place, where its size has so many digits
+-- the declaration of a square matrix that is at a place, where its size has so many digits
 abbrev pub square_at : ℕ → ℕ → ℕ → ℕ → InputTree
 square_at at name n digits = record {
   at = at;

@@ -1,4 +1,4 @@
--- The case that `demo` generates, and what is told of it.
+-- The case that `demo` generates, and what is reported of it.
 use Rattle.std.proofs.Common.{◌≡◌, ℕ, ◌+◌, ◌-◌, ◌*◌, ◌<◌, ◌≤◌, List, [], ◌∷◌, ◌++◌, length, get_or, decimal, subst, Option, Some, None, sym, ap, ◌∙◌, arith, length-append}
 use Rattle.std.proofs.lemmas.Fmt.{length-decimal-le}
 use Rattle.std.proofs.lemmas.List.FromFn.{length-map-range_with_len, map-range_with_len_more}
@@ -104,7 +104,7 @@ pub first_is : (outputs : Option (List F)) (o : List F) (x d : F) → outputs �
 first_is outputs [] x d is some read = absurd (omega (arith, some))
 first_is outputs (y ∷ ys) x d is some read = record { others = ys; outputs_are = is ∙ ap (λ (z : F). Some (z ∷ ys)) (sym read) }
 
--- ---- what is told
+-- ---- what is reported
 
 pub some_layer : (c : Content) (sizes : Sizes) (layers : List LayerSize) → IsLaidOut c sizes → layers ≡ sizes.layers → 1 ≤ length layers
 some_layer c sizes layers is same =

@@ -213,7 +213,7 @@ headline_of laws run whole =
           );
     }
 
--- a front of the reply is written
+-- a prefix of the reply is written
 cut_front : (run : Run) (made : Result Reply ReplyError) → MakesOwn run made → (input : List ℕ) → IsInput (command_of run.words) run.before.left input → WritesSome made run.before.written run.after.written
     → WritesReplyFront run.words input run.before.written run.after.written
 cut_front run made makes input is some = record { reply = some.reply; is_reply = (made_of run made some.reply makes some.made_is).is_reply input is; front = some.front }

@@ -11,7 +11,7 @@ use Rattle.gkr_cmd.specs.declared.status.Status.TheVariants.{Done}
 use Rattle.gkr_words.specs.Commands.{script_limit}
 use Rattle.gkr_cmd.specs.Replies.{IsHistoryReply, IsTooLong, status_of}
 
--- the reply tells such a history
+-- the reply reports such a history
 pub record Tells (script : List MarkedJob) (reply : Reply) : Type 0 where
   pub history : History
   pub told : IsServedHistory script history.jobs history.lines

@@ -11,7 +11,7 @@ pub no_call : (room : ℕ) (a : Option Calls) → CallsAtMost 0 room a a
 no_call room None = tt
 no_call room (Some x) = (omega arith, omega arith)
 
--- one call more, which has no more room, and where so many are allowed
+-- one call more, into no larger buffer, and where so many are allowed
 pub one_call : (room here most more : ℕ) (a b c : Option Calls) → CallsAtMost most room a b → CallsAtMost 1 here b c → here ≤ room → most + 1 ≤ more → CallsAtMost more room a c
 one_call room here most more a b None h k le enough = tt
 one_call room here most more a None (Some z) h k le enough = absurd k

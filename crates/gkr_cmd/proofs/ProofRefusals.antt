@@ -66,7 +66,7 @@ same_parts one c p p' o o' is is' = one.circuit c.program p p' is.compiled is'.c
 pub same_outputs : (c : Content) (p p' : Parts) (o o' : List F) → IsClaim c p o → IsClaim c p' o' → o ≡ o'
 same_outputs c p p' o o' is is' = one_value c.outputs o o' is.outputs_are is'.outputs_are
 
--- no claim stands where the inputs are miscounted, nor where the program is refused
+-- there is no claim where the inputs are miscounted, nor where the program is refused
 no_claim : IsOne → (c : Content) (have need : ℕ) (p : Parts) (o : List F) → IsCircuitMiscounted c have need → IsClaim c p o → ⊥
 no_claim one c have need p o is claim = counted_or_not one c have need p claim.compiled claim.counted is
 
@@ -125,7 +125,7 @@ not_both one proofs form c p o messages (miscounted have need is) has = no_claim
 not_both one proofs form c p o messages (outputs_miscounted have need is) has = as_many_or_not one c have need p o is has.claim has.as_many
 not_both one proofs form c p o messages (bad_proof bad is) has = spelled_or_not one proofs form c bad p o messages is has
 
--- then a call refuses it for want of memory alone
+-- then a call refuses it only where memory runs out
 pub read_or_memory : IsOne → IsOneProof → (form : ProofForm) (c : Content) (p : Parts) (o : List F) (messages : Messages) → HasProof form c p o messages → (r : Refused) → RefusesProof form c r → r ≡ refusals.Memory
 read_or_memory one proofs form c p o messages has (refusals.Program bad) is = absurd (not_refused one c bad p o is has.claim)
 read_or_memory one proofs form c p o messages has (refusals.Input have need) is = absurd (no_claim one c have need p o is has.claim)
@@ -133,7 +133,7 @@ read_or_memory one proofs form c p o messages has (refusals.Output have need) is
 read_or_memory one proofs form c p o messages has (refusals.Proof bad) is = absurd (spelled_or_not one proofs form c bad p o messages is has)
 read_or_memory one proofs form c p o messages has refusals.Memory is = refl
 
--- and the status tells it
+-- and the status says so
 pub refusal_undone : (form : ProofForm) (c : Content) {reply : Reply} → Refusal form c reply → status_of reply ≡ Done → ⊥
 refusal_undone form c (refused (At at kind) is) e = cc
 refusal_undone form c (refused (Deep levels) is) e = cc

@@ -54,7 +54,7 @@ longer most left new bytes h long input e =
 pub too_long : (command : CaseCommand) (left new : Option (List ℕ)) (bytes : List ℕ) → ReadsUpTo (case_limit + 1) left new bytes → case_limit < length bytes → (input : List ℕ) → left ≡ Some input → IsCommandReply (Some (OfCase command)) input (replies.TooLong case_limit)
 too_long command left new bytes h long input e = longer case_limit left new bytes h long input e
 
--- the input of a service is told by its source
+-- the input of a service is known from its source
 service_told : (command : Option Command) (left : Option (List ℕ)) (input : List ℕ) → IsService command → IsInput command left input → left ≡ Some input
 service_told (Some (Serve workers provers clients)) left input service told = told
 service_told (Some (ServeHistory workers provers clients)) left input service told = told
@@ -156,7 +156,7 @@ service_limit (Some (Demo number workers)) service = absurd service
 service_limit (Some (Session piece workers)) service = absurd service
 service_limit None service = absurd service
 
--- a named command's input is told by its source
+-- a named command's input is known from its source
 pub input_of : (named : CaseCommand) (command : Option Command) (left : Option (List ℕ)) (input : List ℕ) → command ≡ Some (OfCase named) → left ≡ Some input → IsInput command left input
 input_of named (Some (Demo number workers)) left input is told = absurd cc
 input_of named (Some (Serve workers provers clients)) left input is told = absurd cc
@@ -177,13 +177,13 @@ pub demo_done_of : (number workers : ℕ) → ((reply : Reply) → IsDemoAnswer 
 demo_done_of number workers law command left reply is replied =
     law reply (subst (λ c. IsCommandReply c [] reply) is (replied [] (subst (λ c. IsInput c left []) (sym is) tt)))
 
--- the reply of `serve` is one to the script that is told
+-- the reply of `serve` is one to the script that is known
 pub script_reply_of : (workers provers clients : ℕ) (command : Option Command) (left : Option (List ℕ)) (reply : Reply) → command ≡ Some (Serve workers provers clients)
     → ((input : List ℕ) → IsInput command left input → IsCommandReply command input reply) → (input : List ℕ) → left ≡ Some input → IsScriptReply input reply
 script_reply_of workers provers clients command left reply is replied input told =
     subst (λ c. IsCommandReply c input reply) is (replied input (subst (λ c. IsInput c left input) (sym is) told))
 
--- the reply of `serve --history` is one to the script that is told
+-- the reply of `serve --history` is one to the script that is known
 pub history_reply_of : (workers provers clients : ℕ) (command : Option Command) (left : Option (List ℕ)) (reply : Reply) → command ≡ Some (ServeHistory workers provers clients)
     → ((input : List ℕ) → IsInput command left input → IsCommandReply command input reply) → (input : List ℕ) → left ≡ Some input → IsHistoryReply input reply
 history_reply_of workers provers clients command left reply is replied input told =
@@ -409,7 +409,7 @@ pub full_has : {A : Type 0} (o : Option A) → Allows Full o → IsSome o
 full_has None is = absurd is
 full_has (Some x) is = refl
 
--- what a run wrote is a front of its reply, or nothing
+-- what a run wrote is a prefix of its reply, or nothing
 pub no_more : (status : Status) (words : List (List ℕ)) (input : List ℕ) (before after : Option (List ℕ)) → (status ≡ statuses.ReadFault → Grows before after []) → (status ≡ statuses.Memory → Grows before after [])
     → (status ≡ statuses.WriteFault → WritesReplyFront words input before after) → (IsReplied status → WritesReplyFront words input before after) → WritesNoMore status words input before after
 no_more statuses.Done words input before after fault memory cut whole = whole tt

@@ -52,7 +52,7 @@ named input (replies.Audit lines) is = absurd is.holds
 pub session_named : (input : List ℕ) (result : Result Reply ReplyError) → IfOk result (λ reply. IsSessionReply input reply) → IfOk result (λ reply. status_of reply ≢ statuses.Usage)
 session_named input result replied = IfOk-weaker result _ _ (λ reply is. named input reply is) replied
 
--- the reply is one to the input that is told
+-- the reply is one to the input that is known
 pub session_reply_of : (piece workers : ℕ) (command : Option Command) (left : Option (List ℕ)) (reply : Reply) → command ≡ Some (Session piece workers)
     → ((input : List ℕ) → IsInput command left input → IsCommandReply command input reply) → (input : List ℕ) → left ≡ Some input → IsSessionReply input reply
 session_reply_of piece workers command left reply is replied input told =

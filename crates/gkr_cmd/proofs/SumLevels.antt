@@ -1,4 +1,4 @@
--- How many nodes sums, dot products and matrix products make, and how high these stand.
+-- How many nodes sums, dot products and matrix products make, and how high these are.
 use Rattle.std.proofs.Common.{◌≡◌, ℕ, zero, suc, ◌+◌, ◌-◌, ◌*◌, ◌/◌, ◌%◌, ◌^◌, ◌<◌, ◌≤◌, List, [], ◌∷◌, ◌++◌, length, map, take, drop, get_or, refl, sym, ap, ◌∙◌, subst, arith, All, length-append, append_assoc}
 use Rattle.std.specs.List.{range_with_len}
 use Rattle.std.proofs.lemmas.List.{append-nil, length-take, length-drop}
@@ -18,13 +18,13 @@ pub record IsLow (nodes : List Node) (h item : ℕ) : Type 0 where
   pub made : item < length nodes
   pub low : get_or (made_in_order level_of nodes) item 0 ≤ h
 
--- behind the nodes before come so many more, or fewer
+-- so many more nodes, or fewer, come after those before
 pub record Adds (before after : List Node) (most : ℕ) : Type 0 where
   pub more : List Node
   pub is : after ≡ before ++ more
   pub few : length more ≤ most
 
--- a node of level h or below, behind so many more
+-- a node of level h or below, after so many more
 pub record MakesLow (before : List Node) (one : MadeOne) (h most : ℕ) : Type 0 where
   pub adds : Adds before one.nodes most
   pub low : IsLow one.nodes h one.item
@@ -107,7 +107,7 @@ module _ {A : Type 0} (make : A → List Node → MadeOne) (IsReady : List Node 
 half : (n d : ℕ) → 2 ≤ n → n ≤ 2 ^ suc d → (1 ≤ first_half n) × (first_half n < n) × (first_half n ≤ 2 ^ d) × (n - first_half n ≤ 2 ^ d)
 half n d two small = (omega arith, omega arith, omega arith, omega arith)
 
--- the sum of at most 2^d nodes stands at most d above them, and takes fewer new nodes than these are
+-- the sum of at most 2^d nodes is at most d above them, and takes fewer new nodes than these are
 pub sum-low : (depth d h : ℕ) (items : List ℕ) (nodes : List Node) → 1 ≤ length items → length items ≤ depth → length items ≤ 2 ^ d → All (IsLow nodes h) items →
     MakesLow nodes (sum_within depth items nodes) (h + d) (length items - 1)
 sum-low depth d h [] nodes some deep small low = absurd (omega (arith, some))

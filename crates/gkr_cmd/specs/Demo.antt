@@ -1,4 +1,4 @@
--- The case that `demo` generates from a number, and what is told of its proof.
+-- The case that `demo` generates from a number, and what is reported of its proof.
 use Rattle.std.specs.Prelude.{◌≡◌, ℕ, ◌+◌, ◌*◌, ◌%◌, List, [], ◌∷◌, length, map, codes, decimal, Option, Some, None}
 use Rattle.std.specs.List.{concat, range_with_len}
 use Rattle.sha2.specs.Sha256.{sha256}
@@ -17,7 +17,7 @@ use Rattle.case_prove.specs.Verified.{IsVerdictOn}
 abbrev pub demo_size : ℕ → ℕ
 demo_size number = 2 + number % 15
 
--- the declaration of a square matrix, behind these words
+-- the declaration of a square matrix, after these words
 unfoldable pub square_text : List ℕ → ℕ → List ℕ
 square_text words n = concat (words ∷ decimal n ∷ codes "][" ∷ decimal n ∷ codes "]; " ∷ [])
 

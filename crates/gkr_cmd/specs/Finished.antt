@@ -20,7 +20,7 @@ pub record WritesWhole (made : Result Reply ReplyError) (ended : Status)
   pub status : ended ≡ status_of reply
   pub written : Grows before after (reply_text reply)
 
--- a front of the reply that was made is written
+-- a prefix of the reply that was made is written
 pub record WritesSome (made : Result Reply ReplyError) (before after : Option (List ℕ))
     : Type 0 where
   pub reply : Reply

@@ -28,8 +28,8 @@ use Rattle.gkr_cmd.specs.Runs.{EndsWithReply, HasCircuit, HasLineProof, HasWords
 use Rattle.gkr_cmd.specs.Runs.{IsReplied, WritesAudit, WritesConverted, WritesHistory, WritesHonestProof}
 use Rattle.gkr_cmd.specs.Runs.{WritesNoMore, WritesReplies, WritesSession}
 
--- What the source and the sink of a run tell at one moment: the bytes that are left, the calls that
--- read and the bytes that were written, where they tell them, and how often each has failed.
+-- What the source and the sink of a run make known at one moment: the bytes that are left, the calls that
+-- read and the bytes that were written, where these are known, and how often each has failed.
 pub record Ends : Type 0 where
   pub left : Option (List ℕ)
   pub calls : Option Calls
@@ -37,7 +37,7 @@ pub record Ends : Type 0 where
   pub written : Option (List ℕ)
   pub write_faults : ℕ
 
--- One run: its words, the first of which is the program's own name, what its ends told before and
+-- One run: its words, the first of which is the program's own name, what was known of its ends before and
 -- after it, and the status that it ended with.
 pub record Run : Type 0 where
   pub words : List (List ℕ)
@@ -112,7 +112,7 @@ pub record Headline (run : Run) : Type 0 where
   -- A case with an accepted program and as many inputs as the program needs is evaluated.
   pub done : (input : List ℕ) → Asks run (OfCase Eval) input
       → IsOfCase Plain input IsEvaluable → IsReplied run.ended → run.ended ≡ statuses.Done
-  -- `demo` answers every number with what is told of its case's proof.
+  -- `demo` answers every number with what is reported of its case's proof.
   pub demonstrated : (number workers : ℕ) → command_of run.words ≡ Some (Demo number workers)
       → IsReplied run.ended → run.ended ≡ statuses.Done
   -- `serve` answers every script with the replies of `prove` to its jobs, in the script's order,
@@ -136,7 +136,7 @@ pub record HasOneReply (run : Run) : Type 0 where
   pub answer : (input : List ℕ) → IsInput (command_of run.words) run.before.left input
       → IsReplied run.ended
       → EndsWithReply run.words input run.ended run.before.written run.after.written
-  -- Whatever happens, no more than a front of that reply was written.
+  -- Whatever happens, no more than a prefix of that reply was written.
   pub front : (input : List ℕ) → IsInput (command_of run.words) run.before.left input
       → WritesNoMore run.ended run.words input run.before.written run.after.written
   -- The words are refused exactly where they are no command.
@@ -156,7 +156,7 @@ pub record HasCauses (run : Run) : Type 0 where
       → run.ended ≢ statuses.ReadFault → run.ended ≢ statuses.Memory
       → IsReadUpTo (input_limit (command_of run.words) + 1) run.before.left run.after.left
   -- However it ends, at most one byte more than the limit is read, in as many reads at most, none
-  -- with room for more than 4,096 bytes.
+  -- into a buffer of more than 4,096 bytes.
   pub read_within : ReadsCase (command_of run.words)
       → ReadsWithin (input_limit (command_of run.words) + 1) read_room run.before.left
       run.after.left
@@ -173,7 +173,7 @@ pub record HasCauses (run : Run) : Type 0 where
       → Rose run.before.write_faults run.after.write_faults
   pub write_failed : run.before.write_faults < run.after.write_faults
       → run.ended ≡ statuses.WriteFault
-  -- Want of memory comes before the first byte is written.
+  -- Memory runs out before the first byte is written.
   pub memory_unwritten : run.ended ≡ statuses.Memory
       → Grows run.before.written run.after.written []
 

@@ -234,7 +234,7 @@ IsCommandReply (Some (Session piece workers)) input reply = IsSessionReply input
 abbrev pub IsReply : List (List ℕ) → List ℕ → Reply → Type 0
 IsReply words input reply = IsCommandReply (command_of words) input reply
 
--- the status that tells a verdict
+-- the status that reports a verdict
 abbrev pub verdict_status : VerdictLine → Status
 verdict_status told.Accepted = statuses.Done
 verdict_status (told.Sum layer round had claim) = statuses.Rejected

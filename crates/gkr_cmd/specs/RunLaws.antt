@@ -1,4 +1,4 @@
--- The laws that the promises of a run stand on, together. No public contract cites this.
+-- The laws that the promises of a run rest on, together. No public contract cites this.
 use Rattle.std.specs.Prelude.{◌≡◌, ◌<◌, ◌↔◌, ℕ, List, Ok, IsSome, IsTrue, length}
 use Rattle.audit_core.specs.Audit.{names_nothing}
 use Rattle.audit_core.specs.declared.report.Audit.{Audit}

@@ -41,7 +41,7 @@ use Rattle.gkr_cmd.specs.Replies.{IsOfCase, IsReply, IsVerifyAnswer, status_of}
 use Rattle.gkr_cmd.specs.Told.{audit_lines}
 use Rattle.gkr_cmd.specs.Reached.{WritesFront}
 
--- What a command reads is told by the source. `demo`, and words that are no command, read nothing,
+-- What a command reads is known from the source. `demo`, and words that are no command, read nothing,
 -- so any input is theirs.
 abbrev pub IsInput : Option Command → Option (List ℕ) → List ℕ → Type 0
 IsInput None left input = ⊤
@@ -66,14 +66,14 @@ pub record EndsWithReply (words : List (List ℕ)) (input : List ℕ) (ended : S
   pub status : ended ≡ status_of reply
   pub written : Grows before after (reply_text reply)
 
--- The run wrote a front of the text of a reply to its words and input.
+-- The run wrote a prefix of the text of a reply to its words and input.
 pub record WritesReplyFront (words : List (List ℕ)) (input : List ℕ)
     (before after : Option (List ℕ)) : Type 0 where
   pub reply : Reply
   pub is_reply : IsReply words input reply
   pub front : WritesFront before after (reply_text reply)
 
--- What a run wrote: nothing where it has no reply, and else a front of the reply to its words and
+-- What a run wrote: nothing where it has no reply, and else a prefix of the reply to its words and
 -- input.
 abbrev pub WritesNoMore : Status → List (List ℕ) → List ℕ → Option (List ℕ) → Option (List ℕ)
     → Type 0
@@ -101,7 +101,7 @@ pub record HasLineProof (c : Content) : Type 0 where
   pub messages : Messages
   pub proof : HasProof Line c parts outputs messages
 
--- The run wrote the lines of the case's audit. It begins with the verifier's answer, and tells whether the outputs are the program's
+-- The run wrote the lines of the case's audit. It begins with the verifier's answer, and says whether the outputs are the program's
 -- meaning on the inputs. For an accepted case whose outputs aren't, it names an exceptional challenge; for a case that was proved,
 -- all is well and it names nothing.
 pub record WritesAudit (c : Content) (before after : Option (List ℕ)) : Type 0 where

@@ -1,4 +1,4 @@
--- What is told of a proof and of a refusal.
+-- What is reported of a proof and of a refusal.
 use Rattle.std.specs.Prelude.{ℕ, Option, Some, None, Result, Ok, Err, option_map}
 use Rattle.arr_compile.specs.declared.refused.BadProgram.TheVariants.{At, Deep, Wide}
 use Rattle.audit_core.specs.declared.place.Place.{Place}

@@ -167,7 +167,7 @@ length-bounds form (layer ∷ layers) = omega (arith, length-front (layer.k + la
 pub one_each : (stated : CircuitClaim) → length (bounds stated) ≡ challenge_count stated
 one_each stated = omega (arith, length-front stated.k 1 (layer_bounds stated.form stated.layers), length-bounds stated.form stated.layers)
 
--- what is read at each of the first places is the front
+-- what is read at each of the first places is the prefix
 front_read : (xs : List ℕ) (n : ℕ) → n ≤ length xs → map (λ (i : ℕ). get_or xs i 0) (range_with_len 0 n) ≡ take n xs
 front_read xs zero u = refl
 front_read xs (suc n) u =

@@ -1,4 +1,4 @@
--- Fronts and rests of lists, and facts that hold by a test
+-- Prefixes and rests of lists, and facts that hold by a test
 use Rattle.std.proofs.Common.{◌≡◌, ℕ, zero, suc, ◌-◌, List, [], ◌∷◌, ◌++◌, length, take, drop, get_or, Bool, true, false, MatchBool, refl, sym, ◌∙◌, ap, subst, arith}
 
 pub from_one : (P Q : Type 0) {b : Bool} → b ≡ true → MatchBool b P Q → P

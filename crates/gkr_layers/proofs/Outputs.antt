@@ -87,7 +87,7 @@ module _ (c : SoundCircuit) (inputs : List F) where
       value_at_gate i 0 u (some i u)
       ∙ zero_value (layer_values c.parts inputs (i + 1)) (gate_of c.parts i 0) (zero_gate_at i 0 u (some i u) refl) (first_zero n (i + 1) (omega arith))
 
-  -- padding behind the outputs holds 0
+  -- padding after the outputs holds 0
   past_zero : (g : ℕ) → c.parts.outputs < g → g < width_of c.parts 0 → get_or (layer_values c.parts inputs 0) g zero_f ≡ zero_f
   past_zero g u v =
       let h : 0 < height c.parts = (let b = height_bounds c.parts (none_from_test _ c.faultless) in omega (arith, b.0)) in

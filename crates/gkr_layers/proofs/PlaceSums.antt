@@ -1,4 +1,4 @@
--- The extension of a layer's values where a claim stands is the sum of its summand over all Boolean points, and a true round
+-- The extension of a layer's values at the place of a claim is the sum of its summand over all Boolean points, and a true round
 -- polynomial's value is the sum with it in the variable's place
 use Rattle.std.proofs.Common.{◌≡◌, ℕ, ◌+◌, ◌^◌, List, [], ◌∷◌, ◌++◌, map, length, take, drop, All, refl, sym, ◌∙◌, ap, ap₂}
 use Rattle.std.proofs.lemmas.List.{take-map, drop-map}

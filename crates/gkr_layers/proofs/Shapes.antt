@@ -108,7 +108,7 @@ drawn form p inputs outputs source s messages shape =
     let stated : CircuitClaim = claim_in form p inputs outputs in
     length-challenges source s stated (all_messages messages.layers) (length-all form stated.layers messages.layers (have_shape form p messages shape))
 
--- the outputs stand behind position 0
+-- the outputs come after position 0
 pub outputs_room : (c : SoundCircuit) → c.parts.outputs < width_of c.parts 0
 outputs_room c = let held = (width_bounds c.parts (none_from_test _ c.faultless) 0 (omega arith)).1 in omega (arith, held)
 

@@ -43,7 +43,7 @@ true_table stated = values_over k_ops stated.layers stated.input_table
 abbrev pub challenge_count : CircuitClaim → ℕ
 challenge_count stated = stated.k + message_count stated.layers
 
--- the claim on the outputs stands at the point of the first challenges
+-- the claim on the outputs is at the point of the first challenges
 abbrev pub output_place : CircuitClaim → List K → Place K
 output_place stated rs = At (take stated.k rs)
 

@@ -73,8 +73,8 @@ pub record Answered : Type 0 where
   pub verdict : Verdict
   pub state : List ℕ
 
--- The answer to equations, of which each stands before one of these messages, the last aside. Once an equation holds, its message is
--- taken in and a challenge drawn behind it, so that the first that fails leaves the state before its message.
+-- The answer to equations, of which each comes before one of these messages, the last aside. Once an equation holds, its message is
+-- taken in and a challenge drawn after it, so that the first that fails leaves the state before its message.
 abbrev pub answer : Source → List ℕ → List Equation → List (List K) → Answered
 answer source s [] qs = record { verdict = Accepted; state = s }
 answer source s (equation ∷ equations) qs =

@@ -27,7 +27,7 @@ module _ {A : Type 0} (o : Ops A) where
   last_polynomial Pair values b c =
       extension_at o o (λ x. x) values b ∷ extension_at o o (λ x. x) values c ∷ []
 
-  -- where the next claim stands
+  -- where the next claim is
   abbrev pub place_between : ProofForm → List A → List A → A → Place A
   place_between Line b c e = At (point_between o b c e)
   place_between Pair b c e = AtBoth b c e

@@ -42,7 +42,7 @@ module _ {A : Type 0} (o : Ops A) where
   values_over (layer ∷ layers) input = values_above o layer.gates (values_over layers input)
 
 module _ {A : Type 0} (o : Ops A) (form : ProofForm) where
-  -- where the next claim stands, for the layer's challenges
+  -- where the next claim is, for the layer's challenges
   abbrev pub next_place : ℕ → List A → Place A
   next_place k rs = place_between o form (take k (take (k + k) rs)) (drop k (take (k + k) rs))
       (slice_index_or rs (k + k) o.zero)
@@ -91,7 +91,7 @@ abbrev pub message_count : List GateLayer → ℕ
 message_count [] = 0
 message_count (layer ∷ layers) = (layer.k + layer.k + 1) + message_count layers
 
--- how many challenges the proof of a circuit takes: the coordinates of the output point, and one behind each message
+-- how many challenges the proof of a circuit takes: the coordinates of the output point, and one after each message
 abbrev pub challenges_of : Parts → ℕ
 challenges_of p = exponent_at p 0 + message_count (layers_of p)
 

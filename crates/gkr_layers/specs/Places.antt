@@ -1,4 +1,4 @@
--- Where the claim on a layer stands, at a point or at two at once, and what sumcheck sums for it
+-- Where the claim on a layer is, at a point or at two at once, and what sumcheck sums for it
 use Rattle.std.specs.Prelude.{◌≡◌, ℕ, List, length, map, take, drop}
 use Rattle.field_ext.specs.Ring.{Ops}
 use Rattle.field_ext.specs.Multilinear.{extension_at}

@@ -27,7 +27,7 @@ pub messages-more : (ms : List LayerMessages) (m : LayerMessages) → all_messag
 messages-more [] m = append-nil (messages_of m)
 messages-more (n ∷ ms) m = ap (λ (xs : List (List K)). messages_of n ++ xs) (messages-more ms m) ∙ sym (append_assoc (messages_of n) (all_messages ms) (messages_of m))
 
--- the layer's messages at the front of longer lists
+-- the layer's messages at the beginning of longer lists
 module _ (form : ProofForm) (k : ℕ) (gates : List CircuitGate) (qs qs' : List (List K)) (rs rs' : List K) (u : length qs ≡ k + k + 1) (v : length rs ≡ k + k + 1) where
   front : (j : ℕ) → j ≤ k + k → take j (rs ++ rs') ≡ take j rs
   front j w = take-append-le j rs rs' (omega arith)
@@ -59,7 +59,7 @@ pub table_values : (p : Parts) (inputs : List F) (tables : List (List K)) (i : �
     values ≡ values_over k_ops (layers_below p i) (input_table p inputs)
 table_values p inputs tables i values h u e = e ∙ h.each i u ∙ over-embed p i (drop i p.layers) (padded_values p.input_width (map (leaf_value inputs) p.leaves))
 
--- one more layer's messages, where the rest is to be proved behind them
+-- one more layer's messages, where the rest is to be proved after them
 pub layers_more : (form : ProofForm) (p : Parts) (inputs : List F) (source : Source) (s : List ℕ) (i : ℕ) (ms : List LayerMessages) (m : LayerMessages) (values : List K) (first place next : Place K) → i < height p →
     HasShape form (exponent_at p (i + 1)) m →
     values ≡ values_over k_ops (layers_below p (i + 1)) (input_table p inputs) →

@@ -1,4 +1,4 @@
--- Messages that are filled in one after another, and the challenges behind them
+-- Messages that are filled in one after another, and the challenges after them
 use Rattle.std.proofs.Common.{◌≡◌, ℕ, suc, ◌+◌, ◌<◌, ◌≤◌, List, [], ◌∷◌, ◌++◌, length, get_or, drop, IsTrue, refl, sym, ◌∙◌, ap, subst, append_assoc, append-nil, length-append, drop_of_length-le}
 use Rattle.std.specs.Prelude.{Result, Ok, Err, IfOk}
 use Rattle.std.proofs.lemmas.List.{drop_more, length-map}
@@ -28,7 +28,7 @@ second_same a b c x y z e = cc e
 third_same : (a b c x y z : K) → a ∷ b ∷ c ∷ [] ≡ x ∷ y ∷ z ∷ [] → c ≡ z
 third_same a b c x y z e = cc e
 
--- a message is told by its coefficients
+-- a message is known by its coefficients
 pub round_by_coefficients : (x y : Round) → coefficients_of x ≡ coefficients_of y → x ≡ y
 round_by_coefficients x y e = λ i. record {
   c0 = first_same x.c0 x.c1 x.c2 y.c0 y.c1 y.c2 e i;

@@ -69,7 +69,7 @@ module _ (number round : ℕ) (claim : K) (q : List K) where
   first_is : (b : Bool) (x : Verdict) → b ≡ true → (if b then x else Sum number round (sum_at q) claim) ≡ x
   first_is b x e = ap (λ (c : Bool). if c then x else Sum number round (sum_at q) claim) e
 
--- sum equations that hold leave the answer to those behind them
+-- sum equations that hold leave the answer to those after them
 pub sums_front : (number round : ℕ) (claim : K) (qs : List (List K)) (rs : List K) (fs : List Equation) → first_failure (sum_equations number round claim qs rs) ≡ Accepted → first_failure (sum_equations number round claim qs rs ++ fs) ≡ first_failure fs
 sums_front number round claim [] rs fs h = refl
 sums_front number round claim (q ∷ qs) [] fs h = refl
@@ -91,7 +91,7 @@ sums_stop number round claim (q ∷ qs) (r ∷ rs) fs v n h =
     by true x y e f = f e
     by false x y e f = e
 
--- and where they hold together with those behind them, both do
+-- and where they hold together with those after them, both do
 sums_split : (number round : ℕ) (claim : K) (qs : List (List K)) (rs : List K) (fs : List Equation) → first_failure (sum_equations number round claim qs rs ++ fs) ≡ Accepted →
     (first_failure (sum_equations number round claim qs rs) ≡ Accepted) × (first_failure fs ≡ Accepted)
 sums_split number round claim [] rs fs h = (refl, h)
@@ -179,7 +179,7 @@ module _ (source : Source) where
       ∙ not_end (same_k had want) (first_failure below) number had want
       (layers-no_sum (suc number) next (next_claim source s m) layers input (place_between k_ops Line (take k bound) (drop k bound) (source.draw last)) ms h.1 sums.1)
 
-  -- an end equation that holds leaves the answer to those behind it
+  -- an end equation that holds leaves the answer to those after it
   end_held : (b : Bool) (x : Verdict) (number : ℕ) (had want : K) → (if b then x else End number had want) ≡ Accepted → x ≡ Accepted
   end_held true x number had want e = e
   end_held false x number had want e = absurd (differ refl e)

@@ -1,4 +1,4 @@
--- The equations of a layer, where its messages stand before those of the layers below
+-- The equations of a layer, where its messages come before those of the layers below
 use Rattle.std.proofs.Common.{◌≡◌, ℕ, suc, ◌+◌, List, [], ◌∷◌, ◌++◌, length, get_or, take, drop, true, false, sym, ◌∙◌, ap, arith, append_assoc}
 use Rattle.field_ext.specs.Field.{K, k_ops, zero_k, same_k}
 use Rattle.field_ext.specs.Polynomial.{value_at}

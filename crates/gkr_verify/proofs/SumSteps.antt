@@ -21,7 +21,7 @@ use Rattle.gkr_layers.proofs.Shapes.{have_shape, length-all}
 use Rattle.gkr_verify.proofs.Filled.{sums_front, sums_stop}
 use Rattle.gkr_verify.specs.ShortProof.{next_claim, state_at_last, sums_from}
 
--- an answer that holds whatever follows tells the first failure
+-- an answer that holds whatever follows names the first failure
 pub first_of_answer : (source : Source) (s : List ℕ) (es : List Equation) (qs : List (List K)) (v : Verdict) (t : List ℕ) → answer source s (es ++ []) (qs ++ []) ≡ record { verdict = v; state = t } → first_failure es ≡ v
 first_of_answer source s es qs v t e =
     ap first_failure (sym (append-nil es)) ∙ sym (answer-verdict source s (es ++ []) (qs ++ [])) ∙ ap (λ (x : Answered). x.verdict) e
@@ -111,7 +111,7 @@ module _ (c : SoundCircuit) (messages : Messages) (shape : HaveShape Line (drop 
       let few = widths_few c 0 c.parts.layers i (omega arith) in
       omega (arith, many, few)
 
-  -- as many challenges as there are messages are there behind the output point
+  -- as many challenges as there are messages are there after the output point
   pub has_messages : (source : Source) (s : List ℕ) → IsTrue (source.has s (challenges_of c.parts)) → IsTrue (source.has (state_after_point source s (exponent_at c.parts 0)) (length (all_messages messages.layers)))
   has_messages source s has =
       subst (λ (n : ℕ). IsTrue (source.has (state_after_point source s (exponent_at c.parts 0)) n)) (sym (length-all Line (layers_of c.parts) messages.layers below))

@@ -25,7 +25,7 @@ module _ {A : Type 0} (o : Ops A) (l : Laws A o) where
   one_more : (n : ℕ) (f : ℕ → A) (sum next : A) → next ≡ o.add sum (f n) → sum ≡ sum_below o n f → next ≡ sum_below o (n + 1) f
   one_more n f sum next e h = e ∙ ap (λ (x : A). o.add x (f n)) h ∙ ap (λ (k : ℕ). sum_below o k f) (sym (add-one n))
 
-  -- zeros behind change nothing
+  -- zeros at the end change nothing
   zeros_behind : (m n : ℕ) (f : ℕ → A) → m ≤ n → ((g : ℕ) → m ≤ g → f g ≡ o.zero) → sum_below o m f ≡ sum_below o n f
   zeros_behind m n f u z = by_size n (cases_eq m n) u
     where
@@ -39,7 +39,7 @@ module _ {A : Type 0} (o : Ops A) (l : Laws A o) where
 abbrev pub table : ℕ → List F → List K
 table width values = map embed_k (padded_values width values)
 
--- the values stand from place 1 on
+-- the values begin at place 1
 value-behind : (width : ℕ) (values : List F) (i : ℕ) → get_or (table width values) (i + 1) zero_k ≡ embed_k (get_or values i zero_f)
 value-behind width values i =
     read-embed (padded_values width values) (i + 1)

@@ -1,4 +1,4 @@
--- The room of a check
+-- The buffers of a check
 use Rattle.std.specs.Prelude.{◌≡◌, ◌+◌, ◌*◌, vec_len}
 use Rattle.circuit_core.specs.Parts.{Parts}
 use Rattle.circuit_core.specs.Sound.{exponent_at}

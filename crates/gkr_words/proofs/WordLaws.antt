@@ -49,7 +49,7 @@ or_nothing : (kinds : Kinds) → or_else kinds [] ≡ kinds
 or_nothing [] = refl
 or_nothing (k ∷ ks) = refl
 
--- why a subcommand refuses the words behind its name
+-- why a subcommand refuses the words after its name
 abbrev leaf_fault : Shape → List Text → Kinds
 leaf_fault s ws = level_fault s [] nothing_held ws false []
 
@@ -203,7 +203,7 @@ plain_turn : (s : Shape) (h : Held) (waiting : Waiting) (position : ℕ) (word :
 plain_turn s h waiting position word is =
     ap₂ (λ kinds met. or_else kinds (step_fault s position met.0 met.1)) (plain_fault s h waiting word is) (plain_met s.rules h waiting position word is)
 
--- ---- the words behind a subcommand's name
+-- ---- the words after a subcommand's name
 
 abbrev leaf_end : Shape → Walk → Kinds
 leaf_end s w = or_else (settle_fault s.rules s.args_override_self w.held) (or_else (defaults_fault (settled s.rules w.held).rows s.rules) (check_fault s (finished s.rules w.held) false))
@@ -242,7 +242,7 @@ pub prove_with : (program v : Text) → IsPlainWord v → command_of (program �
 unfolding clap_on_literals
 prove_with program v is = by_end (codes "prove") (leaf (codes "prove")) prove_is program (codes "--workers" ∷ v ∷ []) (at (has_workers nothing_held v) idle 1) (prove_end v is)
 
--- behind the form that `--proof` names
+-- after the form that `--proof` names
 pub prove_pair : (program : Text) → command_of (program ∷ codes "prove" ∷ codes "--proof" ∷ codes "pair" ∷ []) ≡ Some (OfCase (Prove 1 ByPairs))
 unfolding clap_on_literals
 prove_pair program = by_leaf (codes "prove") (leaf (codes "prove")) prove_is program (codes "--proof" ∷ codes "pair" ∷ []) refl

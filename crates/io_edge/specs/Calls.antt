@@ -1,13 +1,13 @@
--- What a source tells of the calls that read from it.
+-- What is known of the calls that read from it.
 use Rattle.std.specs.Prelude.{ℕ, ◌+◌, ◌≤◌, max, ⊤, Some, None}
 use Rattle.std.specs.declared.option.Option.{Option}
 
--- How many calls there were, and the most room that one had.
+-- How many calls there were, and the largest buffer that one had.
 pub record Calls : Type 0 where
   pub count : ℕ
   pub most_room : ℕ
 
--- After at most so many calls more, none with more room than this.
+-- After at most so many calls more, none into a larger buffer than this.
 abbrev pub CallsAtMost : ℕ → ℕ → Option Calls → Option Calls → Type 0
 CallsAtMost most room old None = ⊤
 CallsAtMost most room None (Some new) = ⊥

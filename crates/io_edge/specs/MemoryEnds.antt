@@ -22,7 +22,7 @@ calls_of s = record { count = s.schedule.calls; most_room = s.most_room }
 abbrev pub steady_calls : SteadySource → Calls
 steady_calls s = record { count = s.calls; most_room = s.most_room }
 
--- the bytes that a sink holds, and how many it has room for in all
+-- the bytes that a sink holds, and how many its buffer holds in all
 abbrev pub held : MemorySink → List ℕ
 held s = s.bytes.items
 
@@ -38,7 +38,7 @@ steady_held s = s.bytes.items
 abbrev pub steady_room : SteadySink → ℕ
 steady_room s = s.room
 
--- the bytes that were written, or None from the first that found no room
+-- the bytes that were written, or None from the first that found no capacity
 abbrev pub told : SteadySink → Option (List ℕ)
 told s = if s.tells then Some s.bytes.items else None
 

@@ -32,6 +32,6 @@ none_before js k d h = fails_before_first is_queued js k d h
 pub not_before : (js : List JobState) (j : ℕ) → slice_get js j ≡ Some Queued → before_queued js ≤ j
 not_before js j at = dite (dec_le (before_queued js) j) (λ (h : before_queued js ≤ j). h) (λ (h : ¬ (before_queued js ≤ j)). absurd (true≢false (sym (queued_at js j Queued at) ∙ none_before js j Queued (lt_of_not-le h))))
 
--- a change at this job or behind it leaves those before the first as they were
+-- a change at this job or after it leaves those before the first as they were
 pub none_before_set : (js ks : List JobState) (j n : ℕ) (s : JobState) → n ≡ before_queued js → n ≤ j → ks ≡ set js j s → AreNotQueued ks n
 none_before_set js ks j n s first low is k d h = ap (λ (l : List JobState). is_queued (get_or l k d)) is ∙ ap is_queued (get_or-set_other js j k s d (λ e. absurd (omega arith))) ∙ none_before js k d (omega arith)

@@ -21,7 +21,7 @@ and_right false b e = absurd (true≢false (sym e))
 pub and_both : {a b : Bool} → a ≡ true → b ≡ true → (a && b) ≡ true
 and_both {a} {b} p q = ap (λ (z : Bool × Bool). z.0 && z.1) (λ k. (p k, q k))
 
--- an entry behind a run
+-- an entry after a run
 pub steps_snoc : (capacity : ℕ) (js : List JobState) (es : List Entry) (e : Entry) → are_steps capacity js (es ++ e ∷ []) ≡ (are_steps capacity js es && is_step capacity (replay js es) e)
 steps_snoc capacity js [] e = and_true (is_step capacity js e) where
   and_true : (b : Bool) → (b && true) ≡ (true && b)
@@ -36,7 +36,7 @@ pub replay_snoc : (js : List JobState) (es : List Entry) (e : Entry) → replay 
 replay_snoc js [] e = refl
 replay_snoc js (x ∷ es) e = replay_snoc (after js x) es e
 
--- where the job of a step stands
+-- the state of the job of a step
 queued_is : (s : JobState) → is_queued s ≡ true → s ≡ Queued
 queued_is Queued e = refl
 queued_is Running e = absurd (true≢false (sym e))
@@ -176,7 +176,7 @@ submit_below capacity js (e ∷ es) zero j ok at = let is = some_eq e (Submit j)
     let m = no_fewer_on capacity (after js e) es in omega arith
 submit_below capacity js (e ∷ es) (suc p) j ok at = submit_below capacity (after js e) es p j (and_right (is_step capacity js e) (are_steps capacity (after js e) es) ok) at
 
--- where the first queued job stands behind all, no job is queued
+-- where the first queued job comes after all, no job is queued
 pub no_job_queued : (js : List JobState) → before_queued js ≡ length js → (j : ℕ) → ¬ (slice_get js j ≡ Some Queued)
 no_job_queued [] none j at = no_some Queued at
 no_job_queued (x ∷ js) none zero at = not_first x (some_eq x Queued at) (length js) js none where

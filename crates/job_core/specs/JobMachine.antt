@@ -23,7 +23,7 @@ abbrev pub passes : (JobState → Bool) → Option JobState → Bool
 passes p None = false
 passes p (Some s) = p s
 
--- how many jobs stand before the first queued one
+-- how many jobs are before the first queued one
 abbrev pub before_queued : List JobState → ℕ
 before_queued js = position_or_len is_queued js
 

@@ -48,12 +48,12 @@ total_add : (f g : ℕ → ℕ) (mine : List ℕ) → total (λ p. f p + g p) mi
 total_add f g [] = refl
 total_add f g (x ∷ l) = let b = total_add f g l in omega arith
 
--- a list of places, by how often one of them stands in it
+-- a list of places, by how often one of them is in it
 total_times : (x : ℕ) (mine : List ℕ) → total (λ p. cond (eqb x p) 1 0) mine ≡ times x mine
 total_times x [] = refl
 total_times x (y ∷ l) = let b = total_times x l in omega arith
 
--- what stands in the list counts
+-- what is in the list counts
 pub total_here : (f : ℕ → ℕ) (x : ℕ) (mine : List ℕ) → 1 ≤ times x mine → f x ≤ total f mine
 total_here f x [] h = absurd (omega arith)
 total_here f x (y ∷ l) h = dite (ℕ_discrete x y) (λ (is : x ≡ y). let e : f x ≡ f y = ap f is in omega arith)

@@ -31,7 +31,7 @@ abbrev pub Within : {E : Type 0} → List E → List ℕ → Type 0
 Within seen mine = (x : ℕ) → length seen ≤ x → times x mine ≡ 0
 
 module _ {C A : Type 0} where
-  -- a job's Take and Finish stand in one list of places
+  -- a job's Take and Finish are in one list of places
   abbrev pub Pairs : List (Event C A) → List ℕ → Type 0
   Pairs h mine = (p q j : ℕ) (o : Snapshot (Outcome A)) → slice_get h p ≡ Some (Take j)
       → slice_get h q ≡ Some (Finish j o) → times p mine ≡ times q mine
@@ -51,7 +51,7 @@ module _ {C A : Type 0} where
   runs_at jobs (Some (Finish j o)) = 0
   runs_at jobs (Some (Withdraw j)) = 0
 
-  -- how many jobs are held: they run, and their Take stands at one of the places
+  -- how many jobs are held: they run, and their Take is at one of the places
   abbrev pub held_in : List (Event C A) → List ℕ → ℕ
   held_in seen mine = total (λ p. runs_at (jobs_of seen) (slice_get seen p)) mine
 
@@ -70,7 +70,7 @@ module _ {C A : Type 0} where
   abbrev pub NoneRunning : List (Event C A) → Type 0
   NoneRunning h = (job : ℕ) → ¬ (slice_get (jobs_of h) job ≡ Some Running)
 
-  -- a running job whose Take stands at a place of the pass
+  -- a running job whose Take is at a place of the pass
   pub record Holds (seen : List (Event C A)) (mine : List ℕ) (job : ℕ) : Type 0 where
     pub place : ℕ
     pub takes_it : slice_get seen place ≡ Some (Take job)

@@ -1,4 +1,4 @@
--- Four numbers that are stored stand at their places, and each is its pair's
+-- Four numbers that are stored are at their places, and each is its pair's
 use Rattle.std.proofs.Common.{◌≡◌, ◌≢◌, ℕ, ◌+◌, ◌-◌, ◌*◌, ◌%◌, ◌<◌, ◌≤◌, List, length, set, get_or, sym, ◌∙◌, ap, arith, length-set, get_or-set_same, get_or-set_other, subst}
 use mathlib.Core.Logic.{dite}
 use native.Mathlib.Decide.{ℕ_discrete}

@@ -17,20 +17,20 @@ not_true true h = absurd (h refl)
 not_true false h = refl
 
 module _ (n : Nodes) (h : ℕ) where
-  -- a node that stands at a height has at most its level
+  -- a node that is at a height has at most its level
   pub level_low : (h k : ℕ) → stands n h k ≡ true → level n k ≤ h
   level_low zero k e = let same : level n k ≡ 0 = eqb-true (level n k) 0 e in omega arith
   level_low (suc h) k e = leb-true (level n k) (suc h) (and_parts _ _ e).0
 
-  -- at the next height it stands where it is used above
+  -- it is at the next height where it is used above
   above_low : (k : ℕ) → level n k ≤ suc h → stands n (suc h) k ≡ is_used_above n (suc h) k
   above_low k l = ap (λ b. b && is_used_above n (suc h) k) (le-leb (level n k) (suc h) l)
 
-  -- a node of the next level doesn't stand here
+  -- a node of the next level isn't here
   new_apart : (k : ℕ) → level n k ≡ suc h → stands n h k ≡ false
   new_apart k e = not_true (stands n h k) (λ s. omega (arith, e, level_low h k s))
 
-  -- what stands neither here nor is of the next level doesn't stand there
+  -- what is neither here nor is of the next level isn't there
   nor_above : (k : ℕ) → stands n h k ≡ false → has_level (levels n) (suc h) k ≡ false → stands n (suc h) k ≡ false
   nor_above k old new =
       not_true (stands n (suc h) k) (λ s.
@@ -43,7 +43,7 @@ module _ (n : Nodes) (h : ℕ) where
   pub merged_start : IsMerged n h 0 0 []
   merged_start = record { counted = refl; kept = refl }
 
-  -- past numbers that stand at neither height
+  -- past numbers that are at neither height
   pub merged_gap : (from to taken : ℕ) (above : List ℕ) → IsMerged n h from taken above → from ≤ to → ((k : ℕ) → from ≤ k → k < to → stands n h k ≡ false) → ((k : ℕ) → from ≤ k → k < to → has_level (levels n) (suc h) k ≡ false) → IsMerged n h to taken above
   merged_gap from to taken above is l old new = record {
     counted = is.counted ∙ ap length (sym (filter_gap (stands n h) from to l old));
@@ -79,7 +79,7 @@ module _ (n : Nodes) (h : ℕ) where
       let none = next_past_filter (stands n h) (length n.nodes) from taken within is.counted (subst (λ xs. length xs ≤ taken) same ended) in
       (none, is.counted ∙ ap length (sym (filter_gap (stands n h) from (length n.nodes) within none.none)) ∙ ap length (sym same))
 
-  -- the next of the row below stands there behind as many as were taken
+  -- the next of the row below is there after as many as were taken
   pub at_hand : (from taken : ℕ) (above below : List ℕ) → h < height_of n → from ≤ length n.nodes → IsMerged n h from taken above → below ≡ row n h → taken < length below → (stands n h (get_or below taken 0) ≡ true) × (taken ≡ length (filter (stands n h) (range_with_len 0 (get_or below taken 0))))
   at_hand from taken above below l within is e more =
       let next = next_below from taken above below l within is e more in

@@ -40,7 +40,7 @@ module _ (p : ℕ → Bool) where
   pub filter_gap : (a b : ℕ) → a ≤ b → ((k : ℕ) → a ≤ k → k < b → p k ≡ false) → filter p (range_with_len 0 b) ≡ filter p (range_with_len 0 a)
   filter_gap a b l none = gap a (b - a) b (omega arith) none
 
-  -- the first that passes, and those behind it
+  -- the first that passes, and those after it
   record Head (many m : ℕ) (xs : List ℕ) : Type 0 where
     first : ℕ
     rest : List ℕ
@@ -74,7 +74,7 @@ module _ (p : ℕ → Bool) where
   cut : (many m : ℕ) → m ≤ many → filter p (range_with_len 0 many) ≡ filter p (range_with_len 0 m) ++ filter p (range_with_len m (many - m))
   cut many m l = ap (filter p) (range_split 0 m (many - m) m many (omega arith) (omega arith)) ∙ filter-append p (range_with_len 0 m) (range_with_len m (many - m))
 
-  -- behind those below m that pass, the row has the next one
+  -- after those below m that pass, the row has the next one
   pub next_in_filter : (many m taken : ℕ) → m ≤ many → taken ≡ length (filter p (range_with_len 0 m)) → taken < length (filter p (range_with_len 0 many)) → IsNext p many m (get_or (filter p (range_with_len 0 many)) taken 0) × (get_or (filter p (range_with_len 0 many)) taken 0 < many)
   next_in_filter many m taken l counted more =
       let front = filter p (range_with_len 0 m) in

@@ -154,7 +154,7 @@ module _ (limits : Limits) (kept : AreKept limits) (n : Nodes) (is : IsNodeList 
       let many = height (circuit_of n) in
       unless_true (nat_le 1 many && nat_le many 256) _ (and_from _ _ (le-leb 1 many (omega (arith, tall))) (le-leb many 256 (omega (arith, tall, low))))
 
-  -- what a layer has to hold stands in the row of its height
+  -- what a layer has to hold is in the row of its height
   held : (i h : ℕ) → i + h ≡ height_of n → held_by (circuit_of n) i ≤ 1 + length (row n h)
   held i h e =
       let leaf_at = λ (k : ℕ). leaf_of (node_at n k) in

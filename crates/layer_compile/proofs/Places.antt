@@ -27,7 +27,7 @@ module _ (p : ℕ → Bool) where
       let cut : range_with_len 0 N ≡ range_with_len 0 k ++ k ∷ range_with_len (k + 1) (N - suc k) = range_split 0 k (suc (N - suc k)) k N (omega arith) (omega arith) in
       (after, ap (filter p) cut ∙ filter-append p (range_with_len 0 k) (k ∷ range_with_len (k + 1) (N - suc k)) ∙ ap (λ b. filter p (range_with_len 0 k) ++ cond b (k ∷ after) after) e)
 
-  -- a number that passes stands behind those below it that pass
+  -- a number that passes comes after those below it that pass
   pub filter_at : (N k d : ℕ) → k < N → p k ≡ true → get_or (filter p (range_with_len 0 N)) (length (filter p (range_with_len 0 k))) d ≡ k
   filter_at N k d l e =
       let cut = filter_split N k l e in
@@ -56,7 +56,7 @@ module _ (p : ℕ → Bool) where
   filter_range_no k e =
       filter_range_more k ∙ ap (λ b. filter p (range_with_len 0 k) ++ cond b (k ∷ []) []) e ∙ append-nil (filter p (range_with_len 0 k))
 
--- what is read in a list that is told by index
+-- what is read in a list that is known by index
 pub length-told : {X : Type 0} (f : ℕ → X) (N : ℕ) (xs : List X) → xs ≡ map f (range_with_len 0 N) → length xs ≡ N
 length-told f N xs e = ap length e ∙ length-map-range_with_len f 0 N
 

@@ -20,7 +20,7 @@ module _ (p : ℕ → Bool) where
         | inr fails ↦ omega (arith, few_below k, ap length (moved ∙ filter_range_no p k fails))
       ]
 
-  -- as many that pass stand before an element as its index says
+  -- as many that pass are before an element as its index says
   pub filter_rank : (many i d : ℕ) → i < length (those_below many) → length (those_below (get_or (those_below many) i d)) ≡ i
   filter_rank zero i d l = absurd (omega arith)
   filter_rank (suc many) i d l =

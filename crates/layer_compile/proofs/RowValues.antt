@@ -1,4 +1,4 @@
--- The values of a height are those of the nodes that stand there
+-- The values of a height are those of the nodes that are there
 use Rattle.std.proofs.Common.{◌≡◌, ℕ, zero, suc, ◌+◌, ◌-◌, ◌<◌, ◌≤◌, true, List, ◌∷◌, ◌++◌, length, map, replicate, get_or, refl, sym, ap, ap₂, ◌∙◌, inl, inr, arith}
 use Rattle.std.specs.List.{filter, range_with_len}
 use Rattle.std.proofs.lemmas.Bool.{cases_lt, cond-true, cond-false, eqb-true}
@@ -33,7 +33,7 @@ module _ (n : Nodes) (is : IsNodeList n) (inputs : List F) where
   abbrev pub row_values : ℕ → List F
   row_values h = padded_values (size_for (1 + length (row n h))) (map value (row n h))
 
-  -- a node that stands at a height has its value at its place
+  -- a node that is at a height has its value at its place
   pub read_place : (h k : ℕ) → h < height_of n → k < length n.nodes → stands n h k ≡ true → get_or (row_values h) (place n h k) zero_f ≡ value k
   read_place h k l m s =
       let count = length n.nodes in

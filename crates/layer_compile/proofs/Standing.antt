@@ -1,4 +1,4 @@
--- Which nodes stand below a node that stands at a height
+-- Which nodes are below a node that is at a height
 use Rattle.std.proofs.Common.{◌≡◌, ◌≢◌, ℕ, zero, suc, ◌+◌, ◌<◌, ◌≤◌, max, true, eqb, length, get_or, refl, ap, ◌∙◌, subst, inl, inr, arith, All}
 use Rattle.std.specs.List.{filter, range_with_len}
 use Rattle.std.proofs.lemmas.Bool.{cases_lt, cond-true, cond-false, lt-ltb, le-ltb, leb-true, le-leb, eq-eqb, and_parts, and_from, or_left, or_right}
@@ -15,14 +15,14 @@ use Rattle.layer_compile.proofs.LevelsOf.{level_at, output_level}
 use Rattle.layer_compile.proofs.Places.{filter_within}
 
 module _ (n : Nodes) where
-  -- what stands below the outputs
+  -- what is below the outputs
   pub row_below : (h : ℕ) → h < height_of n → row n h ≡ filter (stands n h) (range_with_len 0 (length n.nodes))
   row_below h l = cond-true _ _ _ (lt-ltb h (height_of n) l)
 
   pub row_top : row n (height_of n) ≡ n.outputs
   row_top = cond-false _ _ _ (le-ltb (height_of n) (height_of n) (omega arith))
 
-  -- what is used above a height stands there, from its level on
+  -- what is used above a height is there, from its level on
   pub stands_from : (h k : ℕ) → level n k ≤ h → is_used_above n h k ≡ true → stands n h k ≡ true
   stands_from zero k l u = eq-eqb (level n k) 0 (omega arith)
   stands_from (suc h) k l u = and_from _ _ (le-leb (level n k) (suc h) l) u
@@ -62,7 +62,7 @@ module _ (n : Nodes) where
       let used = used-by n is h k operand above.within named high (used-lower n 0 h 0 n.nodes k (omega arith) above.used) in
       (omega (arith, before, above.within), stands_from h operand low used)
 
-  -- a node at its own level is an operation on nodes that stand below
+  -- a node at its own level is an operation on nodes that are below
   pub operands_stand : IsNodeList n → (h k : ℕ) (gate : CircuitGate) → IsAbove n h k → level n k ≡ suc h → node_at n k ≡ Operation gate → ((gate.left < length n.nodes) × (stands n h gate.left ≡ true)) × ((gate.right < length n.nodes) × (stands n h gate.right ≡ true))
   operands_stand is h k gate above at e =
       let deep : level n k ≡ 1 + max (level n gate.left) (level n gate.right) = level_at n k is above.within ∙ ap (level_of (levels n)) e in

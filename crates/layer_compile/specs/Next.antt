@@ -11,7 +11,7 @@ pub record IsNext (passes : ℕ → Bool) (many from next : ℕ) : Type 0 where
 abbrev pub has_level : List ℕ → ℕ → ℕ → Bool
 has_level levels h k = slice_index levels k == h
 
--- the first node of each level, and behind each node the next of its level
+-- the first node of each level, and after each node the next of its level
 pub record AreChains (levels first next : List ℕ) : Type 0 where
   pub firsts : (h : ℕ) → h ≤ length levels
       → IsNext (has_level levels h) (length levels) 0 (slice_index first h)

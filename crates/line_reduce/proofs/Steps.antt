@@ -22,7 +22,7 @@ module _ {A : Type 0} (o : Ops A) (l : Laws A o) where
   pub row_none : (xs ys : List A) (to at at' : ℕ) (r e : A) → get_or xs to o.zero ≡ o.zero → row_value o xs to 1 e ≡ between o (row_value o ys at 0 e) (row_value o ys at' 0 e) r
   row_none xs ys to at at' r e h = ap (λ (x : A). o.add x (o.mul e o.zero)) h ∙ solve o l (e ∷ r ∷ []) (nil ⊕ var 0 ⊗ nil) (nil ⊕ var 1 ⊗ (nil ⊕ minus nil)) refl
 
-  -- one more coefficient, from behind
+  -- one more coefficient, from the end
   pub row_more : (new old : List A) (to at at' i j done : ℕ) (start step low high next first d e : A) → suc i ≡ j → to + i + 1 < length new →
       low ≡ get_or old (at + i) o.zero → high ≡ get_or old (at' + i) o.zero → d ≡ o.add high (o.neg low) →
       next ≡ o.add (get_or new (to + i + 1) o.zero) (o.mul step d) → first ≡ o.add low (o.mul start d) →

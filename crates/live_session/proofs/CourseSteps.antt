@@ -54,7 +54,7 @@ due_is p inputs i place bound u =
           ∙ sym (line_at layer values place bound (length bound) e)
     ]
 
--- where the words stand, of which the first u were gone through
+-- where the words are, of which the first u were gone through
 pub within_at : (p : Parts) (inputs : List F) (words : List K) (u i base : ℕ) (sent : List ℕ) (tables : LayerSum) → u ≤ length words → IsWithin p inputs (take u words) i base sent tables →
     (u ≡ base + length tables.bound) × (take (length tables.bound) (drop base words) ≡ tables.bound) × (tables.k ≡ exponent_at p (i + 1)) × (i < height p)
 within_at p inputs words u i base sent tables v is =
@@ -151,7 +151,7 @@ module _ (p : Parts) (inputs : List F) (words : List K) (u i base : ℕ) (sent :
     all_bound : length tables.bound ≡ k + k
     all_bound = omega (arith, bound-all, same_k)
 
-    -- the place behind the line's challenge
+    -- the place after the line's challenge
     abbrev pub below_place : Place K
     below_place = next_place k_ops Line k all
 
@@ -168,7 +168,7 @@ module _ (p : Parts) (inputs : List F) (words : List K) (u i base : ℕ) (sent :
     pub over_below : (place : Place K) → place ≡ below_place → IsOver k place
     over_below place h = subst (IsOver k) (sym h) below_over
 
-    -- the messages of the layers so far, and those behind them
+    -- the messages of the layers so far, and those after them
     abbrev mine : List (List K)
     mine = layer_messages layer values is.place tables.bound
 

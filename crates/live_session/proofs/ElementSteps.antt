@@ -1,4 +1,4 @@
--- The elements that bytes begin with, one after another, and behind more bytes
+-- The elements that bytes begin with, one after another, and after more bytes
 use Rattle.std.proofs.Common.{◌≡◌, ℕ, zero, suc, ◌+◌, ◌-◌, ◌*◌, ◌<◌, ◌≤◌, List, [], ◌∷◌, ◌++◌, length, take, drop, Bool, true, false, if◌then◌else◌, ◌⊎◌, inl, inr, Option, Some, None, MatchOption, IsSome, IfSome, ◌↔◌, refl, sym, ◌∙◌, ap, ap₂, subst, arith, length-drop, length-append}
 use Rattle.std.specs.Prelude.{◌&&◌, nat_le, nat_lt}
 use Rattle.std.proofs.lemmas.Bool.{lt-leb, leb-true, le-leb}
@@ -41,7 +41,7 @@ element_of-bytes x = λ j. record {
   im = (ap of (imaginary_half_is x) ∙ of_self x.im) j;
 }
 
--- what the reading of eight bytes tells
+-- what the reading of eight bytes says
 pub read : (result : Option K) (chunk bytes : List ℕ) → 8 ≤ length bytes → chunk ≡ take 8 bytes
     → IsSome result ↔ ((real_half chunk < prime) × (imaginary_half chunk < prime)) → IfSome result (λ x. bytes_of x ≡ chunk)
     → MatchOption result (has_element bytes ≡ false) (λ x. (has_element bytes ≡ true) × (x ≡ element_of (take 8 bytes)))
@@ -89,7 +89,7 @@ leading-fits (suc n) bytes = elim (either (has_element bytes)) [
   | inr e ↦ omega (arith, ap length (first_none n bytes e))
 ]
 
--- where they are fewer, none stands behind them
+-- where they are fewer, none comes after them
 pub leading-stops : (n : ℕ) (bytes : List ℕ) → length (leading n bytes) < n → has_element (drop (8 * length (leading n bytes)) bytes) ≡ false
 leading-stops zero bytes u = absurd (omega arith)
 leading-stops (suc n) bytes u = elim (either (has_element bytes)) [
@@ -103,12 +103,12 @@ leading-stops (suc n) bytes u = elim (either (has_element bytes)) [
       ap (λ (i : ℕ). has_element (drop i bytes)) (let f : 8 * length (leading (suc n) bytes) ≡ 0 = omega (arith, ap length (first_none n bytes e)) in f) ∙ e
 ]
 
--- bytes behind eight don't tell whether these hold an element
+-- bytes after eight don't decide whether these hold an element
 pub has_more : (a b : List ℕ) → 8 ≤ length a → has_element (a ++ b) ≡ has_element a
 has_more a b u =
     ap₂ ◌&&◌ (le-leb 8 (length (a ++ b)) (omega (arith, u, length-append a b)) ∙ sym (le-leb 8 (length a) u)) (ap in_range (take-append-le 8 a b u))
 
--- with more bytes behind, the same and those that follow
+-- with more bytes after them, the same and those that follow
 pub leading-more : (n : ℕ) (a b : List ℕ) → leading n (a ++ b) ≡ leading n a ++ leading (n - length (leading n a)) (drop (8 * length (leading n a)) (a ++ b))
 leading-more zero a b = refl
 leading-more (suc n) a b = elim (either (has_element a)) [

@@ -29,7 +29,7 @@ pub few_words : (c : SoundCircuit) → challenges_of c.parts < 4294967296
 few_words c =
     omega (arith, circuit_count c.parts, few_below c (height c.parts) 0 (omega arith), (height_bounds c.parts (none_from_test _ c.faultless)).1, (size_of c 0 (omega arith)).2)
 
--- what stops, by how many challenges are there, how many bytes, and the byte behind all challenges
+-- what stops, by how many challenges are there, how many bytes, and the byte after all challenges
 abbrev told : ℕ → ℕ → ℕ → ℕ → Option LiveFault
 told due words fed last =
     if words == due then (if nat_lt 1 last then Some (Range (8 * due)) else (if nat_le (8 * due + 2) fed then Some (Extra (8 * due + 1)) else None))
@@ -92,7 +92,7 @@ told_kept due words fed last u = elim (cases_lt words due) [
   ]
 ]
 
--- two bytes behind the challenges tell all
+-- two bytes after the challenges say all
 pub stop_kept : (due : ℕ) (bytes : List ℕ) → stop_of due (take (8 * due + 2) bytes) ≡ stop_of due bytes
 stop_kept due bytes =
     (λ j. told due (length (leading_take due (8 * due + 2) bytes (omega arith) j)) (length-take (8 * due + 2) bytes j) (get_or-take (8 * due + 2) bytes (8 * due) 0 (omega arith) j))
@@ -109,7 +109,7 @@ all_kept due bytes e =
       take_all (8 * due + 2) bytes (omega (arith, stop_none due bytes none)),
     )
 
--- a fault is the lowest with more bytes behind, too
+-- a fault is the lowest with more bytes after them, too
 module _ (due : ℕ) (before more : List ℕ) (fault : LiveFault) (stops : stop_of due before ≡ Some fault) where
   abbrev words : ℕ
   words = length (leading due before)

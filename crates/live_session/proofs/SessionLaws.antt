@@ -1,4 +1,4 @@
--- Pieces of bytes, one behind another
+-- Pieces of bytes, one after another
 use Rattle.std.proofs.Common.{◌≡◌, ℕ, zero, suc, ◌+◌, ◌*◌, List, [], ◌∷◌, ◌++◌, length, take, if◌then◌else◌, ◌==◌, refl, sym, ◌∙◌, ap, append-nil, append_assoc}
 use Rattle.std.specs.List.{flat_map}
 use Rattle.std.proofs.lemmas.List.Concat.{flat_map-cons}
@@ -9,7 +9,7 @@ use Rattle.live_session.specs.Layout.{messages_in, sizes_of, whole}
 use Rattle.live_session.specs.Verifying.{Session, element_count, fed_all, joined, kept, last_byte, lower, progress_in, verifier_sent}
 use Rattle.live_session.proofs.VerifierSteps.{kept_elements, progress_kept}
 
--- what is left out of a front is left out with more behind it
+-- what is left out of a prefix is left out with more after it
 take-kept : (n : ℕ) (xs ys : List ℕ) → take n (take n xs ++ ys) ≡ take n (xs ++ ys)
 take-kept zero xs ys = refl
 take-kept (suc n) [] ys = refl

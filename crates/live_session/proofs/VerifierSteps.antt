@@ -57,7 +57,7 @@ bytes-take n xs u =
 long_enough : (n m : ℕ) → 8 ≤ m → nat_le 8 (min m n) ≡ nat_le 8 n
 long_enough n m u = grind (arith, nat_tests)
 
--- no more bytes than those of n elements tell which the first n are
+-- no more bytes than those of n elements decide which the first n are
 pub leading_take : (n m : ℕ) (bytes : List ℕ) → 8 * n ≤ m → leading n (take m bytes) ≡ leading n bytes
 leading_take zero m bytes u = refl
 leading_take (suc n) m bytes u =
@@ -69,7 +69,7 @@ leading_take (suc n) m bytes u =
     λ i. if there i then element_of (front i) ∷ rest i else []
 
 module _ (s : Session) where
-  -- what is kept tells which elements there are
+  -- what is kept decides which elements there are
   pub kept_elements : elements_in (kept s) ≡ elements_in s
   kept_elements = leading_take (element_count s.parts) (8 * element_count s.parts + 1) s.bytes (omega arith)
 
@@ -104,7 +104,7 @@ not_done c s p e =
     not_equal : (a b : ℕ) → a < b → (a == b) ≡ false
     not_equal a b u = grind (arith, nat_tests)
 
--- what is told, by how many elements are there and how many bytes
+-- what is known, by how many elements are there and how many bytes
 abbrev told : ℕ → ℕ → Verdict → ℕ → Result Progress LiveFault
 told n good verdict fed =
     if good == n then (if fed == 8 * good then Ok (Ended verdict) else Err (Extra (8 * good)))
@@ -130,7 +130,7 @@ told_kept n good verdict fed u = elim (either (good == n)) [
       ∙ ap (λ (b : Bool). if b then (if fed == 8 * good then Ok (Ended verdict) else Err (Extra (8 * good))) else (if nat_le (8 * good + 8) fed then Err (Range (8 * good)) else Ok Waiting)) (sym e)
 ]
 
--- what is kept tells the same
+-- what is kept says the same
 pub progress_kept : (s : Session) → progress_in (kept s) ≡ progress_in s
 progress_kept s =
     let n = element_count s.parts in

@@ -10,7 +10,7 @@ use Rattle.live_session.specs.declared.course.Course.{Course}
 use Rattle.live_session.specs.declared.course.Stage.{Stage}
 use Rattle.live_session.specs.declared.course.Stage.TheVariants.{Before, Within, After}
 
--- the message due of a layer's tables: that of the next round, or behind the last one that of the line
+-- the message due of a layer's tables: that of the next round, or after the last one that of the line
 abbrev pub message_due : LayerSum → List K
 message_due s =
     if nat_lt (length s.bound) (s.k + s.k) then coefficients k_ops 3 (next_poly s)

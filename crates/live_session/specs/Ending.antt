@@ -8,12 +8,12 @@ use Rattle.live_session.specs.declared.ending.Ending.{Ending}
 use Rattle.proof_wire.specs.declared.form.ProofForm.TheVariants.{Line}
 use Rattle.proof_wire.specs.Lists.{HaveShape}
 
--- room for the check of a circuit, and for messages of its shape
+-- buffers for the check of a circuit, and for messages of its shape
 pub record IsReadyFor (p : Parts) (ending : Ending) : Type 0 where
   pub room : IsRoomFor p ending.room
   pub shape : HaveShape Line (lower p) ending.layers.items
 
--- this verdict is reached, and its byte stands behind the first n of the reply
+-- this verdict is reached, and its byte comes after the first n of the reply
 pub record EndsWith (verdict : Verdict) (n : ℕ) (old new : List ℕ) (result : Option Verdict)
     : Type 0 where
   pub reached : result ≡ Some verdict

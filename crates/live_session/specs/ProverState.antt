@@ -16,7 +16,7 @@ use Rattle.live_session.specs.declared.course.Stage.TheVariants.{Before, Within,
 abbrev pub values_below : Parts → List F → ℕ → List K
 values_below p inputs i = values_over k_ops (layers_below p (i + 1)) (input_table p inputs)
 
--- a layer's tables, where its claim stands at this place
+-- a layer's tables, where its claim is at this place
 abbrev pub tables_at : Parts → List F → ℕ → Place K → List K → LayerSum
 tables_at p inputs i place bound = record {
   k = exponent_at p (i + 1);

@@ -10,7 +10,7 @@ use Rattle.live_session.specs.Intake.{Fed}
 use Rattle.live_session.specs.Verifying.{Session, element_count, is_done, last_byte, verdict_in}
 use Rattle.live_session.specs.declared.ending.Ending.{Ending}
 
--- the room of the bytes that are fed, of all elements and one byte more
+-- the buffer of the bytes that are fed, of all elements and one byte more
 abbrev pub room_of : Parts → List ℕ → Fed
 room_of p bytes = record {
   most = element_count p;

@@ -68,18 +68,18 @@ last_byte (Input had want) = 0
 abbrev pub messages_whole : Session → ℕ
 messages_whole s = whole (sizes_of (lower s.parts)) (length (elements_in s))
 
--- what the verifier has sent: the words for the output point, one behind each message that was whole, and the last byte
+-- what the verifier has sent: the words for the output point, one after each message that was whole, and the last byte
 -- once all were
 abbrev pub verifier_sent : Session → List ℕ
 verifier_sent s =
     flat_map bytes_of (take (exponent_at s.parts 0 + messages_whole s) s.words)
     ++ (if is_done s then last_byte (verdict_in s) ∷ [] else [])
 
--- the session with more bytes behind those before
+-- the session with more bytes after those before
 abbrev pub joined : Session → List ℕ → Session
 joined s more = record s { bytes = s.bytes ++ more }
 
--- the same, of which no more is kept than tells of a byte too many
+-- the same, of which no more is kept than shows a byte too many
 abbrev pub kept : Session → Session
 kept s = record s { bytes = take (8 * element_count s.parts + 1) s.bytes }
 

@@ -27,7 +27,7 @@ module _ {A : Type 0} (o : Ops A) (l : Laws A o) where
       let d : (g + 2 ^ suc (length us)) / 2 ≡ g / 2 + 2 ^ length us = omega (arith, p, div-add-mod g 2, div-add-mod (g + 2 ^ suc (length us)) 2) in
       ap₂ o.mul (ap (λ (b : ℕ). if b == 1 then u else o.add o.one (o.neg u)) m) (ap (eq_poly o us) d ∙ eq-period us (g / 2))
 
-  -- the lower half of the values of Eq with one more coordinate behind
+  -- the lower half of the values of Eq with one more coordinate at the end
   pub eq-low : (us : List A) (u : A) (g : ℕ) → g < 2 ^ length us → eq_poly o (us ++ u ∷ []) g ≡ o.mul (eq_poly o us g) (o.add o.one (o.neg u))
   eq-low us u g b =
       let i : g ≡ 0 * 2 ^ length us + g = omega arith in

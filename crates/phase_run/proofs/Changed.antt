@@ -36,7 +36,7 @@ module _ {T : Type 0} (f : ℕ → T → T) (parts : List T) where
     each = subst (All Right) (sym e) (right_both a b v.each w.each);
   }
 
-  -- a key that is counted stands at some place
+  -- a key that is counted is at some place
   found : (l : List (ℕ × T)) (k : ℕ) → 1 ≤ times k (map (λ (p : ℕ × T). p.0) l) → (i : ℕ) × (i < length l) × ((d : ℕ × T) → (get_or l i d).0 ≡ k)
   found [] k h = absurd (omega arith)
   found (p ∷ l) k h = dite (ℕ_discrete k p.0)

@@ -1,4 +1,4 @@
--- How many coefficients there are behind one more layer.
+-- How many coefficients there are after one more layer.
 use Rattle.std.proofs.Common.{◌≡◌, ℕ, ◌+◌, ◌*◌, ◌<◌, List, [], ◌∷◌, length, get_or, take, sym, ◌∙◌, ap, ◌++◌, arith}
 use Rattle.std.proofs.lemmas.List.{take_more}
 use Rattle.std.proofs.lemmas.List.Sums.{sum_by-append}

@@ -30,7 +30,7 @@ front_more es x bytes r e f = record {
   good = λ i u. elim (last_or_before i (length es) (subst (λ n. i < n) (length-append es (x ∷ [])) u)) [ inl h ↦ f.good i h | inr h ↦ subst (InRange bytes) h r ];
 }
 
--- the coefficients stand at the same bytes in both versions
+-- the coefficients are at the same bytes in both versions
 same_place : (ys : List ℕ) (i : ℕ) → element_at (magic Line ++ ys) i ≡ element_at (magic_two ++ ys) i
 same_place ys i = ap (take 8) (drop-append-add (magic Line) ys (8 * i) ∙ sym (drop-append-add magic_two ys (8 * i)))
 

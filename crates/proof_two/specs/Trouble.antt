@@ -46,7 +46,7 @@ pub record GoesOnTwo (ks bytes : List ℕ) (extra : ℕ) : Type 0 where
   pub opens : OpensTwo bytes
   pub good : (i : ℕ) → i < element_count (drop 1 ks) → InRange bytes i
 
--- the bytes begin with these coefficients behind the first four bytes
+-- the bytes begin with these coefficients after the first four bytes
 pub record IsFrontTwo (elements : List K) (bytes : List ℕ) : Type 0 where
   pub spelled : take (4 + 8 * length elements) bytes ≡ magic_two ++ flat_map bytes_of elements
   pub good : (i : ℕ) → i < length elements → InRange bytes i

@@ -56,7 +56,7 @@ pub record GoesOn (form : ProofForm) (ks bytes : List ℕ) (extra : ℕ) : Type 
   pub opens : Opens form bytes
   pub good : (i : ℕ) → i < coefficient_count form (drop 1 ks) → InRange bytes i
 
--- the bytes begin with these coefficients behind the first four bytes
+-- the bytes begin with these coefficients after the first four bytes
 pub record IsFront (form : ProofForm) (elements : List K) (bytes : List ℕ) : Type 0 where
   pub spelled : take (4 + 8 * length elements) bytes ≡ magic form ++ flat_map bytes_of elements
   pub good : (i : ℕ) → i < length elements → InRange bytes i

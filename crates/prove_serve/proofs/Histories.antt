@@ -60,7 +60,7 @@ stands_once (y ∷ xs) (suc i) x at = let a = stands_once xs i x at in let b = m
 one_more : (x y : ℕ) (xs : List ℕ) → x ≡ y → times x (y ∷ xs) ≡ 1 + times x xs
 one_more x y xs is = grind (arith, nat_tests)
 
--- a number that stands at two places stands there twice
+-- a number that is at two places is there twice
 one_place : (xs : List ℕ) (i k x : ℕ) → times x xs ≤ 1 → slice_get xs i ≡ Some x → slice_get xs k ≡ Some x → i ≡ k
 one_place [] i k x few at at' = absurd (no_some x at)
 one_place (y ∷ xs) zero zero x few at at' = refl
@@ -107,7 +107,7 @@ module _ {C A : Type 0} (fits : A → C → Type 0) where
   abbrev FitsJob : Reply A → Job C → Type 0
   FitsJob = λ (reply : Reply A) (job : Job C). fits reply.answer job.case
 
-  -- how a job ended, by what is told of it
+  -- how a job ended, by what is reported of it
   suits_of : (h : List (Event (Job C) (Reply A))) (n : ℕ) (s : Seen (Reply A)) (job : Job C) → IsSeen FitsJob h n s → Has h (Submits n job) → AnswerFits fits (told s) job.case
   suits_of h n seen.Queued job is has = tt
   suits_of h n seen.Running job is has = tt
@@ -143,7 +143,7 @@ module _ {C A : Type 0} (fits : A → C → Type 0) where
     abbrev places : List ℕ
     places = map place_of ended
 
-    -- the job of a number stands in the script at its place
+    -- the job of a number is in the script at its place
     of_number : (n : ℕ) (e : Job C × Seen (Reply A)) → slice_get ended n ≡ Some e → IsOf script e.0
     of_number n e at = let f = (s.ends.each n e at).0 in subst (IsOf script) f.1.2 (s.right f.2.0 (Submit n f.1.0) (f.2.1 ∙ ap (λ (y : Event (Job C) (Reply A)). Some y) f.1.1))
 

@@ -66,7 +66,7 @@ module _ {C : Type 0} where
     no_job : (k : ℕ) (job : Job C) → slice_get [] k ≡ Some job → ⊥
     no_job k job at = let low = get_within [] job k at in omega arith
 
-  -- one job more, behind those of its thread
+  -- one job more, after those of its thread
   module _ (clients t : ℕ) (front : List (Job C)) (duties : List (Duty C)) (old new : Duty C) (job : Job C) (f : AreDealt clients front duties) (thread : thread_of clients job.client ≡ t) (here : slice_get duties t ≡ Some old) (more : new.jobs.items ≡ old.jobs.items ++ job ∷ []) where
     stands : slice_get (set duties t new) t ≡ Some new
     stands = get_set_same duties t new (get_within duties old t here)
@@ -90,7 +90,7 @@ module _ {C : Type 0} where
     kept_order : (g : ℕ) (x y : Job C) → AreInOrder duties g x y → AreInOrder (set duties t new) g x y
     kept_order g x y k = let n = now g k.0 k.4 in (n.0, k.1, k.2, k.3, n.1, n.2 k.1 x k.5, n.2 k.2 y k.6)
 
-    -- a job of before is in front of the new one, where both are of one client
+    -- a job of before is before the new one, where both are of one client
     behind : (a : Job C) (g : ℕ) → g ≡ t → IsIn duties g a → AreInOrder (set duties t new) g a job
     behind a g is k = let same : k.0 ≡ old = some_eq k.0 old (sym k.2 ∙ ap (slice_get duties) is ∙ here) in
         let at : slice_get old.jobs.items k.1 ≡ Some a = ap (λ (z : Duty C). slice_get z.jobs.items k.1) (sym same) ∙ k.3 in

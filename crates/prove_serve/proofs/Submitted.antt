@@ -1,4 +1,4 @@
--- What a thread submits stands in the history, since the table has room for all jobs of the script.
+-- What a thread submits is in the history, since the table has capacity for all jobs of the script.
 use Rattle.std.proofs.Common.{◌≡◌, ◌≢◌, inl, inr, ⊎_elim, ℕ, ◌+◌, ◌<◌, ◌≤◌, true, ltb, List, [], ◌∷◌, ◌++◌, length, Some, sym, refl, ap, ◌∙◌, subst, arith, length-append, append-nil, length-set}
 use mathlib.Core.Logic.{dite}
 use mathlib.Core.List.{IsPrefix}
@@ -213,7 +213,7 @@ module _ {C A : Type 0} where
           (λ (x : FellShort a (jobs_in duties)). let more = jobs_longer a.seen (longer a.seen b.seen) both.0 in let p = x.0 in let q = x.1 in inr (omega arith, omega (arith, sum, many))) d.all;
     }
 
-  -- Where all places are owned and the table has room for the script, each of its jobs was submitted.
+  -- Where all places are owned and the table has capacity for the script, each of its jobs was submitted.
   pub all_done : (pass : PassView (Event (Job C) A)) (clients : ℕ) (script : List (Job C)) (duties : List (Duty C)) → ((x : ℕ) → times x pass.mine ≡ once_below x (length pass.seen)) → length script ≤ pass.capacity → AreDealt clients script duties → HasDone pass duties
       → (length (jobs_of pass.seen) ≤ length script) × AreAllSubmitted pass.seen duties
   all_done pass clients script duties own room dealt d = (
@@ -233,7 +233,7 @@ module _ {C A : Type 0} where
   submitted_in_order seen clients script duties dealt all k l a b lt at at' same = let f = dealt.in_order k l a b lt at at' same in (all (thread_of clients a.client) f.0 f.4).in_order f.1 f.2 a b f.3 f.5 f.6
 
 module _ {C A : Type 0} (fits : A → Job C → Type 0) where
-  -- the whole pass tells of all jobs
+  -- the whole pass knows of all jobs
   pub served : (script : List (Job C)) (pass : PassView (Event (Job C) A)) (history : List (Event (Job C) A)) (jobs : List (Job C × Seen A)) (clients : ℕ) (duties : List (Duty C)) → history ≡ pass.seen → (capacity : ℕ) → are_steps capacity [] (entries_of pass.seen) ≡ true → AreEnds fits pass.seen jobs → ActsFor script pass
       → ((x : ℕ) → times x pass.mine ≡ once_below x (length pass.seen)) → length script ≤ pass.capacity → AreDealt clients script duties → HasDone pass duties → NoneQueued pass.seen → NoneRunning pass.seen → IsServed fits script history jobs
   served script pass history jobs clients duties is capacity steps ends acts own room dealt done drained ended = let all = all_done pass clients script duties own room dealt done in subst (λ (h : List (Event (Job C) A)). IsServed fits script h jobs) (sym is) record {

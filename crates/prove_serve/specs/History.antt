@@ -17,7 +17,7 @@ module _ {C A : Type 0} (fits : A → C → Type 0) where
   AnswerFits Withdrawn c = ⊤
 
   -- The outcome of the job of this number: withdrawn exactly where the history withdraws it, which
-  -- it does to marked jobs alone, and else an answer that fits the case, or want of memory.
+  -- it does to marked jobs alone, and else an answer that fits the case, or out of memory.
   pub record EndsSo (history : List Entry) (n : ℕ) (job : ℕ × C × Bool) (o : HistoryOutcome A)
       : Type 0 where
     pub withdrawn : (o ≡ Withdrawn) ↔ ((p : ℕ) × (slice_get history p ≡ Some (entry.Withdraw n)))

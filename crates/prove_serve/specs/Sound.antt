@@ -24,7 +24,7 @@ module _ {C A : Type 0} where
   AreMarked seen receipts = (k : ℕ) (receipt : Receipt) → slice_get receipts k ≡ Some receipt
       → IsMarked seen receipt.job
 
-  -- a job that is submitted stands in the script, and one that is withdrawn was marked
+  -- a job that is submitted is in the script, and one that is withdrawn was marked
   abbrev pub IsRight : List (Job C) → List (Event (Job C) A) → Event (Job C) A → Type 0
   IsRight script seen (Submit n kept) = IsOf script kept.value
   IsRight script seen (Take n) = ⊤
@@ -70,7 +70,7 @@ module _ {C A : Type 0} where
   abbrev pub FellShort : PassView (Event (Job C) A) → ℕ → Type 0
   FellShort pass many = (pass.capacity ≤ length (jobs_of pass.seen)) × (submitted_by pass < many)
 
-  -- the pass submitted these jobs and no others, as far as the table had room
+  -- the pass submitted these jobs and no others, as far as the table had capacity
   pub record HasSubmitted (pass : PassView (Event (Job C) A)) (jobs : List (Job C)) : Type 0 where
     pub few : submitted_by pass ≤ length jobs
     pub all : AreSubmitted pass.seen jobs ⊎ FellShort pass (length jobs)
@@ -84,7 +84,7 @@ module _ {C A : Type 0} where
     pub few : submitted_by pass ≤ jobs_in duties
     pub all : AreAllSubmitted pass.seen duties ⊎ FellShort pass (jobs_in duties)
 
-  -- the job was submitted, behind all that the pass knew, or the table was full
+  -- the job was submitted, after all that the pass knew, or the table was full
   pub record Offers (job : Job C) (old new : PassView (Event (Job C) A)) : Type 0 where
     pub begins : IsPrefix old.seen new.seen
     pub capacity : new.capacity ≡ old.capacity

@@ -29,7 +29,7 @@ spread-many k w rooms more = on w.merged refl where
 pub whole-parts : (k : ℕ) → 2 ^ cuts k * 2 ^ (k - cuts k) ≡ 2 ^ k
 whole-parts k = let e : cuts k + (k - cuts k) ≡ k = omega arith in sym (pow-add 2 (cuts k) (k - cuts k)) ∙ ap (λ (x : ℕ). 2 ^ x) e
 
--- folded parts have the rooms that they had
+-- folded parts have the capacities that they had
 pub rooms-folded : (k : ℕ) (old new : Working) (r : K) → HasRooms k old → AreFolded old r new → HasRooms k new
 rooms-folded k old new r rooms is = let o = is.others in on old.merged refl where
   room-kept : (n : ℕ) (ps : List PartTables) → All (HasRoom n) ps → All (HasRoom n) (map (folded_part r) ps)

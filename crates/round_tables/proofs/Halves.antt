@@ -1,4 +1,4 @@
--- Parts of a table that are folded by themselves, and put behind one another
+-- Parts of a table that are folded by themselves, and put one after another
 use Rattle.std.proofs.Common.{◌≡◌, ℕ, zero, suc, ◌+◌, ◌-◌, ◌*◌, ◌/◌, ◌<◌, ◌≤◌, List, [], ◌∷◌, ◌++◌, length, map, take, drop, set, get_or, All, Bool, if◌then◌else◌, refl, sym, ◌∙◌, ap, ap₂, arith, subst, length-append, lt-ltb, append-nil, append_assoc, add-one}
 use Rattle.std.proofs.lemmas.Bool.{le-ltb}
 use Rattle.std.proofs.lemmas.List.{ext_get_or, length-take-le, length-drop, get_or_append_left, get_or-append_right, take_all, take_more_set}
@@ -10,7 +10,7 @@ use Rattle.field_ext.specs.Multilinear.{folded}
 use Rattle.round_tables.specs.Tables.{IsFolded}
 use Rattle.round_tables.specs.PartTables.{PartTables, HasSize, halved, folded_part, part_pairs, flat, flat_table, flat_scales, flat_shifts}
 
--- the front of a list reads as the list does
+-- a prefix of a list reads as the list does
 front-read : {A : Type 0} (n : ℕ) (l : List A) (i : ℕ) (d : A) → i < n → get_or (take n l) i d ≡ get_or l i d
 front-read zero l i d u = absurd (omega arith)
 front-read (suc n) [] i d u = refl
@@ -39,7 +39,7 @@ module _ {A : Type 0} (o : Ops A) where
   length-half (a ∷ []) r = omega arith
   length-half (a ∷ b ∷ t) r = omega (arith, length-half t r)
 
-  -- pairs stay pairs where tables of even length stand behind one another
+  -- pairs stay pairs where tables of even length come one after another
   folded-append : (n : ℕ) (s t : List A) (r : A) → length s ≡ 2 * n → folded o (s ++ t) r ≡ folded o s r ++ folded o t r
   folded-append zero [] t r e = refl
   folded-append zero (a ∷ s) t r e = absurd (omega arith)
@@ -51,7 +51,7 @@ module _ {A : Type 0} (o : Ops A) where
 pub halved-one : (r : K) (t : List K) → length t / 2 ≡ 0 → t ≡ halved r t
 halved-one r t e = ap (λ (b : Bool). if b then take (length t / 2) (folded k_ops t r) else t) (sym (le-ltb 1 (length t) (omega arith)))
 
--- a front half that is folded is the halved table
+-- a first half that is folded is the halved table
 pub halved-front : (r : K) (t new : List K) → 0 < length t / 2 → length new ≡ length t → IsFolded k_ops (length t / 2) t r new → take (length t / 2) new ≡ halved r t
 halved-front r t new some same is =
     same-front zero_k (length t / 2) new (folded k_ops t r) (omega (arith, same)) (length-half k_ops t r) is
@@ -66,7 +66,7 @@ halved-even n r t e some =
 pub length-halved : (n : ℕ) (r : K) (t : List K) → length t ≡ 2 * n → 0 < n → length (halved r t) ≡ n
 length-halved n r t e some = ap length (halved-even n r t e some) ∙ length-even k_ops n t r e
 
--- one part more behind the first ones
+-- one part more after the first ones
 flat-next : (f : PartTables → List K) (ps : List PartTables) (i : ℕ) (d : PartTables) → i < length ps → flat f (take (suc i) ps) ≡ flat f (take i ps) ++ f (get_or ps i d)
 flat-next f [] i d u = absurd (omega arith)
 flat-next f (p ∷ ps) zero d u = append-nil (f p)

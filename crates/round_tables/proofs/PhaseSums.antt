@@ -47,7 +47,7 @@ module _ {A : Type 0} (o : Ops A) (l : Laws A o) where
       solve o l (f s gate ∷ f' s gate ∷ sum_gates o (s + 1) gates f ∷ sum_gates o (s + 1) gates f' ∷ a ∷ []) (var 0 ⊕ var 2 ⊕ var 4 ⊗ (var 1 ⊕ var 3)) (var 0 ⊕ var 4 ⊗ var 1 ⊕ (var 2 ⊕ var 4 ⊗ var 3)) refl
       ∙ ap₂ o.add (e s gate) (sum_gates-weighted a (s + 1) gates f f' h e)
 
-  -- the same where the claim stands
+  -- the same at the place of the claim
   placed-parts : (k : ℕ) (gates : List CircuitGate) (t : List A) (z : Place A) (b c : List A) → length b ≡ k →
       weighted_summand_at o o (λ x. x) k gates t z (b ++ c)
       ≡ sum_gates o 0 gates (λ g gate. o.mul (o.mul (o.mul (position_weight o z g) (eq_poly o b gate.left)) (eq_poly o c gate.right)) (gate_output o gate (extension_at o o (λ x. x) t b) (extension_at o o (λ x. x) t c)))

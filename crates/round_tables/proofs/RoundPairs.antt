@@ -25,7 +25,7 @@ module _ {A : Type 0} (o : Ops A) (l : Laws A o) where
   ext-pair : (n h : ℕ) (t : List A) (e : A) → h < 2 ^ n → extension_at o o (λ x. x) t (e ∷ bits_of o n h) ≡ get_or (folded o t e) h o.zero
   ext-pair n h t e u = sym (fold_law o l t (bits_of o n h) e) ∙ ext-bits o l n h (folded o t e) u
 
-  -- at a Boolean point behind e the function is one pair's value
+  -- at a Boolean point after e the function is one pair's value
   pub stand-pair : (n : ℕ) (f : List A → A) (t scales shifts : List A) (e : A) (h : ℕ) → StandFor o (suc n) f t scales shifts → h < 2 ^ n →
       f (e ∷ bits_of o n h) ≡ pair_at o t scales shifts e h
   stand-pair n f t scales shifts e h stand u =

@@ -12,7 +12,7 @@ use Rattle.gkr_layers.specs.Places.{Place, map_place, weighted_summand_at}
 use Rattle.gkr_layers.specs.Sumcheck.{round_polynomial}
 use Rattle.round_tables.specs.PartTables.{PartTables, cuts_left}
 
--- a layer of gates over the 2 ^ k values of the layer below, where its claim stands, the challenges that are bound, and the parts of the tables that are lent, if any
+-- a layer of gates over the 2 ^ k values of the layer below, the place of its claim, the challenges that are bound, and the parts of the tables that are lent, if any
 pub record LayerSum : Type 0 where
   pub k : ℕ
   pub gates : List CircuitGate

@@ -1,9 +1,9 @@
--- A part of a phase's tables: the same range of all three, in room of its own
+-- A part of a phase's tables: the same range of all three, in buffers of its own
 use Rattle.std.specs.Prelude.{◌≡◌, ℕ, ◌+◌, ◌-◌, ◌/◌, ◌^◌, ◌≤◌, List, [], ◌∷◌, ◌++◌, length, take, if◌then◌else◌, nat_lt, All}
 use Rattle.field_ext.specs.Field.{K, k_ops}
 use Rattle.field_ext.specs.Multilinear.{folded}
 
--- the values of its range in each table, and for how many it has room
+-- the values of its range in each table, and for how many it has capacity
 pub record PartTables : Type 0 where
   pub table : List K
   pub scales : List K
@@ -36,7 +36,7 @@ pub record HasSize (n : ℕ) (p : PartTables) : Type 0 where
 abbrev pub HasRoom : ℕ → PartTables → Type 0
 HasRoom n p = n ≤ p.room
 
--- one table of all parts, one behind another
+-- one table of all parts, one after another
 abbrev pub flat : (PartTables → List K) → List PartTables → List K
 flat f [] = []
 flat f (p ∷ ps) = f p ++ flat f ps

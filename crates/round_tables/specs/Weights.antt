@@ -1,4 +1,4 @@
--- The weights of a layer's positions where its claim stands
+-- The weights of a layer's positions at the place of its claim
 use Rattle.std.specs.Prelude.{◌≡◌, ℕ, ◌<◌, List, slice_index_or}
 use Rattle.field_ext.specs.Ring.{Ops}
 use Rattle.field_ext.specs.Multilinear.{eq_poly}

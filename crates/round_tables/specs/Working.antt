@@ -13,7 +13,7 @@ use Rattle.round_tables.specs.PartTables.{PartTables, HasRoom, cuts, flat_table,
 use Rattle.round_tables.specs.LayerSum.{left_in_phase}
 use Rattle.round_tables.specs.Phase.{IsLayer, IsPhase}
 
--- where the claim on the layer stands
+-- where the claim on the layer is
 abbrev pub place_of : LayerGates → Place K
 place_of layer = if layer.both then AtBoth layer.first.items layer.second.items layer.weight
     else At layer.first.items
@@ -34,7 +34,7 @@ bound_of w = take w.count w.challenges.items
 abbrev pub parts_of : Working → List PartTables
 parts_of w = if w.merged then w.one.items else w.many.items
 
--- there is room for two phases of k challenges
+-- there are buffers for two phases of k challenges
 pub record HasRooms (k : ℕ) (w : Working) : Type 0 where
   pub challenges : vec_len w.challenges ≡ k + k
   pub left_equality : vec_len w.left_equality ≡ 2 ^ k

@@ -188,7 +188,7 @@ table_begun table run z b c m size zeros u v e within =
     let r : run.right + t * run.rstep < 2 ^ length c = omega (arith, within.right t w, ap (λ (n : ℕ). 2 ^ n) e) in
     ap₂ mul_k (eq-padded k_ops k_laws m z (run.first + t) u p) (ap₂ mul_k (eq-padded k_ops k_laws m b (run.left + t * run.lstep) v q) (eq-padded k_ops k_laws m c (run.right + t * run.rstep) long r)))
 
--- behind the last
+-- after the last
 pub table_ended : (table : List K) (n last : ℕ) (z b c : List K) (first left lstep right rstep : ℕ) → n ≡ 0 → last < 2 ^ n →
     weighed table (left_over n z b c first left lstep right rstep last) ≡ sum_below k_ops 18 (λ i. get_or table (18 + i) zero_k)
 unfolding weighed

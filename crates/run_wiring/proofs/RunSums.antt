@@ -24,7 +24,7 @@ sum_runs o [] f = o.zero
 sum_runs o (run ∷ runs) f = o.add (f run) (sum_runs o runs f)
 
 module _ {A : Type 0} (o : Ops A) (l : Laws A o) where
-  -- sums over gates, one list behind another
+  -- sums over gates, one list after another
   sum_gates-append : (g : ℕ) (xs ys : List CircuitGate) (f : ℕ → CircuitGate → A) → sum_gates o g (xs ++ ys) f ≡ o.add (sum_gates o g xs f) (sum_gates o (g + length xs) ys f)
   sum_gates-append g [] ys f = let e : g ≡ g + 0 = omega arith in ap (λ (k : ℕ). sum_gates o k ys f) e ∙ sym (zero_add o l (sum_gates o (g + 0) ys f))
   sum_gates-append g (x ∷ xs) ys f =
@@ -110,7 +110,7 @@ module _ {A : Type 0} (o : Ops A) (l : Laws A o) where
   pub runs_all : (runs : List Run) (f : Run → A) (i : ℕ) (sum all : A) → length runs ≤ i → o.add sum (sum_runs o (drop i runs) f) ≡ all → sum ≡ all
   runs_all runs f i sum all u h = sym (l.add_zero sum) ∙ ap (λ (rs : List Run). o.add sum (sum_runs o rs f)) (sym (drop_of_length-le runs u)) ∙ h
 
--- a property of all of two lists, one behind the other, is one of each
+-- a property of all of two lists, one after the other, is one of each
 all_front : {X : Type 0} (P : X → Type 0) (xs ys : List X) → All P (xs ++ ys) → All P xs
 all_front P [] ys h = All-nil P
 all_front P (x ∷ xs) ys h = All-cons P x xs (All-head P x (xs ++ ys) h) (all_front P xs ys (All-tail P x (xs ++ ys) h))

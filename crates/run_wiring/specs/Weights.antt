@@ -11,14 +11,14 @@ weight_at column i =
     mul_k (factor k_ops column.z (i / 4))
     (mul_k (factor k_ops column.b (i / 2)) (factor k_ops column.c i))
 
--- where the weight of these carries and this digit stands
+-- where the weight of these carries and this digit is
 abbrev pub weight_place : Column → Carries → ℕ → ℕ
 weight_place column from digit =
     (column.position + from.position + digit) % 2 * 4
     + (column.left + from.left + digit * column.lstep) % 2 * 2
     + (column.right + from.right + digit * column.rstep) % 2
 
--- each weight of the column stands at its place
+-- each weight of the column is at its place
 abbrev pub AreWeights : Column → List K → Type 0
 AreWeights column weights =
     (from : Carries) (digit : ℕ) →

@@ -1,4 +1,4 @@
--- The outcomes of a script's jobs, where none is want of memory, are the replies to the script.
+-- The outcomes of a script's jobs, where none is out of memory, are the replies to the script.
 use Rattle.std.proofs.Common.{◌≡◌, ◌≢◌, ℕ, List, [], ◌∷◌, ◌++◌, length, length-append, map, Some, sym, ap, ◌∙◌, subst, arith}
 use Rattle.std.specs.List.{slice_get}
 use Rattle.std.proofs.lemmas.List.{length-map}

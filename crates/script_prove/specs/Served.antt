@@ -37,7 +37,7 @@ answer_of served = Answer (record { job = served })
 abbrev pub marked_job : MarkedJob → ℕ × ScriptJob × Bool
 marked_job job = (job.client, job_of job, job.withdraw)
 
--- what is told of an outcome: the reply to the job, or that its client withdrew it
+-- what is reported of an outcome: the reply to the job, or that its client withdrew it
 abbrev pub IsToldTo : ℕ → HistoryOutcome JobReply → Served → Type 0
 IsToldTo client (ends.Answer reply) served = served ≡ reply.job
 IsToldTo client ends.Memory served = ⊥
@@ -58,7 +58,7 @@ line_of places (entries.Finish n) = lines.Finish n
 line_of places (entries.Withdraw n) = lines.Withdraw n
 
 -- These are the replies to the jobs of a script, and the lines of a legal history of a table with
--- these jobs: a job is told as withdrawn exactly where the history withdraws it, and else by its
+-- these jobs: a job is reported as withdrawn exactly where the history withdraws it, and else by its
 -- reply.
 pub record IsServedHistory (script : List MarkedJob) (served : List Served)
     (printed : List HistoryLine) : Type 0 where

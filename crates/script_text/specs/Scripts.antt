@@ -28,7 +28,7 @@ abbrev pub IsJob : ScriptJob → List ℕ → Type 0
 IsJob job text = (0 < job.client) × (job.client < 65) × (case : List ℕ) × Spells Plain case job.case
     × (text ≡ concat (codes "client " ∷ number job.client 10 ∷ case ∷ []))
 
--- the line behind a job that its client withdraws
+-- the line after a job that its client withdraws
 abbrev pub mark : List ℕ
 mark = codes "withdraw" ++ 10 ∷ []
 
@@ -62,7 +62,7 @@ pub record SpellsScript (bytes : List ℕ) (jobs : List ScriptJob) : Type 0 wher
   pub count : length jobs ≤ 256
   pub text : AreJobs IsJob jobs bytes
 
--- The same, where the line `withdraw` may stand behind each job.
+-- The same, where the line `withdraw` may come after each job.
 pub record SpellsHistoryScript (bytes : List ℕ) (jobs : List MarkedJob) : Type 0 where
   pub count : length jobs ≤ 256
   pub text : AreJobs IsMarkedJob jobs bytes
@@ -74,7 +74,7 @@ job_at bytes = do
   case ← case_at Plain client.1
   Ok (record { client = client.0; case = case.0 }, case.1)
 
--- whether a mark stands here, where its first byte picks it
+-- whether there is a mark here, where its first byte picks it
 unfoldable pub mark_at : List ℕ → Taking Bool
 mark_at [] = Err (stopped End [])
 mark_at (b ∷ bytes) =

@@ -1,4 +1,4 @@
--- Both ends at their start on a case, and what is said of the session behind its end
+-- Both ends at their start on a case, and what is said of the session after its end
 use Rattle.std.proofs.Common.{◌≡◌, List, [], length, take, drop, Result, Ok, Err, refl, sym, ap, ◌∙◌, subst}
 use Rattle.std.specs.Prelude.{IfOk}
 use Rattle.field_ext.specs.Field.{F, K}

@@ -1,4 +1,4 @@
--- What both ends of a session have sent after fronts of each other's bytes, and that neither waits for the other before its end
+-- What both ends of a session have sent after prefixes of each other's bytes, and that neither waits for the other before its end
 use Rattle.std.proofs.Common.{◌≡◌, ℕ, ◌+◌, ◌-◌, ◌*◌, ◌<◌, ◌≤◌, List, [], ◌∷◌, ◌++◌, length, map, take, drop, Bool, true, false, if◌then◌else◌, ◌==◌, IsTrue, Result, Ok, Err, Some, None, get_or, inl, inr, refl, sym, ◌∙◌, ap, ap₂, subst, arith, length-append, length-drop, length-take, append-nil}
 use Rattle.std.specs.Prelude.{is_none, nat_le}
 use Rattle.std.specs.List.{flat_map}

@@ -1,4 +1,4 @@
--- The elements in a front of their bytes, and the messages that are whole in it
+-- The elements in a prefix of their bytes, and the messages that are whole in it
 use Rattle.std.proofs.Common.{◌≡◌, ℕ, zero, suc, ◌+◌, ◌-◌, ◌*◌, ◌<◌, ◌≤◌, List, [], ◌∷◌, ◌++◌, length, map, take, drop, Bool, true, if◌then◌else◌, inl, inr, refl, ◌∙◌, ap, ap₂, arith, length-append, length-take}
 use Rattle.std.specs.Prelude.{◌&&◌, nat_lt}
 use Rattle.std.specs.List.{flat_map}
@@ -33,7 +33,7 @@ first-element n x more =
     ∙ ap₂ (λ (a b : List ℕ). element_of a ∷ leading n b) (take_at (bytes_of x) more 8 refl) (drop_at (bytes_of x) more 8 refl)
     ∙ ap (λ (y : K). y ∷ leading n more) (element_of-bytes x)
 
--- a front of the bytes of elements holds the first of these
+-- a prefix of the bytes of elements holds the first of these
 pub in-front : (n e r : ℕ) (xs : List K) → e ≤ n → r < 8 → leading n (take (8 * e + r) (flat_map bytes_of xs)) ≡ take e xs
 in-front zero zero r xs u v = refl
 in-front (suc n) zero r xs u v = first_none n (take (8 * 0 + r) (flat_map bytes_of xs)) (short (take (8 * 0 + r) (flat_map bytes_of xs)) (omega (arith, v, length-take (8 * 0 + r) (flat_map bytes_of xs))))

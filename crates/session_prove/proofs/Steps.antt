@@ -17,14 +17,14 @@ more-taken sent before more taken count e f = ap₂ (λ (a b : List ℕ). a ++ b
 pub prover_next : (prover next : Proving) (sent more : List ℕ) (taken count : ℕ) → prover.bytes ≡ take taken sent → more ≡ take count (drop taken sent) → next ≡ fed_more prover more → next ≡ record prover { bytes = take (taken + count) sent }
 prover_next prover next sent more taken count e f g = g ∙ ap (λ (b : List ℕ). record prover { bytes = b }) (more-taken sent prover.bytes more taken count e f)
 
--- a front of bytes without a fault has none
+-- a prefix of bytes without a fault has none
 pub no_stop : (due m : ℕ) (sent : List ℕ) → stop_of due sent ≡ None → stop_of due (take m sent) ≡ None
 no_stop due m sent none = by_stop (stop_of due (take m sent)) refl where
   by_stop : (o : Option LiveFault) → stop_of due (take m sent) ≡ o → stop_of due (take m sent) ≡ None
   by_stop None is = is
   by_stop (Some fault) is = absurd (let f : Some fault ≡ None = sym (stop_stays due (take m sent) (drop m sent) fault is) ∙ ap (stop_of due) (take-append-drop m sent) ∙ none in cc)
 
--- so that a prover that is fed one stops for want of memory alone
+-- so that a prover that is fed one stops only where memory runs out
 pub stops_for_memory : (due : ℕ) (sent before more : List ℕ) (taken count : ℕ) (stop : ProverStop) → stop_of due sent ≡ None → before ≡ take taken sent → more ≡ take count (drop taken sent) → IsStopFor (stop_of due (before ++ more)) stop → stop ≡ Memory
 stops_for_memory due sent before more taken count stop none e f is =
     by_stop stop (subst (λ (o : Option LiveFault). IsStopFor o stop) (ap (stop_of due) (more-taken sent before more taken count e f) ∙ no_stop due (taken + count) sent none) is)

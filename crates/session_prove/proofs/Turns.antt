@@ -1,4 +1,4 @@
--- What each end has sent after a front of the other's bytes: a front of all that it sends, that only grows, and that ends with the session
+-- What each end has sent after a prefix of the other's bytes: a prefix of all that it sends, that only grows, and that ends with the session
 use Rattle.std.proofs.Common.{◌≡◌, ℕ, ◌+◌, ◌-◌, ◌*◌, ◌/◌, ◌%◌, ◌<◌, ◌≤◌, List, [], ◌∷◌, ◌++◌, length, take, drop, Bool, false, if◌then◌else◌, ◌==◌, inl, inr, refl, sym, ◌∙◌, ap, arith, length-append, length-take, append-nil}
 use Rattle.std.specs.List.{flat_map}
 use Rattle.std.proofs.lemmas.Bool.{cases_lt, eqb-true}
@@ -23,7 +23,7 @@ use Rattle.session_prove.proofs.Ends.{all-sent, bytes-count, goes-on, prover-at,
 use Rattle.session_prove.proofs.Fronts.{in-front, whole-mono}
 use Rattle.session_prove.proofs.Messages.{bytes-flat, flat}
 
--- ---- the bytes of a front of messages
+-- ---- the bytes of a prefix of messages
 
 front-bytes : (m : ℕ) (qs : List (List K)) → message_bytes qs ≡ message_bytes (take m qs) ++ message_bytes (drop m qs)
 front-bytes m qs = ap message_bytes (sym (take-append-drop m qs)) ∙ flat_map-append (flat_map bytes_of) (take m qs) (drop m qs)
@@ -130,7 +130,7 @@ module _ (c : SoundCircuit) (s : Session) (same : s.parts ≡ c.parts) (as_many 
         omega (arith, ap length end, ap length (reply-front g (omega (arith, u, v))), length-take (length (reply g)) (verifier_sent (whole_session s)))
   ]
 
-  -- the last byte is sent behind all messages alone
+  -- the last byte is sent after all messages alone
   pub reply-last : (g : ℕ) → g ≤ 8 * element_count s.parts → 8 * challenges_of s.parts + 1 ≤ length (reply g) → g ≡ 8 * element_count s.parts
   reply-last g u v = elim (cases_lt g (8 * element_count s.parts)) [
     | inl w ↦ absurd (omega (arith, v, reply-early g w, most-words (g / 8)))

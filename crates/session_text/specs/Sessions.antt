@@ -19,7 +19,7 @@ pub record SessionContent : Type 0 where
 abbrev pub done : List ℕ
 done = codes "done" ++ 10 ∷ []
 
--- These bytes are a text of the session: that of its case, its words behind their count, and the last line.
+-- These bytes are a text of the session: that of its case, its words after their count, and the last line.
 pub record SpellsSession (bytes : List ℕ) (session : SessionContent) : Type 0 where
   pub few : AreValues session.words
   pub case_text : List ℕ

@@ -34,7 +34,7 @@ turned-more nothing n m items j i x found more inside so_far pushed value =
 pub turned-length : {A : Type 0} (nothing : A) (n m : ℕ) (items : List A) → length (turned nothing n m items) ≡ n * m
 turned-length nothing n m items = length-map-range_with_len _ 0 (m * n) ∙ mul_comm m n
 
--- an item of a transpose, whatever stands past its end
+-- an item of a transpose, whatever is past its end
 pub turned-read : {A : Type 0} (nothing past : A) (n m : ℕ) (items : List A) (k : ℕ) → k < n * m → get_or (turned nothing n m items) k past ≡ turned_at nothing n m items k
 turned-read nothing past n m items k inside =
     get_or-map-range_with_len (turned_at nothing n m items) 0 (m * n) k k past (omega (arith, mul_comm m n, inside)) (omega arith)
@@ -72,7 +72,7 @@ turned_twice a b n m items size =
     ext_get_or a (turned b m n (turned a n m items)) items (long ∙ sym size)
     (λ k inside. twice_at a b a n m items k size (omega (arith, long, inside)))
 
--- where a place of a transpose stands in the list
+-- where a place of a transpose is in the list
 pub turned-inside : (n m k : ℕ) → k < n * m → k % n * m + k / n < n * m
 turned-inside zero m k inside = absurd (omega (arith, inside))
 turned-inside (suc n) m k inside =

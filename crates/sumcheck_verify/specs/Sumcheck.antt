@@ -3,7 +3,7 @@ use Rattle.std.specs.Prelude.{ℕ, ◌+◌, ◌-◌, ◌^◌, min, List, Bool}
 use Rattle.field_ext.specs.Field.{K}
 use Rattle.field_ext.specs.Ring.{Ops}
 
--- the claim that stands, the last message, whether it waits for its challenge, and how many messages were taken
+-- the claim as it is, the last message, whether it waits for its challenge, and how many messages were taken
 pub record Sumcheck : Type 0 where
   pub claim : K
   pub message : List K

@@ -35,7 +35,7 @@ abbrev pub state_after : Source → List ℕ → List (List K) → List ℕ
 state_after source s [] = s
 state_after source s (q ∷ qs) = state_after source (source.after (source.absorb s q)) qs
 
--- Every challenge of a run in order: the coordinates of the output point, and one behind each message, where the messages
+-- Every challenge of a run in order: the coordinates of the output point, and one after each message, where the messages
 -- of a layer are those of its rounds and then its line.
 abbrev pub all_draws : Source → List ℕ → ℕ → List (List K) → List K
 all_draws source s coordinate_count messages =

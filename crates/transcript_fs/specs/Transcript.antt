@@ -22,7 +22,7 @@ number_bytes x = to_le_bytes w32 x.value
 abbrev pub counted_bytes : ℕ → List ℕ → List ℕ
 counted_bytes n bytes = to_le_bytes w32 n ++ bytes
 
--- the bytes of a statement: text, inputs and outputs, each behind its count
+-- the bytes of a statement: text, inputs and outputs, each after its count
 abbrev pub statement_bytes : List ℕ → List F → List F → List ℕ
 statement_bytes text inputs outputs = concat
     (counted_bytes (length text) text

@@ -33,7 +33,7 @@ rising_unite a [] r s apart = r
 rising_unite a (y ∷ b) r s apart = let t = apart y in let one = self_one y in let u = times-unite y a b in
     rising_put y (unite a b) (omega arith) (rising_unite a b r s.1 (λ x. let z = apart x in omega arith))
 
--- a place behind all others
+-- a place after all others
 pub rising_snoc : (l : List ℕ) (n : ℕ) → IsRising l → ((x : ℕ) → n ≤ x → times x l ≡ 0) → IsRising (l ++ n ∷ [])
 rising_snoc [] n r w = (tt, tt)
 rising_snoc (x ∷ l) n r w = (above l r.0, rising_snoc l n r.1 (λ y h. let z = w y h in omega arith)) where

@@ -1,4 +1,4 @@
--- How often a place stands in two lists put into one.
+-- How often a place is in two lists put into one.
 use Rattle.std.proofs.Common.{◌≡◌, ℕ, ◌+◌, Bool, true, false, eqb, ltb, cond, List, [], ◌∷◌, refl, arith}
 use Rattle.tallies.specs.Tallies.{times}
 use Rattle.turn_lock.specs.Lists.{put_in, unite}

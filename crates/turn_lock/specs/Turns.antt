@@ -153,7 +153,7 @@ module _ {S E : Type 0} (history : S → List E) (owns : List E → List ℕ →
   abbrev pub left : Step (Option S) → Seated → ℕ → Seated → Type 0
   left st m found m' = (m'.1 ≡ rest m.1) × (m'.0 ≡ record m.0 { out = false; held = false })
 
-  -- a look tells that the shorter of two beginnings begins the longer, that no place stands twice, and that the places are owned in a history that goes on
+  -- a look makes known that the shorter of two beginnings begins the longer, that no place comes twice, and that the places are owned in a history that goes on
   abbrev pub told_so : Step (Option S) → Seated → ℕ → Seated → Type 0
   told_so st m found m' = (m' ≡ m) × IsPrefix m.0.told m.0.seen × ((x : ℕ) → times x m.0.mine ≤ 1)
       × ((log : List E) × IsPrefix m.0.seen log × owns log m.0.mine)

@@ -1,4 +1,4 @@
--- Sums below a number: the first term, one sum behind another, and a sum of zeros
+-- Sums below a number: the first term, one sum after another, and a sum of zeros
 use Rattle.std.proofs.Common.{◌≡◌, ℕ, zero, suc, ◌+◌, refl, sym, ◌∙◌, ap, arith}
 use Rattle.field_ext.specs.Ring.{Ops, Laws}
 use Rattle.field_ext.specs.Sums.{sum_below}

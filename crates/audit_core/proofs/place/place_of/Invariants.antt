@@ -1,4 +1,4 @@
--- The message stands where the number that is left stands in the layers from here on
+-- The message is where the number that is left is in the layers from here on
 use Rattle.std.proofs.Common.{◌≡◌}
 use Rattle.gkr_layers.specs.Layers.{layers_of, layers_below}
 use Rattle.audit_core.specs.Audit.{place_in}

@@ -1,4 +1,4 @@
--- What stands in the output layer is the program's meaning.
+-- What is in the output layer is the program's meaning.
 use Rattle.std.proofs.Common.{◌∙◌, ℕ, take, drop, ap, sym, refl}
 use Rattle.std.proofs.lemmas.Result.{IfOk-weaker}
 use Rattle.circuit_core.specs.Parts.{layer_values}

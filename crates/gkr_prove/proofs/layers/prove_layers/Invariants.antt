@@ -1,4 +1,4 @@
--- Where the layers that are left are proved honestly behind these messages, all are
+-- Where the layers that are left are proved honestly after these messages, all are
 use Rattle.std.proofs.Common.{◌≡◌, List, ◌++◌, IsTrue}
 use Rattle.field_ext.specs.Field.{F, K}
 use Rattle.circuit_core.specs.Sound.{exponent_at}

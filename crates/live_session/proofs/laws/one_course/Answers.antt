@@ -1,4 +1,4 @@
--- Bytes behind those that were fed, and a fault with more behind it
+-- Bytes after those that were fed, and a fault with more after it
 use Rattle.std.proofs.Common.{List, ℕ, ap, append_assoc}
 use Rattle.live_session.proofs.ProverSteps.{stop_stays}
 use Rattle.live_session.proofs.laws.one_course.Goals as goal

@@ -1,4 +1,4 @@
--- With room for the layers that are left, there is room for all
+-- With buffers for the layers that are left, there are buffers for all
 use Rattle.std.proofs.Common.{List, ◌++◌}
 use Rattle.gkr_layers.specs.Layers.{layers_below, lower_exponents}
 use Rattle.live_session.specs.Verifying.{lower}

@@ -1,4 +1,4 @@
--- The table doubles within its room
+-- The table doubles within its buffer
 use Rattle.std.proofs.Common.{◌≤◌, ◌*◌, length, arith}
 use Rattle.std.proofs.lemmas.List.{length-set}
 use Rattle.mle_table.proofs.EqualitySteps.{doubling_fits}

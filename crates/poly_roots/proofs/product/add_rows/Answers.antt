@@ -1,4 +1,4 @@
--- With each row the product by one more coefficient stands in the room
+-- With each row the product by one more coefficient is in the buffer
 use Rattle.std.proofs.Common.{◌≡◌, ◌+◌, ◌-◌, ◌<◌, ◌≤◌, ℕ, List, length, drop, get_or, ◌∙◌, ap, sym, arith, drop_of_length-le}
 use Rattle.field_ext.specs.Field.{K, k_ops, zero_k}
 use Rattle.field_ext.specs.Polynomial.{product_of}

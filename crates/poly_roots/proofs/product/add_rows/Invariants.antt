@@ -1,4 +1,4 @@
--- From the last row done on, the room holds the product by the rows done, and before it zeros
+-- From the last row done on, the buffer holds the product by the rows done, and before it zeros
 use Rattle.std.proofs.Common.{◌≡◌, ℕ, ◌<◌, ◌+◌, ◌-◌, length, drop, get_or}
 use Rattle.field_ext.specs.Field.{k_ops, zero_k}
 use Rattle.field_ext.specs.Polynomial.{product_of}

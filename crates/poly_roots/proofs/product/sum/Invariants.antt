@@ -1,4 +1,4 @@
--- The sums so far are the first coefficients of the sum, and the room is that of all
+-- The sums so far are the first coefficients of the sum, and the buffer is that of all
 use Rattle.std.proofs.Common.{◌≡◌, ◌≤◌, vec_capacity, take}
 use Rattle.field_ext.specs.Field.{k_ops}
 use Rattle.field_ext.specs.Polynomial.{sum_of}

@@ -1,4 +1,4 @@
--- The block's folds stand behind the first places
+-- The block's folds are after the first places
 use Rattle.field_ext.specs.Field.{k_ops}
 use Rattle.round_tables.proofs.Folds.{block_written}
 use Rattle.round_tables.proofs.folding.fold_block.Goals as goal

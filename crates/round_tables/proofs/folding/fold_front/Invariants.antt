@@ -1,4 +1,4 @@
--- The places written hold the folded table, and those behind are as they were
+-- The places written hold the folded table, and those after them are as they were
 use Rattle.std.proofs.Common.{◌≡◌, ℕ, ◌+◌, ◌*◌, ◌<◌, ◌≤◌, get_or}
 use Rattle.field_ext.specs.Field.{k_ops, zero_k}
 use Rattle.field_ext.specs.Multilinear.{folded}

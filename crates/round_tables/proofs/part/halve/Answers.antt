@@ -1,4 +1,4 @@
--- The front half is the halved table
+-- The first half is the halved table
 use Rattle.std.proofs.Common.{rules, ◌≡◌, ◌/◌, ◌++◌, length, take, drop, arith, ◌∙◌, ap}
 use Rattle.field_ext.specs.Field.{k_ops}
 use Rattle.round_tables.specs.Tables.{IsFolded}

@@ -1,4 +1,4 @@
--- The parts passed have room
+-- The parts passed have capacity
 use Rattle.std.proofs.Common.{take, All}
 use Rattle.round_tables.specs.PartTables.{HasRoom}
 use Rattle.round_tables.proofs.parts.fit_each.Given as goal

@@ -1,4 +1,4 @@
--- The parts with room are the vector's
+-- The parts with capacity are the vector's
 use Rattle.std.proofs.Common.{rules, ◌≡◌, ◌++◌, List, length, take, drop, sym, subst, IfOk, All}
 use Rattle.round_tables.specs.PartTables.{PartTables, HasRoom}
 use Rattle.round_tables.proofs.PhaseSteps.{written_back}

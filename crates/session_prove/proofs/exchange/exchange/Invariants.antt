@@ -1,4 +1,4 @@
--- Each end was handed a front of what the other sends
+-- Each end was handed a prefix of what the other sends
 use Rattle.session_prove.proofs.Standings.{HaveCome, left}
 use Rattle.session_prove.proofs.exchange.exchange.Given as goal
 

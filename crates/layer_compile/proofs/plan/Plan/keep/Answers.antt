@@ -1,4 +1,4 @@
--- Each node of the row below is the next one that stands there
+-- Each node of the row below is the next one that is there
 use Rattle.std.proofs.Common.{◌≤◌, ◌<◌, ◌+◌, get_or, subst, arith}
 use Rattle.layer_compile.specs.Rows.{stands, IsMerged}
 use Rattle.layer_compile.proofs.PlacesOf.{few_below}

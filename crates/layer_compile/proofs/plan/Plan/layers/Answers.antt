@@ -1,4 +1,4 @@
--- Each height's layer stands over the places of the one below
+-- Each height's layer is over the places of the one below
 use Rattle.std.proofs.Common.{◌≡◌, ◌+◌, ◌∙◌, ◌++◌, ◌∷◌, [], None, ℕ, suc, map, reverse, ap, ap₂, sym, subst, arith}
 use Rattle.std.proofs.lemmas.List.{reverse-append}
 use Rattle.std.proofs.lemmas.Result.{err_from_is_err_and}

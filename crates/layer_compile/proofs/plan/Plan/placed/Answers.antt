@@ -1,4 +1,4 @@
--- The operands of a node stand below its level
+-- The operands of a node are below its level
 use Rattle.std.proofs.Common.{◌∙◌, sym, ap, arith}
 use Rattle.layer_compile.specs.Circuits.{placed}
 use Rattle.layer_compile.proofs.LevelsOf.{operation_read}

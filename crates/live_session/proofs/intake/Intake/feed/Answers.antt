@@ -1,4 +1,4 @@
--- The bytes before, and those for which there is room
+-- The bytes before, and those for which there is capacity
 use Rattle.std.proofs.Common.{◌≡◌, ◌+◌, ◌-◌, ◌*◌, ◌++◌, List, ℕ, length, take, drop, min, sym, ◌∙◌, ap, arith, length-take}
 use Rattle.std.proofs.lemmas.List.{with_items_is}
 use Rattle.live_session.specs.Elements.{leading}

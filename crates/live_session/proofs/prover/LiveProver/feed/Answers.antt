@@ -11,7 +11,7 @@ use Rattle.live_session.specs.declared.progress.LiveFault.{LiveFault}
 use Rattle.live_session.proofs.ProverSteps.{all_kept, few_words, stop_kept, words_before}
 use Rattle.live_session.proofs.prover.LiveProver.feed.Goals as goal
 
--- what the intake has, where its room is that of the challenges and two bytes
+-- what the intake has, where its buffer is that of the challenges and two bytes
 fed_is : (due : ℕ) (intake new : Fed) (more : List ℕ) → intake.most ≡ due → intake.room ≡ 8 * due + 2 → new ≡ record intake { bytes = take intake.room (intake.bytes ++ more) } →
     new ≡ record { most = due; room = 8 * due + 2; bytes = take (8 * due + 2) (intake.bytes ++ more) }
 fed_is due intake new more m r e = e ∙ (λ j. record { most = m j; room = r j; bytes = take (r j) (intake.bytes ++ more) })

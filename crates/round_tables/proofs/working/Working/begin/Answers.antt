@@ -1,4 +1,4 @@
--- The rooms begin the first phase
+-- The buffers begin the first phase
 use Rattle.std.proofs.Common.{◌≡◌, length, take, arith, ◌∙◌, ap, subst, sym}
 use Rattle.field_ext.specs.Field.{K, k_ops}
 use Rattle.field_ext.proofs.KLaws.{k_laws}
