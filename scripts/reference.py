@@ -370,8 +370,8 @@ def padded(numbers, width):
     return [(number, 0) for number in numbers] + [ZERO] * (width - len(numbers))
 
 
-# Tables of 2^k values, and points of k coordinates: coordinate j belongs to bit j of an index, the lowest first. A claim stands at
-# a place: points with weights, of which there is one by lines, and by pairs two behind the output layer.
+# Tables of 2^k values, and points of k coordinates: coordinate j belongs to bit j of an index, the lowest first. A claim is at
+# a place: points with weights, of which there is one by lines, and by pairs two after the output layer.
 
 
 def folded(table, x):
@@ -507,7 +507,7 @@ def line_message(below, left, right):
 
 
 def place_below(left, right, t, by_pairs):
-    """Where the claim on the layer below stands: at both points, the second with the weight t, or at t of the line between them."""
+    """Where the claim on the layer below is: at both points, the second with the weight t, or at t of the line between them."""
     if by_pairs:
         return [(left, ONE), (right, t)]
     return [([add(x, mul(t, sub(y, x))) for x, y in zip(left, right)], ONE)]
