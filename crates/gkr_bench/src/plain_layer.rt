@@ -21,7 +21,7 @@ pub const ZERO: Plain = Plain { re: 0, im: 0 };
 
 /// The buffers of a layer.
 #[derive(Drop)]
-pub struct PlainRoom {
+pub struct PlainBuffers {
     pub point_equality: Vec<Plain>,
     pub left_equality: Vec<Plain>,
     pub table: Vec<Plain>,
@@ -200,7 +200,7 @@ fn send(
     }
 }
 
-fn gather_left(gates: &[CircuitGate], values: &[Plain], room: &mut PlainRoom) {
+fn gather_left(gates: &[CircuitGate], values: &[Plain], room: &mut PlainBuffers) {
     clear(&mut room.scales);
     clear(&mut room.shifts);
     for (gate, factor) in gates.iter().zip(room.point_equality.as_slice()) {
@@ -210,7 +210,7 @@ fn gather_left(gates: &[CircuitGate], values: &[Plain], room: &mut PlainRoom) {
     }
 }
 
-fn gather_right(gates: &[CircuitGate], bound: Plain, room: &mut PlainRoom) {
+fn gather_right(gates: &[CircuitGate], bound: Plain, room: &mut PlainBuffers) {
     clear(&mut room.scales);
     clear(&mut room.shifts);
     for (gate, factor) in gates.iter().zip(room.point_equality.as_slice()) {
@@ -227,7 +227,7 @@ fn gather_right(gates: &[CircuitGate], bound: Plain, room: &mut PlainRoom) {
     }
 }
 
-fn rounds(room: &mut PlainRoom, challenges: &[Plain]) -> u32 {
+fn rounds(room: &mut PlainBuffers, challenges: &[Plain]) -> u32 {
     let mut seen = 0u32;
     let mut half = room.table.len() / 2;
     for r in challenges {
@@ -250,7 +250,7 @@ pub fn prove_layer(
     point: &[Plain],
     left: &[Plain],
     right: &[Plain],
-    room: &mut PlainRoom,
+    room: &mut PlainBuffers,
 ) -> u32 {
     equality_table(point, &mut room.point_equality);
     copy(values, &mut room.table);

@@ -4,7 +4,7 @@
 ghost use Rattle.std.specs.Prelude.{◌≡◌, [], IfOk, IfSome};
 ghost use Rattle.phase_run.specs.Work.{IsWorkerCount};
 
-use crate::plain_layer::{Plain, PlainRoom, ZERO, prove_layer};
+use crate::plain_layer::{Plain, PlainBuffers, ZERO, prove_layer};
 use circuit_core::{Circuit, CircuitGate, Kind, Layer, Leaf};
 use field_ext::{Ext, Fp};
 use io_edge::OpenGate;
@@ -202,8 +202,8 @@ fn plain(alloc: Global, elements: &[Ext]) -> Result<Vec<Plain>, AllocError> {
     Ok(found)
 }
 
-fn plain_room(alloc: Global, size: usize) -> Result<PlainRoom, AllocError> {
-    Ok(PlainRoom {
+fn plain_buffers(alloc: Global, size: usize) -> Result<PlainBuffers, AllocError> {
+    Ok(PlainBuffers {
         point_equality: vec![in alloc; ZERO; size]?,
         left_equality: vec![in alloc; ZERO; size]?,
         table: vec![in alloc; ZERO; size]?,
@@ -218,7 +218,7 @@ fn time_plain(rt: &HostRuntime, case: &LayerCase) -> io::Result<(u64, u32)> {
     let values = plain(alloc, case.values.values())?;
     let (point, left) = (plain(alloc, &case.point)?, plain(alloc, &case.left)?);
     let right = plain(alloc, &case.right)?;
-    let mut room = plain_room(alloc, values.len())?;
+    let mut room = plain_buffers(alloc, values.len())?;
     let (mut best, mut seen) = (u64::MAX, 0);
     if case.circuit.height() > 0 {
         let gates = case.circuit.gates(0);

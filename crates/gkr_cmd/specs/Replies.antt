@@ -206,7 +206,7 @@ pub record IsNoHistoryScript (input : List ℕ) (bad : BadCase) : Type 0 where
 
 -- The input is a text of such a script, and these are the replies to its jobs and a legal
 -- history of a table with them.
-pub record IsToldScript (input : List ℕ) (history : History) : Type 0 where
+pub record IsKnownScript (input : List ℕ) (history : History) : Type 0 where
   pub within : length input ≤ script_limit
   pub script : List MarkedJob
   pub read : history_script_reading input ≡ Ok script
@@ -216,7 +216,7 @@ pub record IsToldScript (input : List ℕ) (history : History) : Type 0 where
 abbrev pub IsHistoryReply : List ℕ → Reply → Type 0
 IsHistoryReply input (replies.TooLong limit) = IsTooLong script_limit input limit
 IsHistoryReply input (replies.Case bad) = IsNoHistoryScript input bad
-IsHistoryReply input (replies.History history) = IsToldScript input history
+IsHistoryReply input (replies.History history) = IsKnownScript input history
 IsHistoryReply input reply = ⊥
 
 -- when a reply is one of a command, or of words that name none

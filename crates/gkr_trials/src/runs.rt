@@ -7,7 +7,7 @@ use std::marker::Sync;
 use std::thread::Threads;
 
 /// The most bytes that a run here writes.
-const ROOM: usize = 262_144;
+const CAPACITY: usize = 262_144;
 
 /// How a run ended and what it wrote.
 #[derive(Drop)]
@@ -29,7 +29,7 @@ pub fn run<R: Threads + Sync>(
         owned.push(String::from_str(alloc, word)?)?;
     }
     let mut source = SteadySource::new(alloc, input, 4096)?;
-    let mut sink = SteadySink::new(alloc, ROOM)?;
+    let mut sink = SteadySink::new(alloc, CAPACITY)?;
     let ended = run_alone(rt, alloc, &owned, &mut source, &mut sink, &OpenGate);
     let status = ended.unwrap_or(Status::Usage);
     if status == Status::Memory {

@@ -3,7 +3,7 @@
 ghost use Rattle.std.specs.Prelude.{◌≡◌, ◌<◌, ◌≤◌, ◌++◌, [], length, min, take, drop};
 
 /// Copies at most `most` bytes from the beginning of `from` to that of `room`, as many as go, and answers how many.
-pub fn copy_front(from: &[u8], room: &mut [u8], most: usize) -> usize
+pub fn copy_prefix(from: &[u8], room: &mut [u8], most: usize) -> usize
     requires { 0 < most }
     ensures count { result ≡ min (min (length from.now) (length room.old)) most }
     ensures from { result ≤ length from.now }

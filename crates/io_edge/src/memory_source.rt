@@ -2,7 +2,7 @@
 
 ghost use Rattle.std.specs.Prelude.{◌≡◌, ◌<◌, ◌≤◌, vec_len};
 
-use crate::copying::copy_front;
+use crate::copying::copy_prefix;
 use crate::schedule::Schedule;
 use crate::{Failed, Source};
 use std::alloc::{AllocError, Global};
@@ -73,7 +73,7 @@ impl Source for MemorySource {
         if self.schedule.next_fails() {
             return Err(self.schedule.fault());
         }
-        let count = copy_front(&self.bytes[self.taken..], room, self.piece);
+        let count = copy_prefix(&self.bytes[self.taken..], room, self.piece);
         self.taken += count;
         Ok(count)
     }

@@ -2,7 +2,7 @@
 
 ghost use Rattle.std.specs.Prelude.{◌≡◌, ◌<◌, ◌≤◌, vec_len};
 
-use crate::copying::copy_front;
+use crate::copying::copy_prefix;
 use crate::{Failed, Source};
 use std::alloc::{AllocError, Global};
 
@@ -69,7 +69,7 @@ impl Source for SteadySource {
     {
         self.calls = self.calls.saturating_add(1);
         self.most_room = self.most_room.max(room.len());
-        let count = copy_front(&self.bytes[self.taken..], room, self.piece);
+        let count = copy_prefix(&self.bytes[self.taken..], room, self.piece);
         self.taken += count;
         Ok(count)
     }

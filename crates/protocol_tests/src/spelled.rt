@@ -14,16 +14,16 @@ pub(crate) fn bytes_of(
         ProofForm::Line => b"GKR1",
         ProofForm::Pair => b"GKRP",
     };
-    bytes_behind(alloc, magic, coefficients)
+    bytes_after(alloc, magic, coefficients)
 }
 
 /// The bytes of a proof of version 2 with these coefficients.
 pub(crate) fn short_bytes(alloc: Global, coefficients: &[i32]) -> Result<Vec<u8>, AllocError> {
-    bytes_behind(alloc, b"GKR2", coefficients)
+    bytes_after(alloc, b"GKR2", coefficients)
 }
 
 /// These coefficients after the bytes that tell the kind of proof.
-fn bytes_behind(
+fn bytes_after(
     alloc: Global,
     magic: &[u8; 4],
     coefficients: &[i32],

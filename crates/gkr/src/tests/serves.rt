@@ -190,7 +190,7 @@ fn answers_small_scripts(rt: HostRuntime) -> Result<(), Fail> {
 }
 
 #[test]
-fn refuses_each_front_of_a_script(rt: HostRuntime) -> Result<(), Fail> {
+fn refuses_each_prefix_of_a_script(rt: HostRuntime) -> Result<(), Fail> {
     let text = script(rt.alloc())?;
     for length in 0..text.len() {
         let reply = format!(in rt.alloc(); "refused case end {}\n", length)?;

@@ -124,7 +124,7 @@ fn refuses_a_mark_out_of_place(rt: HostRuntime) -> Result<(), Fail> {
 }
 
 #[test]
-fn refuses_each_front_of_a_marked_script(rt: HostRuntime) -> Result<(), Fail> {
+fn refuses_each_prefix_of_a_marked_script(rt: HostRuntime) -> Result<(), Fail> {
     let text = one_job(rt.alloc(), CASE, b"withdraw\n")?;
     for length in 0..text.len() {
         let want = format!(in rt.alloc(); "refused case end {}\n", length)?;
