@@ -25,7 +25,7 @@ use Rattle.arr_compile.specs.Programs.{IsRead, IsAccepted, IsMisread, IsRefusedB
 abbrev pub OneTree : Type 0
 OneTree = (text : List ℕ) (a b : ProgramTree) → IsRead text a → IsRead text b → a ≡ b
 
-one_list : (r : Result (List Token) ℕ) (a b : List Token) → r ≡ Ok a → r ≡ Ok b → a ≡ b
+pub one_list : (r : Result (List Token) ℕ) (a b : List Token) → r ≡ Ok a → r ≡ Ok b → a ≡ b
 one_list r a b is is' = cc
 
 pub one_tree : ((a b : ProgramTree) → program_marks a ≡ program_marks b → a.end ≡ b.end → a ≡ b) → OneTree

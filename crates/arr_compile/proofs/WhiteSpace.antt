@@ -12,6 +12,7 @@ use Rattle.arr_parse.specs.Mark.{part_of, word}
 use Rattle.arr_parse.specs.Parsed.{IsTreeOf}
 use Rattle.arr_parse.specs.Unplaced.{SameWords, unplaced}
 use Rattle.arr_compile.specs.Programs.{IsRead}
+use Rattle.arr_compile.proofs.OneReading.{one_list}
 
 -- ---- tokens within a text
 
@@ -119,9 +120,6 @@ words-between spans anywhere moves front blanks back tokens all found blank whol
           ∙ ap₂ (λ before after. before ++ after) (words-front front (blanks ++ back) tokens within)
           (ap (λ text. map (word text) (map (moved_token distance) behind.0)) (sym (append_assoc front blanks back)) ∙ words-back (front ++ blanks) back behind.0);
     }
-
-one_list : (r : Result (List Token) ℕ) (a b : List Token) → r ≡ Ok a → r ≡ Ok b → a ≡ b
-one_list r a b is is' = cc
 
 abbrev pub WhiteSpace : Type 0
 WhiteSpace = (front back blanks others : List ℕ) (tokens : List Token) → tokens_from 0 0 front ≡ Ok tokens → IsWhiteSpace blanks → IsWhiteSpace others →

@@ -16,12 +16,6 @@ pub zero-add_f : (x : F) → add_f (of 0) x ≡ x
 zero-add_f x =
     of_same ((of 0).value + x.value) x.value (let zero_value = of-value 0 in omega (arith, zero_value)) ∙ of_self x
 
--- numbers may be added before they are reduced
-pub add-of : (m n : ℕ) → add_f (of m) (of n) ≡ of (m + n)
-add-of m n =
-    of_same ((of m).value + (of n).value) (m + n)
-    (let left = of-value m in let right = of-value n in omega (arith, left, right))
-
 pub add_f-assoc : (x y z : F) → add_f (add_f x y) z ≡ add_f x (add_f y z)
 add_f-assoc x y z =
     of_same ((add_f x y).value + z.value) (x.value + (add_f y z).value)

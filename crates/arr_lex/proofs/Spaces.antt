@@ -10,6 +10,8 @@ use Rattle.arr_lex.specs.Byte.{is_blank, is_digit, is_letter, is_name_byte, sign
 use Rattle.arr_lex.specs.Lexing.{Taken, number_of, numbered, number_taken, word_taken, single_taken, sign_taken, taken, with_front, token_first, tokens_from}
 use Rattle.arr_lex.specs.Moved.{moved_token, moved}
 use Rattle.arr_lex.proofs.Passed.{with_front-append}
+use Rattle.arr_lex.proofs.Spans.{run-shorter}
+use Rattle.arr_lex.proofs.Spans.{front_ok}
 
 -- ---- further on
 
@@ -101,10 +103,6 @@ shorter : (b : Bool) (x : ℕ) (run xs : List ℕ) → length run ≤ length xs 
 shorter true x run xs h = omega arith
 shorter false x run xs h = omega arith
 
-run-shorter : (p : ℕ → Bool) (xs : List ℕ) → length (take_while p xs) ≤ length xs
-run-shorter p [] = omega arith
-run-shorter p (x ∷ xs) = subst (λ run. length run ≤ length (x ∷ xs)) (sym (run-cons p x xs)) (shorter (p x) x (take_while p xs) xs (run-shorter p xs))
-
 no_range : (byte blank : ℕ) (r s : Taken) → (blank == 46) ≡ false → (if (byte == 46) && (blank == 46) then r else s) ≡ s
 no_range byte blank r s e = by (byte == 46) (blank == 46) e
   where
@@ -156,11 +154,6 @@ within_taken at byte bytes =
 with_front-none : (read : Result (List Token) ℕ) → with_front [] read ≡ read
 with_front-none (Ok tokens) = refl
 with_front-none (Err place) = refl
-
--- the tokens after the first, where all are there
-front_ok : (front : Token) (read : Result (List Token) ℕ) (tokens : List Token) → with_front (front ∷ []) read ≡ Ok tokens → (rest : List Token) × (read ≡ Ok rest) × (tokens ≡ front ∷ rest)
-front_ok front (Ok rest) tokens e = (rest, refl, cc)
-front_ok front (Err place) tokens e = cc
 
 -- what the rest of the text gives after so many bytes, with white space and more after it
 abbrev Goes : List ℕ → ℕ → ℕ → List ℕ → Type 0

@@ -22,7 +22,7 @@ shorter true x n xs h =
     subst (λ m. length (take m (x ∷ xs)) ≤ length (x ∷ xs)) (sym same) step
 shorter false x n xs h = omega arith
 
-run-shorter : (p : ℕ → Bool) (xs : List ℕ) → length (take_while p xs) ≤ length xs
+pub run-shorter : (p : ℕ → Bool) (xs : List ℕ) → length (take_while p xs) ≤ length xs
 run-shorter p [] = omega arith
 run-shorter p (x ∷ xs) = shorter (p x) x (prefix_len p xs) xs (run-shorter p xs)
 
@@ -99,7 +99,7 @@ spans-later at byte bytes (token ∷ tokens) blank (next, rest) =
     (next-later at byte bytes token blank next, subst (λ n. AreSpans token.end (drop n (byte ∷ bytes)) tokens) more rest)
 
 -- the tokens after the first, where all are there
-front_ok : (front : Token) (read : Result (List Token) ℕ) (tokens : List Token) → with_front (front ∷ []) read ≡ Ok tokens → (rest : List Token) × (read ≡ Ok rest) × (tokens ≡ front ∷ rest)
+pub front_ok : (front : Token) (read : Result (List Token) ℕ) (tokens : List Token) → with_front (front ∷ []) read ≡ Ok tokens → (rest : List Token) × (read ≡ Ok rest) × (tokens ≡ front ∷ rest)
 front_ok front (Ok rest) tokens e = (rest, refl, cc)
 front_ok front (Err place) tokens e = cc
 

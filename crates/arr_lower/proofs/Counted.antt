@@ -50,6 +50,7 @@ use Rattle.arr_run.specs.Limits.{minus_one}
 use Rattle.arr_lower.specs.Operations.{Made, MadeOne, leaf_nodes, constant_node, operation_node, difference_node, signed_nodes, pairwise_nodes, difference_nodes, scaled_nodes, negated_nodes, sum_node, dot_node, product_pairs, matmul_nodes, single_nodes, pair_nodes}
 use Rattle.arr_lower.proofs.Adds.{Adds, has, has-push, adds-as, operation-adds, difference-adds, each-adds, each-size, leaves-add, sum-adds, dot-adds, matmul-adds, zip-size}
 use Rattle.arr_lower.proofs.Means.{nodes-fine, outputs-there}
+use Rattle.arr_lower.proofs.Means.{same_some}
 
 -- what is counted is there
 record IsCounted (counts : Counts) (kept : Kept) : Type 0 where
@@ -318,9 +319,6 @@ has_nodes program accepted = let found = is_there program accepted in rw found.1
 pub never_refused : (program : ProgramTree) (refused : CheckRefused) → IsTrue (is_ok (run_program program)) → end_of nodes program none_made ≡ Err refused → ⊥
 never_refused program refused accepted e =
     let found = is_there program accepted in let back = sym e in cc (found.1)
-
-same_some : {A : Type 0} (x y : A) → Some x ≡ Some y → x ≡ y
-same_some x y e = cc
 
 -- what the run over shapes counts is there
 record IsEnd (answer : Answer Counts) (found : Nodes) : Type 0 where

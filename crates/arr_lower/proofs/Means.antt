@@ -42,7 +42,7 @@ use Rattle.arr_lower.proofs.MadeEach.{AllStand, HasEach, all-kept, pairwise-has,
 use Rattle.arr_lower.proofs.Pairwise.{each-append, each-get, each-set, each-length}
 use Rattle.arr_lower.proofs.SumsMade.{sum-has, dot-has, matmul-has, transposed-stand}
 
-same_some : {A : Type 0} (x y : A) → Some x ≡ Some y → x ≡ y
+pub same_some : {A : Type 0} (x y : A) → Some x ≡ Some y → x ≡ y
 same_some x y e = cc
 
 module _ (inputs : List F) where

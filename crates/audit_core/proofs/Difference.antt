@@ -1,7 +1,7 @@
 -- The claimed outputs less the circuit's own, and when both are the same
-use Rattle.std.proofs.Common.{◌≡◌, ℕ, zero, suc, ◌+◌, ◌-◌, ◌<◌, ◌≤◌, List, [], ◌∷◌, ◌++◌, length, map, take, drop, get_or, replicate, refl, sym, ◌∙◌, ap, ap₂, subst, arith}
+use Rattle.std.proofs.Common.{◌≡◌, ℕ, zero, suc, ◌+◌, ◌-◌, ◌<◌, ◌≤◌, List, [], ◌∷◌, length, map, take, drop, get_or, replicate, refl, sym, ◌∙◌, ap, subst, arith}
 use Rattle.std.proofs.lemmas.List.{get_or_past, get_or_read}
-use Rattle.std.proofs.lemmas.List.Elements.{All-head, All-tail, All-cons, All-nil}
+use Rattle.std.proofs.lemmas.List.Elements.{All-cons, All-nil}
 use Rattle.field_ext.specs.Field.{F, K, k_ops, zero_k, sub_k, embed_k}
 use Rattle.field_ext.specs.Polynomial.{IsZero}
 use Rattle.field_ext.proofs.KLaws.{k_laws}
@@ -17,6 +17,9 @@ use Rattle.gkr_layers.proofs.Shapes.{outputs_room}
 use Rattle.circuit_core.proofs.Sizes.{size_of}
 use Rattle.circuit_eval.proofs.LayerTables.{length-table as length-true}
 use Rattle.audit_core.specs.Audit.{AreOutputs}
+use Rattle.gkr_layers.proofs.Sound.{no_difference as equal_tables}
+use Rattle.gkr_layers.proofs.Shapes.{parts_of as real_parts}
+use Rattle.gkr_layers.proofs.Outputs.{behind-zero as padding-read}
 
 pub read-difference : (ys vs : List K) (g : ℕ) → length ys ≡ length vs → g < length vs → get_or (difference k_ops ys vs) g zero_k ≡ sub_k (get_or ys g zero_k) (get_or vs g zero_k)
 read-difference [] [] g e u = absurd (omega arith)
@@ -31,32 +34,9 @@ length-difference [] (v ∷ vs) e = absurd (omega arith)
 length-difference (y ∷ ys) [] e = absurd (omega arith)
 length-difference (y ∷ ys) (v ∷ vs) e = ap (λ (n : ℕ). suc n) (length-difference ys vs (omega arith))
 
--- a difference that is all zero is one of equal tables
-pub equal_tables : (ys vs : List K) → length ys ≡ length vs → IsZero k_ops (difference k_ops ys vs) → ys ≡ vs
-equal_tables [] [] e z = refl
-equal_tables [] (v ∷ vs) e z = absurd (omega arith)
-equal_tables (y ∷ ys) [] e z = absurd (omega arith)
-equal_tables (y ∷ ys) (v ∷ vs) e z =
-    let none : k_ops.add y (k_ops.neg v) ≡ k_ops.zero = All-head (λ (x : K). x ≡ k_ops.zero) (k_ops.add y (k_ops.neg v)) (difference k_ops ys vs) z in
-    ap₂ (λ (x : K) (xs : List K). x ∷ xs)
-    (solve k_ops k_laws (y ∷ v ∷ []) (var 0) (var 0 ⊕ minus (var 1) ⊕ var 1) refl ∙ ap (λ (x : K). k_ops.add x v) none ∙ solve k_ops k_laws (v ∷ []) (nil ⊕ var 0) (var 0) refl)
-    (equal_tables ys vs (omega arith) (All-tail (λ (x : K). x ≡ k_ops.zero) (k_ops.add y (k_ops.neg v)) (difference k_ops ys vs) z))
-
 pub no_difference : (vs : List K) → IsZero k_ops (difference k_ops vs vs)
 no_difference [] = All-nil (λ (x : K). x ≡ k_ops.zero)
 no_difference (v ∷ vs) = All-cons (λ (x : K). x ≡ k_ops.zero) (k_ops.add v (k_ops.neg v)) (difference k_ops vs vs) (solve k_ops k_laws (v ∷ []) (var 0 ⊕ minus (var 0)) nil refl) (no_difference vs)
-
--- what is claimed for a place
-module _ {A : Type 0} (z : A) where
-  zeros-read : (m i : ℕ) → get_or (replicate m z) i z ≡ z
-  zeros-read zero i = refl
-  zeros-read (suc m) zero = refl
-  zeros-read (suc m) (suc i) = zeros-read m i
-
-  padding-read : (values : List A) (m i : ℕ) → get_or (values ++ replicate m z) i z ≡ get_or values i z
-  padding-read [] m i = zeros-read m i
-  padding-read (v ∷ vs) m zero = refl
-  padding-read (v ∷ vs) m (suc i) = padding-read vs m i
 
 pub claimed-first : (width : ℕ) (outputs : List F) → get_or (map embed_k (padded_values width outputs)) 0 zero_k ≡ zero_k
 claimed-first width outputs = refl
@@ -74,10 +54,6 @@ claimed-here width outputs zero x some u e = absurd (omega arith)
 claimed-here width outputs (suc g) x some u e =
     let one : suc g - 1 ≡ g = omega arith in
     sym (claimed-read width outputs g ∙ ap embed_k (sym (get_or_read outputs g x (omega arith) (e ∙ ap (λ (i : ℕ). get_or outputs i x) one) zero_f)))
-
-real_parts : (xs : List F) → map (λ (x : K). x.re) (map embed_k xs) ≡ xs
-real_parts [] = refl
-real_parts (x ∷ xs) = ap (λ (ys : List F). x ∷ ys) (real_parts xs)
 
 module _ (c : SoundCircuit) (inputs outputs : List F) (count : length outputs ≡ c.parts.outputs) where
   abbrev claimed_table : List K

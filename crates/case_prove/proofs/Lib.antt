@@ -7,7 +7,7 @@ mod ProvedText
 mod Statements
 pub mod AcceptedProofs
 mod AuditedCases
-mod ReadProofs
+pub mod ReadProofs
 pub mod OneSaying
 mod ConvertedCases
 mod ConvertedTexts

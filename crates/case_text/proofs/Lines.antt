@@ -22,7 +22,7 @@ use Rattle.case_text.proofs.HexDigits.{IsHexByte, hex_byte_exact, hex_to, hex_fr
 use Rattle.case_text.proofs.OptionalLines.{LineText, WithLine, line_exact}
 use Rattle.case_text.proofs.Repeated.{EachText, AreItems, each_exact}
 
-one_of_one : (b : Bool) (x : ℕ) → cond b x x ≡ x
+pub one_of_one : (b : Bool) (x : ℕ) → cond b x x ≡ x
 one_of_one true x = refl
 one_of_one false x = refl
 

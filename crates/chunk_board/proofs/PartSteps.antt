@@ -48,7 +48,7 @@ at_both (y ∷ a) b (suc i) x e = ⊎_elim (λ (p : (j : ℕ) × (get_elem? a j 
 same_some : {A : Type 0} (a c : A) → Some a ≡ Some c → a ≡ c
 same_some a c e = cc
 
-no_some : {A : Type 0} {a : A} → None ≡ Some a → ⊥
+pub no_some : {A : Type 0} {a : A} → None ≡ Some a → ⊥
 no_some e = cc
 
 module _ {T : Type 0} where

@@ -4,7 +4,7 @@ use Rattle.std.proofs.lemmas.Bool.Decides.{nat_tests}
 use Rattle.std.proofs.lemmas.List.{map-set, map-append}
 use mathlib.Core.Logic.{dite}
 use native.Mathlib.Decide.{dec_le}
-use mathlib.Core.Option.{none, some}
+use mathlib.Core.Option.{none, some, some-injective, some-ne-none}
 use lib.ListN.{get_elem?}
 use Rattle.atomic_table.specs.Table.{State, Me, step, keeps, Allows}
 use Rattle.atomic_table.proofs.Lists.{at_set, at_map, set_again, set_here}
@@ -16,6 +16,11 @@ use Rattle.chunk_board.specs.declared.rule.Plan.{Plan}
 use Rattle.chunk_board.specs.ClaimMachine.{Worker, worker, phase, start, ClaimStep, Claim, Split, Join, claiming, gone, IsStep, IsRun, AllDrawn, stopped_shares, IsRule, AreResults}
 use Rattle.chunk_board.specs.Hands.{hand, worker_of, no_output, Claims, IsReached, board_of, Kept, claimed, IsClaimStep, Claimed, Counted, left_hand, right_hand, joined, spent}
 use Rattle.chunk_board.proofs.Machine.{reached_sound}
+
+-- the first number of a list, read in two ways
+pub first_of : (l : List ℕ) (x : ℕ) → get_elem? l 0 ≡ some x → get_or l 0 0 ≡ x
+first_of [] x e = absurd (some-ne-none x (sym e))
+first_of (y ∷ l) x e = some-injective y x e
 
 run_more : (n : ℕ) (ss : List ClaimStep) (p q r : Claims) (s : ClaimStep) → IsRun n no_output ss p q → IsStep n no_output s q r → IsRun n no_output (ss ++ s ∷ []) p r
 run_more n [] p q r s e step = (r, subst (λ (q : Claims). IsStep n no_output s q r) e step, refl)

@@ -6,9 +6,7 @@ use Rattle.std.proofs.lemmas.Option.{slice_get_past, slice_get-get_or}
 use Rattle.chunk_board.proofs.Emptying.{there_last, there_before}
 use Rattle.part_relay.specs.Relays.{RelayView, SenderView}
 use Rattle.crew.specs.Crews.{ServeAll, AllHome, AreOut}
-
-no_some : {A : Type 0} {a : A} → None ≡ Some a → ⊥
-no_some e = cc
+use Rattle.chunk_board.proofs.PartSteps.{no_some}
 
 one_some : {A : Type 0} {a b : A} → Some a ≡ Some b → a ≡ b
 one_some e = cc

@@ -5,7 +5,7 @@ use Rattle.field_ext.specs.Field.{K}
 use Rattle.field_ext.specs.Bytes.{bytes_of, real_half, imaginary_half}
 use Rattle.field_ext.proofs.Elements.{F_eq}
 
-below_word : (n : ℕ) → n < 2147483647 → n < 4294967296
+pub below_word : (n : ℕ) → n < 2147483647 → n < 4294967296
 below_word n u = omega arith
 
 pub real_half_is : (x : K) → real_half (bytes_of x) ≡ x.re.value

@@ -8,3 +8,4 @@ pub mod Embedding
 pub mod ElementBytes
 pub mod Rings
 pub mod Solve
+pub mod Sums

@@ -1,9 +1,8 @@
 -- Where `verify` ends well the case is accepted, and if its outputs aren't the meaning, some challenge is exceptional.
-use Rattle.std.proofs.Common.{◌≡◌, ℕ, List, subst, Option, Some, Result, Ok, refl}
+use Rattle.std.proofs.Common.{◌≡◌, ℕ, List, subst, Option, Some, Ok, refl}
 use Rattle.case_text.specs.declared.form.Form.TheVariants.{Full}
 use Rattle.case_text.specs.Content.{Content}
 use Rattle.case_text.specs.Reading.{reading}
-use Rattle.case_text.specs.declared.refusal.BadCase.{BadCase}
 use Rattle.case_text.specs.declared.reply.Reply.{Reply}
 use Rattle.case_text.specs.declared.reply.Reply.TheVariants as replies
 use Rattle.case_prove.specs.Sound.{HasExceptionalChallenge, HasMeaning}
@@ -21,6 +20,7 @@ use Rattle.case_prove.proofs.AcceptedProofs.{meets, verdict_on}
 use Rattle.gkr_cmd.proofs.OneReply.{Found, found, long, no_case, of_case}
 use Rattle.gkr_cmd.proofs.ProofRefusals.{refusal_undone}
 use Rattle.gkr_cmd.proofs.VerifyAnswers.{Answer, answer, no_verdict, verdict}
+use Rattle.gkr_cmd.proofs.OneReply.{same_case as one_case}
 
 -- the reply of one that is accepted
 abbrev pub accepted_reply : Reply
@@ -47,9 +47,6 @@ pub accepted_of : (command : Option Command) (input : List ℕ) (reply : Reply) 
     (reply ≡ accepted_reply) × IsOfCase Full input HasAcceptedProof
 accepted_of command input reply is replied done =
     by_input input (found Full IsVerifyAnswer input reply (subst (λ c. IsCommandReply c input reply) is replied)) done
-
-one_case : (r : Result Content BadCase) (c d : Content) → r ≡ Ok c → r ≡ Ok d → c ≡ d
-one_case r c d is is' = cc
 
 -- the law of soundness, for the case that the input spells
 pub sound_of : ((c : Content) → IsVerdictOn c verdicts.Accepted → ¬ HasMeaning c → (n : ℕ) × HasExceptionalChallenge c n)

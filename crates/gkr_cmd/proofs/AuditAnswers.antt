@@ -1,5 +1,5 @@
 -- A case has at most one answer of `audit`, and that to a case with a proof by lines is its audit.
-use Rattle.std.proofs.Common.{◌≡◌, ℕ, List, subst, Option, Some, Result, Ok, refl, sym, ap}
+use Rattle.std.proofs.Common.{◌≡◌, ℕ, List, subst, Option, Some, Ok, refl, sym, ap}
 use Rattle.io_edge.specs.Written.{Grows}
 use Rattle.proof_wire.specs.declared.form.ProofForm.TheVariants.{Line}
 use Rattle.audit_core.specs.declared.report.Audit.{Audit}
@@ -16,13 +16,13 @@ use Rattle.gkr_words.specs.declared.words.CaseCommand.TheVariants as commands
 use Rattle.gkr_cmd.specs.Replies.{AreAuditLines, IsAuditAnswer, IsCommandReply, IsOfCase, status_of}
 use Rattle.case_text.specs.Reading.{reading}
 use Rattle.case_text.specs.Replies.{reply_text}
-use Rattle.case_text.specs.declared.refusal.BadCase.{BadCase}
 use Rattle.gkr_cmd.specs.RunLaws.{RunLaws}
 use Rattle.gkr_cmd.specs.Runs.{HasLineProof, WritesAudit}
 use Rattle.gkr_cmd.specs.Told.{audit_lines}
 use Rattle.gkr_cmd.proofs.CircuitAnswers.{IsOne}
 use Rattle.gkr_cmd.proofs.OneReply.{OneAnswer, Found, found, long, no_case, of_case}
 use Rattle.gkr_cmd.proofs.ProofRefusals.{IsOneProof, Refusal, refusal, refusal_undone, one_refusal, not_both}
+use Rattle.gkr_cmd.proofs.OneReply.{same_case as one_case}
 
 abbrev pub OneAudit : Type 0
 OneAudit = (c : Content) (audit other : Audit) → IsAudited c audit → IsAudited c other → audit ≡ other
@@ -106,9 +106,6 @@ audited_of command input reply is replied done = by_input input (found Full IsAu
 -- the case has a proof by lines
 pub line_proof_of : (input : List ℕ) (reply : Reply) → IsOfCase Full input (λ c. TellsAudit c reply) → IsOfCase Full input HasLineProof
 line_proof_of input reply case = record { within = case.within; content = case.content; read = case.read; holds = has_proof case.content reply case.holds }
-
-one_case : (r : Result Content BadCase) (c d : Content) → r ≡ Ok c → r ≡ Ok d → c ≡ d
-one_case r c d is is' = cc
 
 writes : RunLaws → (c : Content) (reply : Reply) (before after : Option (List ℕ)) → TellsAudit c reply → Grows before after (reply_text reply) → WritesAudit c before after
 writes laws c reply before after tells written = record {

@@ -1,5 +1,5 @@
 -- A case has at most one answer of `convert`, and that to a case that can be converted is the case that is written, with the verdicts of the case.
-use Rattle.std.proofs.Common.{◌≡◌, ◌↔◌, ◌∙◌, ℕ, List, drop, subst, Option, Some, Result, Ok, refl, sym, ap, arith}
+use Rattle.std.proofs.Common.{◌≡◌, ◌↔◌, ◌∙◌, ℕ, List, drop, subst, Option, Some, Ok, refl, sym, ap, arith}
 use Rattle.io_edge.specs.Written.{Grows}
 use Rattle.field_ext.specs.Field.{F}
 use Rattle.circuit_core.specs.Parts.{Parts}
@@ -19,7 +19,6 @@ use Rattle.case_text.specs.Reading.{reading}
 use Rattle.case_text.specs.Replies.{reply_text}
 use Rattle.case_text.specs.Spelling.{lower_case_text}
 use Rattle.case_text.specs.declared.form.Form.TheVariants.{Full}
-use Rattle.case_text.specs.declared.refusal.BadCase.{BadCase}
 use Rattle.case_text.specs.declared.reply.Reply.{Reply}
 use Rattle.case_text.specs.declared.reply.Reply.TheVariants as replies
 use Rattle.case_text.specs.declared.verdict.VerdictLine.{VerdictLine}
@@ -37,6 +36,7 @@ use Rattle.gkr_cmd.proofs.CircuitAnswers.{IsOne}
 use Rattle.gkr_cmd.proofs.OneReply.{OneAnswer, Found, found, long, no_case, of_case}
 use Rattle.gkr_cmd.proofs.VerifyAnswers.{answered_alike}
 use Rattle.gkr_cmd.proofs.ProofRefusals.{IsOneProof, Refusal, refusal, refusal_undone, one_refusal, not_both, same_parts, same_outputs}
+use Rattle.gkr_cmd.proofs.OneReply.{same_case as one_case}
 
 abbrev pub OneConverted : Type 0
 OneConverted = (version : ProofVersion) (c written other : Content) → IsConverted version c written → IsConverted version c other → written ≡ other
@@ -164,9 +164,6 @@ converted_of version command input reply is replied done = by_input version inpu
 -- the case can be converted
 pub convertible_of : (version : ProofVersion) (input : List ℕ) (reply : Reply) → IsOfCase Full input (λ c. TellsCase version c reply) → IsOfCase Full input (IsConvertible version)
 convertible_of version input reply case = record { within = case.within; content = case.content; read = case.read; holds = record { written = case.holds.written; is_converted = case.holds.is_converted } }
-
-one_case : (r : Result Content BadCase) (c d : Content) → r ≡ Ok c → r ≡ Ok d → c ≡ d
-one_case r c d is is' = cc
 
 writes : RunLaws → (version : ProofVersion) (input : List ℕ) (c : Content) (reply : Reply) (before after : Option (List ℕ)) → reading Full input ≡ Ok c → TellsCase version c reply → Grows before after (reply_text reply) → WritesConverted version c before after
 writes laws version input c reply before after read tells written =

@@ -1,5 +1,5 @@
 -- A number has at most one answer of `demo`.
-use Rattle.std.proofs.Common.{◌≡◌, ℕ, List, ◌∷◌, length, subst, Option, Some, refl, sym, ap, ◌∙◌}
+use Rattle.std.proofs.Common.{◌≡◌, ℕ, List, ◌∷◌, length, subst, Some, refl, sym, ap, ◌∙◌}
 use Rattle.field_ext.specs.Field.{F}
 use Rattle.sha2.specs.Sha256.{sha256}
 use Rattle.circuit_core.specs.Parts.{height}
@@ -14,9 +14,7 @@ use Rattle.gkr_cmd.proofs.CircuitAnswers.{IsOne}
 use Rattle.proof_two.specs.declared.kind.ProofKind.TheVariants.{ByLines}
 use Rattle.proof_two.specs.declared.kind.ProofVersion.TheVariants.{One}
 use Rattle.gkr_cmd.proofs.ProveAnswers.{IsOneProved}
-
-same_some : {A : Type 0} (o : Option A) (a b : A) → o ≡ Some a → o ≡ Some b → a ≡ b
-same_some o a b is is' = cc
+use Rattle.case_prove.proofs.ReadProofs.{one_value as same_some}
 
 head_is : {A : Type 0} (x y : A) (xs ys : List A) → x ∷ xs ≡ y ∷ ys → x ≡ y
 head_is x y xs ys e = cc

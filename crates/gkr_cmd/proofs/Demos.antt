@@ -25,6 +25,7 @@ use Rattle.proof_two.specs.declared.kind.ProofVersion.TheVariants.{One}
 use Rattle.case_prove.specs.Proved.{IsProved}
 use Rattle.case_prove.specs.Verified.{IsVerdictOn}
 use Rattle.gkr_cmd.specs.Demo.{HasFirst, IsDemo, square_text, demo_case, demo_size, demo_program, demo_inputs}
+use Rattle.case_prove.proofs.ReadProofs.{one_value as same_some}
 
 -- ---- the case has a text
 
@@ -76,9 +77,6 @@ pub record IsComputed : Type 0 where
   pub tree : (text : List ℕ) (a b : ProgramTree) → IsRead text a → IsRead text b → a ≡ b
   pub inputs : (text : List ℕ) (parts : Parts) (is : IsCompiled text parts) → parts.inputs ≡ input_count is.tree.inputs
   pub computes : (text : List ℕ) (parts : Parts) (is : IsCompiled text parts) (inputs : List F) → length inputs ≡ parts.inputs → Computes is.tree parts inputs
-
-same_some : {A : Type 0} (o : Option A) (a b : A) → o ≡ Some a → o ≡ Some b → a ≡ b
-same_some o a b is is' = cc
 
 -- a case that is proved has an output
 pub some_output : IsComputed → (c p : Content) (is : IsProved (ByLines One) c p) → 1 ≤ length is.outputs

@@ -1,5 +1,5 @@
 -- A script whose jobs may be withdrawn is answered with a history.
-use Rattle.std.proofs.Common.{◌≡◌, ◌≤◌, ℕ, List, length, Result, Ok, Err, refl, subst, arith}
+use Rattle.std.proofs.Common.{◌≡◌, ◌≤◌, ℕ, List, length, Result, Ok, Err, refl, subst}
 use Rattle.case_text.specs.Histories.{History}
 use Rattle.case_text.specs.declared.refusal.BadCase.{BadCase}
 use Rattle.case_text.specs.declared.reply.Reply.{Reply}
@@ -9,7 +9,8 @@ use Rattle.script_text.specs.Scripts.{history_script_reading}
 use Rattle.script_prove.specs.Served.{IsServedHistory}
 use Rattle.gkr_cmd.specs.declared.status.Status.TheVariants.{Done}
 use Rattle.gkr_words.specs.Commands.{script_limit}
-use Rattle.gkr_cmd.specs.Replies.{IsHistoryReply, IsTooLong, status_of}
+use Rattle.gkr_cmd.specs.Replies.{IsHistoryReply, status_of}
+use Rattle.gkr_cmd.proofs.ScriptReplies.{long_or_not}
 
 -- the reply reports such a history
 pub record Tells (script : List MarkedJob) (reply : Reply) : Type 0 where
@@ -23,9 +24,6 @@ same_script r a b is is' = cc
 
 script_or_not : (r : Result (List MarkedJob) BadCase) (a : List MarkedJob) (bad : BadCase) → r ≡ Ok a → r ≡ Err bad → ⊥
 script_or_not r a bad is is' = cc
-
-long_or_not : (input : List ℕ) (limit : ℕ) → IsTooLong script_limit input limit → length input ≤ script_limit → ⊥
-long_or_not input limit is within = let longer = is.longer in omega arith
 
 pub tells : (input : List ℕ) (reply : Reply) → IsHistoryReply input reply → (script : List MarkedJob) → history_script_reading input ≡ Ok script → length input ≤ script_limit → Tells script reply
 tells input (replies.TooLong limit) is script read within = absurd (long_or_not input limit is within)

@@ -51,7 +51,7 @@ found form answers input (replies.Audit lines) is = of_case is.content is.within
 found form answers input (replies.WordCount have need) is = of_case is.content is.within is.read is.holds
 found form answers input (replies.Session sizes) is = of_case is.content is.within is.read is.holds
 
-same_case : (r : Result Content BadCase) (c d : Content) → r ≡ Ok c → r ≡ Ok d → c ≡ d
+pub same_case : (r : Result Content BadCase) (c d : Content) → r ≡ Ok c → r ≡ Ok d → c ≡ d
 same_case r c d is is' = cc
 
 same_stop : (r : Result Content BadCase) (a b : BadCase) → r ≡ Err a → r ≡ Err b → a ≡ b
@@ -60,7 +60,7 @@ same_stop r a b is is' = cc
 case_or_not : (r : Result Content BadCase) (c : Content) (bad : BadCase) → r ≡ Ok c → r ≡ Err bad → ⊥
 case_or_not r c bad is is' = cc
 
-long_or_not : (input : List ℕ) (limit : ℕ) → IsTooLong case_limit input limit → IsWithinLimit input → ⊥
+pub long_or_not : (input : List ℕ) (limit : ℕ) → IsTooLong case_limit input limit → IsWithinLimit input → ⊥
 long_or_not input limit is within = let longer = is.longer in omega arith
 
 one_found : (form : Form) (answers : Content → Reply → Type 0) → OneAnswer answers → (input : List ℕ) {a b : Reply} → Found form answers input a → Found form answers input b → a ≡ b

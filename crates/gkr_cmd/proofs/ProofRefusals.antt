@@ -1,5 +1,5 @@
 -- A case whose proof is read as one of a form has at most one refusal, and none where the proof spells messages.
-use Rattle.std.proofs.Common.{◌≡◌, ℕ, List, length, drop, Option, Some, refl, subst, sym, ap, ◌∙◌}
+use Rattle.std.proofs.Common.{◌≡◌, ℕ, List, length, drop, Some, refl, subst, sym, ap, ◌∙◌}
 use Rattle.field_ext.specs.Field.{F}
 use Rattle.circuit_core.specs.Parts.{Parts}
 use Rattle.circuit_core.specs.Sound.{exponents}
@@ -21,6 +21,7 @@ use Rattle.case_prove.specs.declared.refused.Refused.TheVariants as refusals
 use Rattle.gkr_cmd.specs.declared.status.Status.TheVariants.{Done}
 use Rattle.gkr_cmd.specs.Replies.{IsProofRefusal, status_of}
 use Rattle.gkr_cmd.proofs.CircuitAnswers.{IsOne, reply_to, same_counts, counted_or_not}
+use Rattle.case_prove.proofs.ReadProofs.{one_value}
 
 -- a proof says messages in one form alone, and there the same messages, or it has one first trouble
 pub record IsOneProof : Type 0 where
@@ -56,9 +57,6 @@ refusal form c (replies.Verdict line) is = absurd is
 refusal form c (replies.Audit lines) is = absurd is
 refusal form c (replies.WordCount have need) is = absurd is
 refusal form c (replies.Session sizes) is = absurd is
-
-pub one_value : {A : Type 0} (o : Option A) (a b : A) → o ≡ Some a → o ≡ Some b → a ≡ b
-one_value o a b is is' = cc
 
 pub same_parts : IsOne → (c : Content) (p p' : Parts) (o o' : List F) → IsClaim c p o → IsClaim c p' o' → p ≡ p'
 same_parts one c p p' o o' is is' = one.circuit c.program p p' is.compiled is'.compiled

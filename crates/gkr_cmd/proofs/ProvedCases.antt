@@ -1,12 +1,11 @@
 -- Where `prove` ends well, its text is that of the case with the one honest proof, and of an accepted case.
-use Rattle.std.proofs.Common.{◌≡◌, ◌↔◌, ◌<◌, ℕ, List, length, subst, Option, Some, Result, Ok, refl, arith}
+use Rattle.std.proofs.Common.{◌≡◌, ◌↔◌, ◌<◌, ℕ, List, length, subst, Option, Some, Ok, refl, arith}
 use Rattle.case_text.specs.declared.form.Form.{Form}
 use Rattle.case_text.specs.declared.form.Form.TheVariants.{Full, Plain}
 use Rattle.proof_two.specs.declared.kind.ProofKind.{ProofKind}
 use Rattle.case_text.specs.Content.{Content, Fits}
 use Rattle.case_text.specs.Reading.{reading}
 use Rattle.case_text.specs.Spelling.{Spells, lower_case_text}
-use Rattle.case_text.specs.declared.refusal.BadCase.{BadCase}
 use Rattle.case_text.specs.declared.reply.Reply.{Reply}
 use Rattle.case_text.specs.declared.reply.Reply.TheVariants as replies
 use Rattle.arr_compile.specs.declared.refused.BadProgram.TheVariants.{At, Deep, Wide}
@@ -22,6 +21,7 @@ use Rattle.case_prove.specs.Answers.{IsProveAnswer}
 use Rattle.case_prove.proofs.AcceptedProofs.{meets}
 use Rattle.gkr_cmd.proofs.OneReply.{Found, found, long, no_case, of_case}
 use Rattle.gkr_cmd.proofs.ProveAnswers.{Answer, answer, refused, miscounted, proved}
+use Rattle.gkr_cmd.proofs.OneReply.{same_case as one_case}
 
 -- the reply is that of this case, proved
 pub record ProvesIt (kind : ProofKind) (c : Content) (reply : Reply) : Type 0 where
@@ -46,9 +46,6 @@ by_input : (kind : ProofKind) (input : List ℕ) {reply : Reply} → Found Plain
 by_input kind input (long limit is) e = absurd cc
 by_input kind input (no_case bad is) e = absurd cc
 by_input kind input {reply} (of_case c within read is) e = record { content = c; read = read; proves = by_answer kind c (answer kind c reply is) e }
-
-one_case : (r : Result Content BadCase) (c d : Content) → r ≡ Ok c → r ≡ Ok d → c ≡ d
-one_case r c d is is' = cc
 
 -- the reply of `prove` with status 0, to the case that the input spells
 pub proved_of : (workers : ℕ) (kind : ProofKind) (command : Option Command) (input : List ℕ) (content : Content) (reply : Reply) → command ≡ Some (OfCase (Prove workers kind)) → IsCommandReply command input reply → status_of reply ≡ Done

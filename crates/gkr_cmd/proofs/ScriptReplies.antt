@@ -53,7 +53,7 @@ same_stop r a b is is' = cc
 script_or_not : (r : Result (List ScriptJob) BadCase) (a : List ScriptJob) (bad : BadCase) → r ≡ Ok a → r ≡ Err bad → ⊥
 script_or_not r a bad is is' = cc
 
-long_or_not : (input : List ℕ) (limit : ℕ) → IsTooLong script_limit input limit → length input ≤ script_limit → ⊥
+pub long_or_not : (input : List ℕ) (limit : ℕ) → IsTooLong script_limit input limit → length input ≤ script_limit → ⊥
 long_or_not input limit is within = let longer = is.longer in omega arith
 
 -- a job has one reply, where each case has one

@@ -1,6 +1,6 @@
 -- A text has at most one answer of `session`, and that to a case that has a circuit, with two words for each challenge, is the session's
 -- sizes.
-use Rattle.std.proofs.Common.{◌≡◌, ◌*◌, ℕ, List, Option, Result, Ok, Err, refl, sym, ap, subst, ◌∙◌, arith}
+use Rattle.std.proofs.Common.{◌≡◌, ◌*◌, ℕ, List, Option, Result, Ok, Err, refl, sym, ap, subst, ◌∙◌}
 use Rattle.field_ext.specs.Field.{F}
 use Rattle.circuit_core.specs.Parts.{Parts}
 use Rattle.gkr_layers.specs.Layers.{challenges_of}
@@ -22,6 +22,7 @@ use Rattle.gkr_cmd.specs.declared.status.Status.TheVariants.{Done}
 use Rattle.gkr_cmd.specs.Replies.{IsNoSession, IsOfSession, IsSessionReply, IsTooLong, IsWithinLimit, status_of}
 use Rattle.gkr_cmd.specs.Runs.{HasWords, WritesSession}
 use Rattle.gkr_cmd.proofs.CircuitAnswers.{IsOne, counted_or_not, reply_to, same_counts}
+use Rattle.gkr_cmd.proofs.OneReply.{long_or_not}
 
 abbrev pub OneSession : Type 0
 OneSession = (c : Content) (words : List F) (some others : SessionSizes) → IsSession c words some → IsSession c words others → some ≡ others
@@ -98,9 +99,6 @@ same_stop r a b is is' = cc
 
 session_or_not : (r : Result SessionContent BadCase) (s : SessionContent) (bad : BadCase) → r ≡ Ok s → r ≡ Err bad → ⊥
 session_or_not r s bad is is' = cc
-
-long_or_not : (input : List ℕ) (limit : ℕ) → IsTooLong case_limit input limit → IsWithinLimit input → ⊥
-long_or_not input limit is within = let longer = is.longer in omega arith
 
 one_found : IsOne → OneSession → (input : List ℕ) {a b : Reply} → Found input a → Found input b → a ≡ b
 one_found one sizes input (long limit is) (long limit' is') = ap replies.TooLong (is.limit_is ∙ sym is'.limit_is)

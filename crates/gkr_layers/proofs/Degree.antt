@@ -17,7 +17,7 @@ use Rattle.proof_wire.specs.Forms.{last_degree}
 use Rattle.gkr_layers.specs.Forms.{last_polynomial}
 use Rattle.proof_wire.specs.declared.form.ProofForm.TheVariants.{Line, Pair}
 use Rattle.gkr_layers.specs.Sumcheck.{round_polynomial, line_between, line_polynomial}
-use Rattle.gkr_layers.proofs.Soundness.{few_exceptional}
+use Rattle.gkr_layers.proofs.Soundness.{few_exceptional, length-sum}
 
 -- the degrees of all coordinates together
 abbrev pub degrees : {A : Type 0} → List (List A) → ℕ
@@ -38,33 +38,27 @@ module _ {A : Type 0} (o : Ops A) where
   degrees-constants [] = refl
   degrees-constants (x ∷ xs) = omega (arith, degrees-constants xs)
 
-  length-sum : (p q : List A) (n : ℕ) → length p ≤ n → length q ≤ n → length (sum_of o p q) ≤ n
-  length-sum [] q n u v = v
-  length-sum (c ∷ cs) [] n u v = u
-  length-sum (c ∷ cs) (d ∷ ds) zero u v = absurd (omega arith)
-  length-sum (c ∷ cs) (d ∷ ds) (suc n) u v = let h : length (sum_of o cs ds) ≤ n = length-sum cs ds n (omega arith) (omega arith) in omega arith
-
   length-product : (p q : List A) (m n : ℕ) → length p ≤ m + 1 → length q ≤ n + 1 → length (product_of o p q) ≤ m + n + 1
   length-product [] q m n u v = omega arith
   length-product (c ∷ cs) [] m n u v = omega arith
   length-product (c ∷ cs) (d ∷ ds) zero n u v =
       let s : length (product_of o cs (d ∷ ds)) ≤ n = short cs (omega arith) in
-      let r = length-sum (map (o.mul c) ds) (product_of o cs (d ∷ ds)) n (omega (arith, length-map ds (o.mul c), v)) s in omega (arith, r)
+      let r = length-sum o (map (o.mul c) ds) (product_of o cs (d ∷ ds)) n (omega (arith, length-map ds (o.mul c), v)) s in omega (arith, r)
     where
       short : (xs : List A) → length xs ≤ 0 → length (product_of o xs (d ∷ ds)) ≤ n
       short [] h = omega arith
       short (x ∷ xs) h = absurd (omega arith)
   length-product (c ∷ cs) (d ∷ ds) (suc m) n u v =
       let s : length (product_of o cs (d ∷ ds)) ≤ m + n + 1 = length-product cs (d ∷ ds) m n (omega arith) v in
-      let r = length-sum (map (o.mul c) ds) (product_of o cs (d ∷ ds)) (m + n + 1) (omega (arith, length-map ds (o.mul c), v)) s in omega (arith, r)
+      let r = length-sum o (map (o.mul c) ds) (product_of o cs (d ∷ ds)) (m + n + 1) (omega (arith, length-map ds (o.mul c), v)) s in omega (arith, r)
 
   pub length-sum_below : (n : ℕ) (f : ℕ → List A) (d : ℕ) → ((k : ℕ) → length (f k) ≤ d) → length (sum_below (polynomial_ops o) n f) ≤ d
   length-sum_below zero f d h = omega arith
-  length-sum_below (suc n) f d h = length-sum (sum_below (polynomial_ops o) n f) (f n) d (length-sum_below n f d h) (h n)
+  length-sum_below (suc n) f d h = length-sum o (sum_below (polynomial_ops o) n f) (f n) d (length-sum_below n f d h) (h n)
 
   length-sum_gates : (g : ℕ) (gates : List CircuitGate) (f : ℕ → CircuitGate → List A) (d : ℕ) → ((k : ℕ) (gate : CircuitGate) → length (f k gate) ≤ d) → length (sum_gates (polynomial_ops o) g gates f) ≤ d
   length-sum_gates g [] f d h = omega arith
-  length-sum_gates g (gate ∷ gates) f d h = length-sum (f g gate) (sum_gates (polynomial_ops o) (g + 1) gates f) d (h g gate) (length-sum_gates (g + 1) gates f d h)
+  length-sum_gates g (gate ∷ gates) f d h = length-sum o (f g gate) (sum_gates (polynomial_ops o) (g + 1) gates f) d (h g gate) (length-sum_gates (g + 1) gates f d h)
 
   length-eq_poly : (us : List (List A)) (g : ℕ) → length (eq_poly (polynomial_ops o) us g) ≤ degrees us + 1
   length-eq_poly [] g = omega arith
@@ -73,7 +67,7 @@ module _ {A : Type 0} (o : Ops A) where
     where
       factor : (b : Bool) → length (if b then u else sum_of o (o.one ∷ []) (map o.neg u)) ≤ length u - 1 + 1
       factor true = omega arith
-      factor false = length-sum (o.one ∷ []) (map o.neg u) (length u - 1 + 1) (omega arith) (omega (arith, length-map u o.neg))
+      factor false = length-sum o (o.one ∷ []) (map o.neg u) (length u - 1 + 1) (omega arith) (omega (arith, length-map u o.neg))
 
   length-extension_at : (t : List A) (us : List (List A)) → length (extension_at (polynomial_ops o) o (constant o) t us) ≤ degrees us + 1
   length-extension_at t us =
@@ -105,7 +99,7 @@ module _ {A : Type 0} (o : Ops A) where
       let hb : length (f (map (constant o) b)) ≤ d + 1 = omega (arith, h (map (constant o) b), degrees-constants b) in
       let hc : length (f (map (constant o) c)) ≤ d + 1 = omega (arith, h (map (constant o) c), degrees-constants c) in
       let p : length (product_of o (constant o a) (f (map (constant o) c))) ≤ 0 + d + 1 = length-product (constant o a) (f (map (constant o) c)) 0 d (omega arith) hc in
-      length-sum (f (map (constant o) b)) (product_of o (constant o a) (f (map (constant o) c))) (d + 1) hb (omega (arith, p))
+      length-sum o (f (map (constant o) b)) (product_of o (constant o a) (f (map (constant o) c))) (d + 1) hb (omega (arith, p))
 
   pub length-weighted_summand : (gates : List CircuitGate) (t : List A) (place : Place A) (b c : List (List A)) →
       length (weighted_summand (polynomial_ops o) o (constant o) gates t (map_place (constant o) place) b c) ≤ 2 * (degrees b + degrees c) + 1
@@ -119,16 +113,16 @@ module _ {A : Type 0} (o : Ops A) where
       let ec = length-extension_at t c in
       let wa : length add ≤ degrees b + degrees c + 1 = length-weighted place _ (degrees b + degrees c) (λ z. length-wiring_add gates z b c) in
       let wm : length mul ≤ degrees b + degrees c + 1 = length-weighted place _ (degrees b + degrees c) (λ z. length-wiring_mul gates z b c) in
-      let s : length (sum_of o vb vc) ≤ degrees b + degrees c + 1 = length-sum vb vc (degrees b + degrees c + 1) (omega (arith, eb)) (omega (arith, ec)) in
+      let s : length (sum_of o vb vc) ≤ degrees b + degrees c + 1 = length-sum o vb vc (degrees b + degrees c + 1) (omega (arith, eb)) (omega (arith, ec)) in
       let p : length (product_of o vb vc) ≤ degrees b + degrees c + 1 = length-product vb vc (degrees b) (degrees c) eb ec in
       let ha = length-product add (sum_of o vb vc) (degrees b + degrees c) (degrees b + degrees c) wa s in
       let hm = length-product mul (product_of o vb vc) (degrees b + degrees c) (degrees b + degrees c) wm p in
-      length-sum (product_of o add (sum_of o vb vc)) (product_of o mul (product_of o vb vc)) (2 * (degrees b + degrees c) + 1) (omega (arith, ha)) (omega (arith, hm))
+      length-sum o (product_of o add (sum_of o vb vc)) (product_of o mul (product_of o vb vc)) (2 * (degrees b + degrees c) + 1) (omega (arith, ha)) (omega (arith, hm))
 
   pub length-sum_cube : (n : ℕ) (f : List (List A) → List A) (d : ℕ) → ((w : List (List A)) → degrees w ≡ 0 → length (f w) ≤ d) → length (sum_cube (polynomial_ops o) n f) ≤ d
   length-sum_cube zero f d h = h [] refl
   length-sum_cube (suc n) f d h =
-      length-sum _ _ d (length-sum_cube n (λ w. f ([] ∷ w)) d (λ w z. h ([] ∷ w) (omega (arith, z)))) (length-sum_cube n (λ w. f ((o.one ∷ []) ∷ w)) d (λ w z. h ((o.one ∷ []) ∷ w) (omega (arith, z))))
+      length-sum o _ _ d (length-sum_cube n (λ w. f ([] ∷ w)) d (λ w z. h ([] ∷ w) (omega (arith, z)))) (length-sum_cube n (λ w. f ((o.one ∷ []) ∷ w)) d (λ w z. h ((o.one ∷ []) ∷ w) (omega (arith, z))))
 
   pub length-round_polynomial : (k : ℕ) (gates : List CircuitGate) (t : List A) (place : Place A) (bound : List A) (n : ℕ) → length (round_polynomial o k gates t place bound n) ≤ 3
   length-round_polynomial k gates t place bound n =

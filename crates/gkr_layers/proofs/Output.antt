@@ -1,5 +1,5 @@
 -- Two tables that differ have different values at the output point, or a coordinate is exceptional; and few are
-use Rattle.std.proofs.Common.{◌≡◌, ℕ, zero, suc, ◌*◌, ◌^◌, ◌<◌, ◌≤◌, ◌⊎◌, inl, inr, List, [], ◌∷◌, length, take, get_or, All, refl, sym, ◌∙◌, ap, ap₂, arith, pow-suc}
+use Rattle.std.proofs.Common.{◌≡◌, ℕ, zero, suc, ◌^◌, ◌<◌, ◌≤◌, ◌⊎◌, inl, inr, List, [], ◌∷◌, length, take, get_or, All, refl, sym, ◌∙◌, ap, ap₂, arith, pow-suc}
 use Rattle.std.proofs.lemmas.List.Elements.{All-head, All-tail, All-cons, All-nil}
 use Rattle.field_ext.specs.Ring.{Ops, Laws}
 use Rattle.field_ext.specs.Polynomial.{IsZero, Distinct, HasAtMost}
@@ -11,6 +11,7 @@ use Rattle.field_ext.proofs.Solve.{var, nil, ◌⊕◌, ◌⊗◌, minus, solve}
 use Rattle.poly_roots.proofs.Roots.{few_roots}
 use Rattle.mle_table.proofs.Fold.{fold_law}
 use Rattle.mle_table.proofs.Points.{ext-nil}
+use Rattle.mle_table.proofs.Steps.{length-fold}
 
 module _ {A : Type 0} (o : Ops A) (l : Laws A o) (same : (x y : A) → (x ≡ y) ⊎ (x ≡ y → ⊥)) where
   abbrev Z : A → Type 0
@@ -24,12 +25,6 @@ module _ {A : Type 0} (o : Ops A) (l : Laws A o) (same : (x y : A) → (x ≡ y)
         | inr n ↦ inr (λ h. n (All-head Z x t h))
       ]
 
-  length-folded : (t : List A) (r : A) (h : ℕ) → length t ≡ h * 2 → length (folded o t r) ≡ h
-  length-folded [] r h e = omega arith
-  length-folded (a ∷ []) r h e = absurd (omega arith)
-  length-folded (a ∷ b ∷ t) r zero e = absurd (omega arith)
-  length-folded (a ∷ b ∷ t) r (suc h) e = let i : length (folded o t r) ≡ h = length-folded t r h (omega arith) in omega arith
-
   pub sound_output : (zs d : List A) → length d ≡ 2 ^ length zs → ¬ IsZero o d →
       ((extension_at o o (λ x. x) d zs ≡ o.zero) → ⊥) ⊎ ((n : ℕ) × (n < length zs) × IsExceptionalFold o d (take n zs) (get_or zs n o.zero))
   sound_output [] [] s nz = absurd (omega arith)
@@ -39,7 +34,7 @@ module _ {A : Type 0} (o : Ops A) (l : Laws A o) (same : (x y : A) → (x ≡ y)
       elim (all_zero? (folded o d z)) [
         | inl h ↦ inr (0, omega arith, (nz, h))
         | inr n ↦
-            elim (sound_output zs (folded o d z) (length-folded d z (2 ^ length zs) (s ∙ pow-suc 2 (length zs))) n) [
+            elim (sound_output zs (folded o d z) (length-fold o l d z (2 ^ length zs) (s ∙ pow-suc 2 (length zs))) n) [
               | inl m ↦ inl (λ e. m (fold_law o l d zs z ∙ e))
               | inr w ↦ inr (suc w.0, more (w.1), w.2)
             ]

@@ -46,7 +46,7 @@ module _ {A : Type 0} (z : A) where
   zeros-at (suc m) zero = refl
   zeros-at (suc m) (suc i) = zeros-at m i
 
-  behind-zero : (values : List A) (m i : ℕ) → get_or (values ++ replicate m z) i z ≡ get_or values i z
+  pub behind-zero : (values : List A) (m i : ℕ) → get_or (values ++ replicate m z) i z ≡ get_or values i z
   behind-zero [] m i = zeros-at m i
   behind-zero (v ∷ vs) m zero = refl
   behind-zero (v ∷ vs) m (suc i) = behind-zero vs m i

@@ -117,7 +117,7 @@ pub leaves_fit : (c : SoundCircuit) → length c.parts.leaves < width_of c.parts
 leaves_fit c = let room = leaves_room c.parts (none_from_test _ c.faultless) in omega (arith, room)
 
 -- elements of F_p that are the same in K are the same
-parts_of : (xs : List F) → map (λ (x : K). x.re) (map embed_k xs) ≡ xs
+pub parts_of : (xs : List F) → map (λ (x : K). x.re) (map embed_k xs) ≡ xs
 parts_of [] = refl
 parts_of (x ∷ xs) = ap (λ (ys : List F). x ∷ ys) (parts_of xs)
 

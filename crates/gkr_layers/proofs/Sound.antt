@@ -30,7 +30,7 @@ length-difference (y ∷ ys) [] e = absurd (omega arith)
 length-difference (y ∷ ys) (v ∷ vs) e = ap (λ (n : ℕ). suc n) (length-difference ys vs (omega arith))
 
 -- tables whose difference is zero are equal
-no_difference : (ys vs : List K) → length ys ≡ length vs → IsZero k_ops (difference k_ops ys vs) → ys ≡ vs
+pub no_difference : (ys vs : List K) → length ys ≡ length vs → IsZero k_ops (difference k_ops ys vs) → ys ≡ vs
 no_difference ys vs e z =
     ext_get_or zero_k ys vs e (λ g u.
     let inside : g < length (difference k_ops ys vs) = omega (arith, length-difference ys vs e) in

@@ -13,6 +13,13 @@ use Rattle.poly_roots.proofs.Roots.{few_roots}
 use Rattle.mle_table.proofs.SumLaws.{sum_cube-same}
 use Rattle.gkr_layers.proofs.RoundPoly.{value-neg}
 
+module _ {A : Type 0} (o : Ops A) where
+  pub length-sum : (p q : List A) (n : ℕ) → length p ≤ n → length q ≤ n → length (sum_of o p q) ≤ n
+  length-sum [] q n u v = v
+  length-sum (c ∷ cs) [] n u v = u
+  length-sum (c ∷ cs) (d ∷ ds) zero u v = absurd (omega arith)
+  length-sum (c ∷ cs) (d ∷ ds) (suc n) u v = let h : length (sum_of o cs ds) ≤ n = length-sum cs ds n (omega arith) (omega arith) in omega arith
+
 module _ {A : Type 0} (o : Ops A) (l : Laws A o) where
   pub value-same : (p q : List A) (e : A) → SamePolynomial o p q → value_at o p e ≡ value_at o q e
   value-same [] [] e s = refl
@@ -33,12 +40,6 @@ module _ {A : Type 0} (o : Ops A) (l : Laws A o) where
   get_or-neg (c ∷ cs) zero = refl
   get_or-neg (c ∷ cs) (suc j) = get_or-neg cs j
 
-  pub length-sum : (p q : List A) (n : ℕ) → length p ≤ n → length q ≤ n → length (sum_of o p q) ≤ n
-  length-sum [] q n u v = v
-  length-sum (c ∷ cs) [] n u v = u
-  length-sum (c ∷ cs) (d ∷ ds) zero u v = absurd (omega arith)
-  length-sum (c ∷ cs) (d ∷ ds) (suc n) u v = let h : length (sum_of o cs ds) ≤ n = length-sum cs ds n (omega arith) (omega arith) in omega arith
-
   module _ (domain : (x y : A) → o.mul x y ≡ o.zero → (x ≡ o.zero) ⊎ (y ≡ o.zero)) where
     -- no more than the degree's number of exceptional challenges
     pub few_exceptional : (d : ℕ) (q r : List A) → length q ≤ d + 1 → length r ≤ d + 1 → HasAtMost d (IsExceptionalFor o q r)
@@ -47,7 +48,7 @@ module _ {A : Type 0} (o : Ops A) (l : Laws A o) where
         let differ : ¬ SamePolynomial o q r = (All-head (IsExceptionalFor o q r) x xs es).0 in
         let diff : List A = sum_of o q (map o.neg r) in
         let lr = length-map r o.neg in
-        few_roots o l domain d diff (length-sum q (map o.neg r) (d + 1) u (omega (arith, v, lr)))
+        few_roots o l domain d diff (length-sum o q (map o.neg r) (d + 1) u (omega (arith, v, lr)))
         (λ z. differ (λ j.
         add_cancel o l (get_or q j o.zero) (get_or r j o.zero) (o.neg (get_or r j o.zero))
         (ap (o.add (get_or q j o.zero)) (sym (get_or-neg r j)) ∙ sym (get_or-sum q (map o.neg r) j) ∙ all_zero diff z j ∙ sym (l.add_neg (get_or r j o.zero)))))

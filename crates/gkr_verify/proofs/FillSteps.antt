@@ -19,23 +19,6 @@ pub ok_map : {A E : Type 0} (P Q : A → Type 0) (r : Result A E) → ((x : A) �
 ok_map P Q (Ok x) f h = f x h
 ok_map P Q (Err e) f h = h
 
-first_same : (a b c x y z : K) → a ∷ b ∷ c ∷ [] ≡ x ∷ y ∷ z ∷ [] → a ≡ x
-first_same a b c x y z e = cc e
-
-second_same : (a b c x y z : K) → a ∷ b ∷ c ∷ [] ≡ x ∷ y ∷ z ∷ [] → b ≡ y
-second_same a b c x y z e = cc e
-
-third_same : (a b c x y z : K) → a ∷ b ∷ c ∷ [] ≡ x ∷ y ∷ z ∷ [] → c ≡ z
-third_same a b c x y z e = cc e
-
--- a message is known by its coefficients
-pub round_by_coefficients : (x y : Round) → coefficients_of x ≡ coefficients_of y → x ≡ y
-round_by_coefficients x y e = λ i. record {
-  c0 = first_same x.c0 x.c1 x.c2 y.c0 y.c1 y.c2 e i;
-  c1 = second_same x.c0 x.c1 x.c2 y.c0 y.c1 y.c2 e i;
-  c2 = third_same x.c0 x.c1 x.c2 y.c0 y.c1 y.c2 e i;
-}
-
 module _ (source : Source) (s0 : List ℕ) (claim0 : K) where
   -- i messages of rounds are filled in
   pub record RoundsFilled (all : List RoundPair) (before : List K) (i : ℕ) (s : List ℕ) (claim : K) (made : List Round) (drawn : List K) : Type 0 where
@@ -82,17 +65,14 @@ module _ (source : Source) (s0 : List ℕ) (claim0 : K) where
       }
 
     module _ (u : length all ≤ i) where
-      none : [] ≡ drop i all
-      none = sym (drop_of_length-le all u)
-
       pub rounds_made : made ≡ filled_rounds source s0 claim0 all
-      rounds_made = sym (append-nil made) ∙ ap (λ (xs : List RoundPair). made ++ filled_rounds source s claim xs) none ∙ p.made_is
+      rounds_made = sym (append-nil made) ∙ ap (λ (xs : List RoundPair). made ++ filled_rounds source s claim xs) (sym (drop_of_length-le all u)) ∙ p.made_is
 
       pub rounds_drawn : drawn ≡ before ++ draws source s0 (round_messages (filled_rounds source s0 claim0 all))
-      rounds_drawn = sym (append-nil drawn) ∙ ap (λ (xs : List RoundPair). drawn ++ draws source s (round_messages (filled_rounds source s claim xs))) none ∙ p.drawn_is
+      rounds_drawn = sym (append-nil drawn) ∙ ap (λ (xs : List RoundPair). drawn ++ draws source s (round_messages (filled_rounds source s claim xs))) (sym (drop_of_length-le all u)) ∙ p.drawn_is
 
       pub rounds_state : s ≡ state_after source s0 (round_messages (filled_rounds source s0 claim0 all))
-      rounds_state = ap (λ (xs : List RoundPair). state_after source s (round_messages (filled_rounds source s claim xs))) none ∙ p.state_is
+      rounds_state = ap (λ (xs : List RoundPair). state_after source s (round_messages (filled_rounds source s claim xs))) (sym (drop_of_length-le all u)) ∙ p.state_is
 
   -- i layers are filled in
   pub record LayersFilled (all : List LayerPairs) (before : List K) (i : ℕ) (s : List ℕ) (claim : K) (made : List LayerMessages) (drawn : List K) : Type 0 where
@@ -150,17 +130,14 @@ module _ (source : Source) (s0 : List ℕ) (claim0 : K) where
       }
 
     module _ (u : length all ≤ i) where
-      no_layer : [] ≡ drop i all
-      no_layer = sym (drop_of_length-le all u)
-
       pub layers_made : made ≡ filled_layers source s0 claim0 all
-      layers_made = sym (append-nil made) ∙ ap (λ (xs : List LayerPairs). made ++ filled_layers source s claim xs) no_layer ∙ p.made_is
+      layers_made = sym (append-nil made) ∙ ap (λ (xs : List LayerPairs). made ++ filled_layers source s claim xs) (sym (drop_of_length-le all u)) ∙ p.made_is
 
       pub layers_drawn : drawn ≡ before ++ draws source s0 (all_messages (filled_layers source s0 claim0 all))
-      layers_drawn = sym (append-nil drawn) ∙ ap (λ (xs : List LayerPairs). drawn ++ draws source s (all_messages (filled_layers source s claim xs))) no_layer ∙ p.drawn_is
+      layers_drawn = sym (append-nil drawn) ∙ ap (λ (xs : List LayerPairs). drawn ++ draws source s (all_messages (filled_layers source s claim xs))) (sym (drop_of_length-le all u)) ∙ p.drawn_is
 
       pub layers_state : s ≡ state_after source s0 (all_messages (filled_layers source s0 claim0 all))
-      layers_state = ap (λ (xs : List LayerPairs). state_after source s (all_messages (filled_layers source s claim xs))) no_layer ∙ p.state_is
+      layers_state = ap (λ (xs : List LayerPairs). state_after source s (all_messages (filled_layers source s claim xs))) (sym (drop_of_length-le all u)) ∙ p.state_is
 
 -- the challenge after a layer's last message
 module _ (source : Source) (s : List ℕ) (layer : LayerMessages) where

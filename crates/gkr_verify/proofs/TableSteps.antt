@@ -1,5 +1,5 @@
 -- Sums over a table of 0, values and zeros, whose elements lie in F_p
-use Rattle.std.proofs.Common.{◌≡◌, ℕ, zero, suc, ◌+◌, ◌-◌, ◌≤◌, ◌⊎◌, inl, inr, List, [], ◌∷◌, ◌++◌, length, map, get_or, replicate, refl, sym, ◌∙◌, ap, arith, add-one}
+use Rattle.std.proofs.Common.{◌≡◌, ℕ, zero, suc, ◌+◌, ◌-◌, ◌≤◌, ◌⊎◌, inl, inr, List, length, map, get_or, sym, ◌∙◌, ap, arith, add-one}
 use Rattle.std.proofs.lemmas.List.{get_or_past}
 use Rattle.std.proofs.lemmas.Bool.{cases_eq}
 use Rattle.field_ext.specs.Ring.{Ops, Laws}
@@ -9,17 +9,7 @@ use Rattle.field_ext.proofs.KLaws.{k_laws}
 use Rattle.field_ext.proofs.Rings.{zero_add, zero_mul}
 use Rattle.circuit_core.specs.Parts.{padded_values, zero_f}
 use Rattle.gkr_layers.proofs.Circuits.{read-embed}
-
-module _ {A : Type 0} (z : A) where
-  zeros-at : (m i : ℕ) → get_or (replicate m z) i z ≡ z
-  zeros-at zero i = refl
-  zeros-at (suc m) zero = refl
-  zeros-at (suc m) (suc i) = zeros-at m i
-
-  behind-zero : (values : List A) (m i : ℕ) → get_or (values ++ replicate m z) i z ≡ get_or values i z
-  behind-zero [] m i = zeros-at m i
-  behind-zero (v ∷ vs) m zero = refl
-  behind-zero (v ∷ vs) m (suc i) = behind-zero vs m i
+use Rattle.gkr_layers.proofs.Outputs.{behind-zero}
 
 module _ {A : Type 0} (o : Ops A) (l : Laws A o) where
   one_more : (n : ℕ) (f : ℕ → A) (sum next : A) → next ≡ o.add sum (f n) → sum ≡ sum_below o n f → next ≡ sum_below o (n + 1) f

@@ -1,45 +1,40 @@
 -- What a call leaves of a pass.
-use Rattle.std.proofs.Common.{◌≡◌, ◌≢◌, ℕ, zero, suc, ◌+◌, ◌-◌, ◌<◌, ◌≤◌, Bool, true, false, eqb, cond, List, [], ◌∷◌, ◌++◌, map, length, Option, Some, None, sym, refl, ap, ◌∙◌, subst, arith, length-append, append_assoc, append-nil, lt_of_not-le, ltb}
+use Rattle.std.proofs.Common.{◌≡◌, ◌≢◌, ℕ, zero, suc, ◌+◌, ◌-◌, ◌<◌, ◌≤◌, Bool, true, false, cond, List, [], ◌∷◌, ◌++◌, length, Option, Some, sym, refl, ap, ◌∙◌, subst, arith, length-append, append_assoc, append-nil, lt_of_not-le, ltb}
 use mathlib.Core.Logic.{dite}
 use mathlib.Core.List.{IsPrefix}
 use native.Mathlib.Decide.{ℕ_discrete, dec_le}
 use Rattle.std.specs.List.{slice_get}
 use Rattle.std.specs.declared.snapshot.Snapshot.{Snapshot}
 use Rattle.std.proofs.lemmas.Bool.Decides.{nat_tests}
-use Rattle.std.proofs.lemmas.List.{length-map, map-append}
+use Rattle.std.proofs.lemmas.List.{map-append}
 use Rattle.tallies.specs.Tallies.{times, total, once_below}
 use Rattle.turn_lock.specs.Lists.{put_in, unite, longer, shorter, IsRising}
 use Rattle.tallies.proofs.Once.{times-append}
 use Rattle.tallies.proofs.Totals.{total_snoc}
 use Rattle.turn_lock.proofs.United.{times-unite}
-use Rattle.job_core.specs.JobMachine.{is_step, after, are_steps, replay}
-use Rattle.job_core.specs.declared.entry.Entry.{Entry}
+use Rattle.job_core.specs.JobMachine.{after, are_steps, replay}
 use Rattle.job_core.specs.declared.entry.Entry.TheVariants as entry
 use Rattle.job_core.specs.declared.entry.JobState.{JobState}
 use Rattle.job_core.specs.declared.entry.JobState.TheVariants as state
 use Rattle.job_core.proofs.Places.{no_some, some_eq, get_within, get_longer, get_front, get_last, get_after, get_set_same, get_map}
-use Rattle.job_core.proofs.Runs.{and_left, and_right, steps_snoc, take_queued, submit_below}
+use Rattle.job_core.proofs.Runs.{take_queued, submit_below}
 use Rattle.job_core.proofs.Lasting.{steps_rest, replay_rest, still_running, finish_done, take_once}
 use Rattle.job_table.specs.declared.event.Event.{Event}
 use Rattle.job_table.specs.declared.event.Event.TheVariants.{Submit, Take, Finish, Withdraw}
 use Rattle.job_table.specs.declared.event.Outcome.{Outcome}
 use Rattle.job_table.specs.History.{entry_of, entries_of, jobs_of, Has, Submits, Finishes}
 use Rattle.job_table.specs.Passes.{TableView, PassView, Within, Pairs, IsLegal, held_in, IsPassOf, Holds, Looks, Adds}
-use Rattle.job_table.proofs.Kept.{entries_snoc, jobs_snoc}
-use Rattle.job_table.proofs.Counts.{takes, ends, taken_at, ended_at, last_step, balanced, held_some, none_runs}
+use Rattle.job_table.proofs.Kept.{jobs_snoc}
+use Rattle.job_table.proofs.Counts.{takes, ends, last_step, balanced, held_some, none_runs}
 use Rattle.turn_lock.proofs.Rising.{rising_snoc}
+use Rattle.job_table.proofs.Counts.{tail_once as more_times}
+use Rattle.job_table.proofs.Counts.{head_once as head_times}
 
 once_here : (x n : ℕ) → x ≡ n → times x (n ∷ []) ≡ 1
 once_here x n e = grind (arith, nat_tests)
 
 pub not_there : (x n : ℕ) → x ≢ n → times x (n ∷ []) ≡ 0
 not_there x n h = grind (arith, nat_tests)
-
-more_times : (x y : ℕ) (l : List ℕ) → 1 ≤ times y l → 1 ≤ times y (x ∷ l)
-more_times x y l h = grind (arith, nat_tests)
-
-head_times : (x : ℕ) (l : List ℕ) → 1 ≤ times x (x ∷ l)
-head_times x l = grind (arith, nat_tests)
 
 -- two sums over places that agree at each of them
 total_same : (f g : ℕ → ℕ) (mine : List ℕ) → ((y : ℕ) → 1 ≤ times y mine → f y ≡ g y) → total f mine ≡ total g mine

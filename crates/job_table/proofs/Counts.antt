@@ -1,22 +1,19 @@
 -- What a pass holds, counted by what its places took and ended.
-use Rattle.std.proofs.Common.{◌≡◌, ◌≢◌, ◌⊎◌, inl, inr, ℕ, zero, suc, ◌+◌, ◌<◌, ◌≤◌, Bool, true, false, eqb, cond, List, [], ◌∷◌, ◌++◌, map, length, set, Option, Some, None, sym, refl, ap, ◌∙◌, subst, arith, length-append, append_assoc, append-nil, lt_of_not-le}
+use Rattle.std.proofs.Common.{◌≡◌, ◌≢◌, ◌⊎◌, inl, inr, ℕ, zero, suc, ◌+◌, ◌<◌, ◌≤◌, Bool, true, eqb, cond, List, [], ◌∷◌, ◌++◌, length, set, Option, Some, None, sym, refl, ap, ◌∙◌, subst, arith, append_assoc, append-nil}
 use mathlib.Core.Logic.{dite}
 use native.Mathlib.Decide.{ℕ_discrete}
 use Rattle.std.specs.List.{slice_get}
-use Rattle.std.specs.declared.snapshot.Snapshot.{Snapshot}
 use Rattle.std.proofs.lemmas.Bool.Decides.{nat_tests}
 use Rattle.tallies.specs.Tallies.{times, total}
-use Rattle.job_core.specs.JobMachine.{is_step, after, are_steps, replay, passes, is_running}
-use Rattle.job_core.specs.declared.entry.Entry.{Entry}
+use Rattle.job_core.specs.JobMachine.{is_step, after, are_steps, passes, is_running}
 use Rattle.job_core.specs.declared.entry.Entry.TheVariants as entry
 use Rattle.job_core.specs.declared.entry.JobState.{JobState}
 use Rattle.job_core.specs.declared.entry.JobState.TheVariants as state
-use Rattle.job_core.proofs.Places.{no_some, some_eq, get_within, get_longer, get_front, get_last, get_set_same, get_set_else, get_snoc_else, get_map}
-use Rattle.job_core.proofs.Runs.{and_left, and_right, steps_snoc, take_queued, finish_running, withdraw_queued, submit_last}
+use Rattle.job_core.proofs.Places.{no_some, some_eq, get_within, get_longer, get_last, get_set_same, get_set_else, get_snoc_else, get_map}
+use Rattle.job_core.proofs.Runs.{and_left, and_right, steps_snoc, take_queued, finish_running, withdraw_queued}
 use Rattle.job_core.proofs.Lasting.{take_once, queued_not_taken, running_taken}
 use Rattle.job_table.specs.declared.event.Event.{Event}
 use Rattle.job_table.specs.declared.event.Event.TheVariants.{Submit, Take, Finish, Withdraw}
-use Rattle.job_table.specs.declared.event.Outcome.{Outcome}
 use Rattle.job_table.specs.History.{entry_of, entries_of, jobs_of}
 use Rattle.job_table.specs.Passes.{Pairs, runs_at, held_in}
 use Rattle.job_table.proofs.Kept.{entries_snoc, jobs_snoc}
@@ -30,10 +27,10 @@ module _ {X : Type 0} (P : List X → Type 0) where
   pub grown : (xs : List X) → P [] → ((xs : List X) (x : X) → P xs → P (xs ++ x ∷ [])) → P xs
   grown xs base step = onward [] xs step base
 
-head_once : (x : ℕ) (l : List ℕ) → 1 ≤ times x (x ∷ l)
+pub head_once : (x : ℕ) (l : List ℕ) → 1 ≤ times x (x ∷ l)
 head_once x l = grind (arith, nat_tests)
 
-tail_once : (x y : ℕ) (l : List ℕ) → 1 ≤ times y l → 1 ≤ times y (x ∷ l)
+pub tail_once : (x y : ℕ) (l : List ℕ) → 1 ≤ times y l → 1 ≤ times y (x ∷ l)
 tail_once x y l h = grind (arith, nat_tests)
 
 pub total_none : (f : ℕ → ℕ) (mine : List ℕ) → ((y : ℕ) → f y ≡ 0) → total f mine ≡ 0

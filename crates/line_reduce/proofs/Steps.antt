@@ -1,5 +1,5 @@
 -- The steps of folding rows
-use Rattle.std.proofs.Common.{◌≡◌, ◌≢◌, ℕ, zero, suc, ◌+◌, ◌-◌, ◌*◌, ◌/◌, ◌^◌, ◌<◌, ◌≤◌, List, [], ◌∷◌, ◌++◌, length, get_or, set, take, drop, refl, sym, ◌∙◌, ap, ap₂, arith, pow-suc, add-one, get_or-set_same, get_or-set_other, append-nil, take_all}
+use Rattle.std.proofs.Common.{◌≡◌, ◌≢◌, ℕ, zero, suc, ◌+◌, ◌-◌, ◌*◌, ◌/◌, ◌^◌, ◌<◌, ◌≤◌, List, [], ◌∷◌, ◌++◌, length, get_or, set, take, refl, sym, ◌∙◌, ap, ap₂, arith, pow-suc, add-one, get_or-set_same, get_or-set_other, append-nil, take_all}
 use Rattle.std.proofs.Math.Nat.{mul-le-mul_left}
 use Rattle.std.proofs.lemmas.List.{length-set, take_more}
 use Rattle.field_ext.specs.Ring.{Ops, Laws}
@@ -9,7 +9,6 @@ use Rattle.gkr_layers.specs.Sumcheck.{point_between}
 use Rattle.field_ext.proofs.Solve.{var, nil, ◌⊕◌, ◌⊗◌, minus, solve}
 use Rattle.mle_table.proofs.Fold.{fold-at}
 use Rattle.mle_table.proofs.Points.{ext-nil, ext-folded_all}
-use Rattle.wiring_poly.proofs.Identity.{take-front}
 use Rattle.line_reduce.specs.Rows.{row_value, between}
 
 module _ {A : Type 0} (o : Ops A) (l : Laws A o) where
@@ -92,10 +91,6 @@ pair_fits p count n u = let h : n * (p + 1) ≤ n * count = mul-le-mul_left n (l
 
 pub row_fits : (p count n : ℕ) → p < count → p * (n + 1) + (n + 1) ≤ count * (n + 1)
 row_fits p count n u = let h : (n + 1) * (p + 1) ≤ (n + 1) * count = mul-le-mul_left (n + 1) (let v : p + 1 ≤ count = omega arith in v) in omega (arith, h)
-
--- a vector that is written whole through its slice
-pub written_back : {A : Type 0} (old new : List A) (n : ℕ) → length new ≡ n → take n (new ++ drop (length new) old) ≡ new
-written_back old new n e = ap (λ (i : ℕ). take i (new ++ drop (length new) old)) (sym e) ∙ take-front new (drop (length new) old)
 
 module _ {A : Type 0} (o : Ops A) (l : Laws A o) where
   -- folded rows have the values of the table folded by one more coordinate of the line's point

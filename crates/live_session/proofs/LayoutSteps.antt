@@ -20,10 +20,10 @@ pub due : (layers : List GateLayer) → 7 * total_exponent layers + length layer
 due [] = refl
 due (layer ∷ layers) = omega (arith, due layers, due_more layer.k (lower_exponents layers))
 
-whole_step : (size n : ℕ) (sizes : List ℕ) → size ≤ n → whole (size ∷ sizes) n ≡ suc (whole sizes (n - size))
+pub whole_step : (size n : ℕ) (sizes : List ℕ) → size ≤ n → whole (size ∷ sizes) n ≡ suc (whole sizes (n - size))
 whole_step size n sizes u = ap (λ (b : Bool). if b then suc (whole sizes (n - size)) else 0) (le-leb size n u)
 
-whole_stop : (size n : ℕ) (sizes : List ℕ) → n < size → whole (size ∷ sizes) n ≡ 0
+pub whole_stop : (size n : ℕ) (sizes : List ℕ) → n < size → whole (size ∷ sizes) n ≡ 0
 whole_stop size n sizes u = ap (λ (b : Bool). if b then suc (whole sizes (n - size)) else 0) (lt-leb size n u)
 
 rounds_all : (m n : ℕ) (rest : List ℕ) → 3 * m ≤ n → whole (replicate m 3 ++ rest) n ≡ m + whole rest (n - 3 * m)

@@ -1,12 +1,11 @@
 -- A session with more bytes, and with those that are kept of them
-use Rattle.std.proofs.Common.{◌≡◌, ◌≢◌, ℕ, zero, suc, ◌+◌, ◌-◌, ◌*◌, ◌<◌, ◌≤◌, min, List, [], ◌∷◌, ◌++◌, length, take, drop, Bool, true, false, if◌then◌else◌, Option, Some, None, Result, Ok, Err, inl, inr, ◌==◌, refl, sym, ◌∙◌, ap, ap₂, subst, arith, length-append, length-take, append-nil}
+use Rattle.std.proofs.Common.{◌≡◌, ◌≢◌, ℕ, zero, suc, ◌+◌, ◌-◌, ◌*◌, ◌<◌, ◌≤◌, min, List, [], ◌∷◌, ◌++◌, length, take, drop, Bool, true, false, if◌then◌else◌, Option, Some, None, Result, Ok, Err, inl, inr, ◌==◌, refl, sym, ◌∙◌, ap, ap₂, subst, arith, length-take, append-nil}
 use Rattle.std.specs.List.{flat_map}
 use Rattle.std.specs.Prelude.{◌&&◌, nat_le}
 use Rattle.std.proofs.lemmas.Bool.{cases_lt, eq-eqb, eqb-true, eqb-false}
 use Rattle.std.proofs.lemmas.Bool.Decides.{nat_tests}
 use Rattle.std.proofs.lemmas.Grind.{flat_map-append}
 use Rattle.std.proofs.lemmas.List.{take_all, take_at, take-append-drop, take-take}
-use Rattle.std.proofs.lemmas.List.Concat.{flat_map-cons}
 use Rattle.field_ext.specs.Bytes.{bytes_of}
 use Rattle.field_ext.specs.Field.{K}
 use Rattle.gkr_layers.proofs.Lists.{drop-take}
@@ -41,10 +40,7 @@ use Rattle.live_session.specs.VerifierState.{IsConcluded}
 use Rattle.live_session.proofs.ElementSteps.{either, short, first_none, leading-more, leading-most}
 use Rattle.live_session.proofs.LayoutSteps.{due, length-sizes, whole-most, whole_all}
 use Rattle.live_session.proofs.SpelledSteps.{have_degrees}
-
-pub length-bytes : (xs : List K) → length (flat_map bytes_of xs) ≡ 8 * length xs
-length-bytes [] = refl
-length-bytes (x ∷ xs) = ap length (flat_map-cons bytes_of x xs) ∙ length-append (bytes_of x) (flat_map bytes_of xs) ∙ omega (arith, length-bytes xs)
+use Rattle.proof_wire.proofs.Lengths.{bytes_length as length-bytes}
 
 pub bytes-take : (n : ℕ) (xs : List K) → n ≤ length xs → flat_map bytes_of (take n xs) ≡ take (8 * n) (flat_map bytes_of xs)
 bytes-take n xs u =

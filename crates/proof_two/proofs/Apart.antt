@@ -1,37 +1,21 @@
 -- Messages of one shape with one spelling are the same.
-use Rattle.std.proofs.Common.{◌≡◌, ℕ, ◌*◌, ◌<◌, List, [], ◌∷◌, ◌++◌, length, take, drop, sym, ◌∙◌, ap, refl, length-append, arith, lit<}
+use Rattle.std.proofs.Common.{◌≡◌, ℕ, ◌*◌, ◌<◌, List, [], ◌∷◌, ◌++◌, length, drop, sym, ◌∙◌, ap, refl, lit<}
 use Rattle.std.specs.List.{flat_map}
-use Rattle.std.proofs.Math.Seq.{take-append_seam, drop-append_seam}
 use Rattle.std.proofs.lemmas.List.{append_cancel_left}
 use Rattle.std.proofs.lemmas.List.Concat.{flat_map-cons}
 use Rattle.field_ext.specs.Field.{K}
 use Rattle.field_ext.specs.Bytes.{bytes_of}
-use Rattle.field_ext.proofs.ElementBytes.{bytes_apart}
 use Rattle.proof_two.specs.declared.pairs.RoundPair.{RoundPair}
 use Rattle.proof_two.specs.declared.pairs.LayerPairs.{LayerPairs}
 use Rattle.proof_two.specs.declared.pairs.Pairs.{Pairs}
 use Rattle.proof_two.specs.Spelling.{pair_of, layer_elements, all_elements, magic_two, spelling_two}
 use Rattle.proof_two.specs.Lists.{HasPairs, HavePairs}
 use Rattle.proof_two.proofs.Lengths.{rounds_length, layer_count}
-
-front_same : {A : Type 0} (xs ys us vs : List A) → length xs ≡ length us → xs ++ ys ≡ us ++ vs → xs ≡ us
-front_same xs ys us vs n e = sym (take-append_seam xs ys) ∙ ap (λ m. take m (xs ++ ys)) n ∙ ap (take (length us)) e ∙ take-append_seam us vs
-
-back_same : {A : Type 0} (xs ys us vs : List A) → length xs ≡ length us → xs ++ ys ≡ us ++ vs → ys ≡ vs
-back_same xs ys us vs n e = sym (drop-append_seam xs ys) ∙ ap (λ m. drop m (xs ++ ys)) n ∙ ap (drop (length us)) e ∙ drop-append_seam us vs
-
-cons_same : {A : Type 0} (x y : A) (xs ys : List A) → x ≡ y → xs ≡ ys → x ∷ xs ≡ y ∷ ys
-cons_same x y xs ys e f = cc (e, f)
-
--- pieces of one length that differ where what they are made of differs
-pieces_apart : {A B : Type 0} (f : A → List B) (n : ℕ) → 0 < n → ((x : A) → length (f x) ≡ n) → ((x y : A) → f x ≡ f y → x ≡ y) → (xs ys : List A) → flat_map f xs ≡ flat_map f ys → xs ≡ ys
-pieces_apart f n p l a [] [] e = refl
-pieces_apart f n p l a [] (y ∷ ys) e = absurd (omega (arith, p, l y, ap length (e ∙ flat_map-cons f y ys) ∙ length-append (f y) (flat_map f ys)))
-pieces_apart f n p l a (x ∷ xs) [] e = absurd (omega (arith, p, l x, ap length (sym e ∙ flat_map-cons f x xs) ∙ length-append (f x) (flat_map f xs)))
-pieces_apart f n p l a (x ∷ xs) (y ∷ ys) e =
-    let s : f x ++ flat_map f xs ≡ f y ++ flat_map f ys = sym (flat_map-cons f x xs) ∙ e ∙ flat_map-cons f y ys in
-    let m : length (f x) ≡ length (f y) = l x ∙ sym (l y) in
-    cons_same x y xs ys (a x y (front_same (f x) (flat_map f xs) (f y) (flat_map f ys) m s)) (pieces_apart f n p l a xs ys (back_same (f x) (flat_map f xs) (f y) (flat_map f ys) m s))
+use Rattle.proof_wire.proofs.Apart.{front_same}
+use Rattle.proof_wire.proofs.Apart.{back_same}
+use Rattle.proof_wire.proofs.Apart.{cons_same}
+use Rattle.proof_wire.proofs.Apart.{pieces_apart}
+use Rattle.proof_wire.proofs.Apart.{elements_apart}
 
 first_same : (a b x y : K) → a ∷ b ∷ [] ≡ x ∷ y ∷ [] → a ≡ x
 first_same a b x y e = cc e
@@ -47,9 +31,6 @@ round_apart x y e = λ i. record {
 
 rounds_apart : (xs ys : List RoundPair) → flat_map pair_of xs ≡ flat_map pair_of ys → xs ≡ ys
 rounds_apart = pieces_apart pair_of 2 (lit< tt) (λ x. refl) round_apart
-
-elements_apart : (xs ys : List K) → flat_map bytes_of xs ≡ flat_map bytes_of ys → xs ≡ ys
-elements_apart = pieces_apart bytes_of 8 (lit< tt) (λ x. refl) bytes_apart
 
 layer_apart : (k : ℕ) (x y : LayerPairs) → HasPairs k x → HasPairs k y → layer_elements x ≡ layer_elements y → x ≡ y
 layer_apart k x y a b e =

@@ -1,20 +1,16 @@
 -- The coefficients up to the next layer, and the messages with that layer.
-use Rattle.std.proofs.Common.{◌≡◌, ℕ, ◌+◌, ◌*◌, ◌-◌, ◌<◌, ◌≤◌, List, [], ◌∷◌, ◌++◌, length, get_or, take, drop, sym, ◌∙◌, ap, subst, arith, length-drop, append-nil}
+use Rattle.std.proofs.Common.{◌≡◌, ℕ, ◌+◌, ◌*◌, ◌-◌, ◌<◌, ◌≤◌, List, [], ◌∷◌, ◌++◌, length, get_or, take, drop, sym, ◌∙◌, ap, subst, arith, append-nil}
 use Rattle.std.proofs.Math.Seq.{take-add}
 use Rattle.std.proofs.lemmas.Grind.{flat_map-append}
-use Rattle.std.proofs.lemmas.List.{take_more, get_or-drop}
+use Rattle.std.proofs.lemmas.List.{take_more}
 use Rattle.std.proofs.lemmas.List.Sums.{sum_by-take-le}
 use Rattle.field_ext.specs.Field.{K}
 use Rattle.proof_two.specs.declared.pairs.LayerPairs.{LayerPairs}
 use Rattle.proof_two.specs.Spelling.{all_elements, element_count, layer_elements}
 use Rattle.proof_two.specs.Lists.{HasPairs, HavePairs}
 use Rattle.proof_two.proofs.Counts.{count_more}
-
-lower : (ks : List ℕ) (j k : ℕ) → k ≡ get_or ks (j + 1) 0 → k ≡ get_or (drop 1 ks) j 0
-lower ks j k e = grind (arith, e, get_or-drop)
-
-within : (ks : List ℕ) (j : ℕ) → j < length ks - 1 → j < length (drop 1 ks)
-within ks j h = omega (arith, h, length-drop 1 ks)
+use Rattle.proof_wire.proofs.Cuts.{lower}
+use Rattle.proof_wire.proofs.Cuts.{within}
 
 pub next_count : (ks : List ℕ) (j k from : ℕ) → j < length ks - 1 → k ≡ get_or ks (j + 1) 0 → from ≡ element_count (take j (drop 1 ks)) → from + (4 * k + (k + 1)) ≡ element_count (take (j + 1) (drop 1 ks))
 next_count ks j k from h e f =

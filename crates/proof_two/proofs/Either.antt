@@ -1,5 +1,5 @@
 -- Bytes of either version: what holds of each holds of the one in which they are read.
-use Rattle.std.proofs.Common.{◌≡◌, ℕ, ◌++◌, List, [], ◌∷◌, Bool, true, false, MatchBool, length, refl, sym, ap, subst, arith, length-append}
+use Rattle.std.proofs.Common.{◌≡◌, ℕ, ◌++◌, List, [], Bool, true, false, MatchBool, length, refl, sym, ap, subst, arith, length-append}
 use Rattle.proof_wire.specs.declared.form.ProofForm.TheVariants.{Line}
 use Rattle.proof_wire.specs.declared.refused.BadProof.{BadProof}
 use Rattle.proof_wire.specs.declared.refused.ProofRefused.{ProofRefused}
@@ -18,6 +18,7 @@ use Rattle.proof_two.proofs.Apart.{one_reading}
 use Rattle.proof_two.proofs.Lengths.{spelling_length}
 use Rattle.proof_two.proofs.OneTrouble.{one_trouble}
 use Rattle.proof_two.proofs.Troubles.{faultless}
+use Rattle.std.proofs.lemmas.List.{nil_from_length as nothing}
 
 differ : {b : Bool} → b ≡ true → b ≡ false → ⊥
 differ {b = true} e f = no f
@@ -28,10 +29,6 @@ differ {b = false} e f = no e
   where
     no : false ≡ true → ⊥
     no h = subst (λ (b : Bool). MatchBool b ⊥ (Unit {0})) h tt
-
-nothing : (xs : List ℕ) → length xs ≡ 0 → xs ≡ []
-nothing [] e = refl
-nothing (x ∷ xs) e = absurd (omega (arith, e))
 
 pub any_reading : (ks : List ℕ) (some others : AnyProof) → HasAnyShape ks some → HasAnyShape ks others → any_spelling some ≡ any_spelling others → some ≡ others
 any_reading ks (One a) (One b) p q e = ap One (wire_apart.one_reading Line ks a b p q e)

@@ -4,17 +4,13 @@ use Rattle.std.proofs.Common.{◌≡◌, ℕ, ◌+◌, ◌*◌, List, [], ◌∷
 use Rattle.std.specs.List.{flat_map}
 use Rattle.std.proofs.lemmas.List.Concat.{flat_map-cons}
 use Rattle.std.proofs.lemmas.List.Sums.{sum_by-append}
-use Rattle.field_ext.specs.Field.{K}
 use Rattle.field_ext.specs.Bytes.{bytes_of}
 use Rattle.proof_two.specs.declared.pairs.RoundPair.{RoundPair}
 use Rattle.proof_two.specs.declared.pairs.LayerPairs.{LayerPairs}
 use Rattle.proof_two.specs.declared.pairs.Pairs.{Pairs}
 use Rattle.proof_two.specs.Spelling.{pair_of, layer_elements, all_elements, element_count, magic_two, spelling_two, length_two}
 use Rattle.proof_two.specs.Lists.{HasPairs, HavePairs}
-
-bytes_length : (xs : List K) → length (flat_map bytes_of xs) ≡ 8 * length xs
-bytes_length [] = refl
-bytes_length (x ∷ xs) = ap length (flat_map-cons bytes_of x xs) ∙ length-append (bytes_of x) (flat_map bytes_of xs) ∙ omega (arith, bytes_length xs)
+use Rattle.proof_wire.proofs.Lengths.{bytes_length}
 
 pub rounds_length : (rs : List RoundPair) → length (flat_map pair_of rs) ≡ 2 * length rs
 rounds_length [] = refl

@@ -1,19 +1,12 @@
 -- Bytes have at most one first trouble in version 2.
-use Rattle.std.proofs.Common.{◌≡◌, ℕ, ◌+◌, ◌*◌, ◌<◌, ◌⊎◌, inl, inr, List, length, get_or, take, sym, ◌∙◌, ap, arith}
-use Rattle.std.proofs.lemmas.List.{get_or-take}
+use Rattle.std.proofs.Common.{◌≡◌, ℕ, ◌+◌, ◌*◌, ◌<◌, inl, inr, List, length, sym, ◌∙◌, ap, arith}
 use Rattle.proof_wire.specs.declared.refused.BadProof.{BadProof}
 use Rattle.proof_wire.specs.declared.refused.BadProof.TheVariants.{Magic, Short, Range, Long}
 use Rattle.proof_two.specs.Spelling.{magic_two}
 use Rattle.proof_two.specs.Trouble.{ForeignTwo, EndsEarlyTwo, OutOfRangeTwo, GoesOnTwo, OpensTwo, TroubleIsTwo}
-
-order : (i j : ℕ) → (i < j) ⊎ ((j < i) ⊎ (i ≡ j))
-order i j = grind arith
-
-alike : (xs ys : List ℕ) (m n i : ℕ) → take m xs ≡ take n ys → i < m → i < n → get_or xs i 0 ≡ get_or ys i 0
-alike xs ys m n i e h k = sym (get_or-take m xs i 0 h) ∙ ap (λ zs. get_or zs i 0) e ∙ get_or-take n ys i 0 k
-
-same_short : (a b c d : ℕ) → a ≡ c → b ≡ d → Short a b ≡ Short c d
-same_short a b c d e f = cc (e, f)
+use Rattle.proof_wire.proofs.OneTrouble.{order}
+use Rattle.proof_wire.proofs.OneTrouble.{alike}
+use Rattle.proof_wire.proofs.OneTrouble.{same_short}
 
 opened : (bytes : List ℕ) (at : ℕ) → OpensTwo bytes → ForeignTwo bytes at → ⊥
 opened bytes at o f = f.differs (alike bytes magic_two 4 (length bytes) at o f.early f.there)

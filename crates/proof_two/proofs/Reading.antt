@@ -1,5 +1,5 @@
 -- One more coefficient that is read, and what the coefficients of a spelling are.
-use Rattle.std.proofs.Common.{◌≡◌, ℕ, ◌+◌, ◌*◌, ◌<◌, ◌≤◌, List, [], ◌∷◌, ◌++◌, length, take, sym, ◌∙◌, ap, subst, append_assoc, append-nil, length-append, arith, inl, inr, ◌⊎◌}
+use Rattle.std.proofs.Common.{◌≡◌, ℕ, ◌+◌, ◌*◌, ◌<◌, ◌≤◌, List, [], ◌∷◌, ◌++◌, length, take, sym, ◌∙◌, ap, subst, append_assoc, append-nil, length-append, arith, inl, inr}
 use Rattle.std.specs.List.{flat_map}
 use Rattle.std.proofs.Math.Seq.{take-add, drop-append-add}
 use Rattle.std.proofs.lemmas.List.{take_all}
@@ -12,12 +12,10 @@ use Rattle.proof_wire.specs.Trouble.{InRange, element_at}
 use Rattle.proof_wire.proofs.Reading.{spelled_in_range}
 use Rattle.proof_two.specs.Spelling.{magic_two}
 use Rattle.proof_two.specs.Trouble.{IsFrontTwo, OpensTwo}
+use Rattle.proof_wire.proofs.Reading.{last_or_before}
 
 pub front_none : (bytes : List ℕ) → 4 ≤ length bytes → OpensTwo bytes → IsFrontTwo [] bytes
 front_none bytes h o = record { spelled = o ∙ take_all (length bytes) magic_two h; good = λ i u. absurd (omega (arith, u)) }
-
-last_or_before : (i n : ℕ) → i < n + 1 → (i < n) ⊎ (n ≡ i)
-last_or_before i n h = grind arith
 
 pub front_more : (es : List K) (x : K) (bytes : List ℕ) → InRange bytes (length es) → bytes_of x ≡ element_at bytes (length es) → IsFrontTwo es bytes → IsFrontTwo (es ++ x ∷ []) bytes
 front_more es x bytes r e f = record {

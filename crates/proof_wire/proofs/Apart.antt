@@ -17,17 +17,17 @@ use Rattle.proof_wire.specs.Spelling.{coefficients_of, layer_coefficients, all_c
 use Rattle.proof_wire.specs.Lists.{HasShape, HaveShape}
 use Rattle.proof_wire.proofs.Lengths.{rounds_length, layer_count}
 
-front_same : {A : Type 0} (xs ys us vs : List A) → length xs ≡ length us → xs ++ ys ≡ us ++ vs → xs ≡ us
+pub front_same : {A : Type 0} (xs ys us vs : List A) → length xs ≡ length us → xs ++ ys ≡ us ++ vs → xs ≡ us
 front_same xs ys us vs n e = sym (take-append_seam xs ys) ∙ ap (λ m. take m (xs ++ ys)) n ∙ ap (take (length us)) e ∙ take-append_seam us vs
 
-back_same : {A : Type 0} (xs ys us vs : List A) → length xs ≡ length us → xs ++ ys ≡ us ++ vs → ys ≡ vs
+pub back_same : {A : Type 0} (xs ys us vs : List A) → length xs ≡ length us → xs ++ ys ≡ us ++ vs → ys ≡ vs
 back_same xs ys us vs n e = sym (drop-append_seam xs ys) ∙ ap (λ m. drop m (xs ++ ys)) n ∙ ap (drop (length us)) e ∙ drop-append_seam us vs
 
-cons_same : {A : Type 0} (x y : A) (xs ys : List A) → x ≡ y → xs ≡ ys → x ∷ xs ≡ y ∷ ys
+pub cons_same : {A : Type 0} (x y : A) (xs ys : List A) → x ≡ y → xs ≡ ys → x ∷ xs ≡ y ∷ ys
 cons_same x y xs ys e f = cc (e, f)
 
 -- pieces of one length that differ where what they are made of differs
-pieces_apart : {A B : Type 0} (f : A → List B) (n : ℕ) → 0 < n → ((x : A) → length (f x) ≡ n) → ((x y : A) → f x ≡ f y → x ≡ y) → (xs ys : List A) → flat_map f xs ≡ flat_map f ys → xs ≡ ys
+pub pieces_apart : {A B : Type 0} (f : A → List B) (n : ℕ) → 0 < n → ((x : A) → length (f x) ≡ n) → ((x y : A) → f x ≡ f y → x ≡ y) → (xs ys : List A) → flat_map f xs ≡ flat_map f ys → xs ≡ ys
 pieces_apart f n p l a [] [] e = refl
 pieces_apart f n p l a [] (y ∷ ys) e = absurd (omega (arith, p, l y, ap length (e ∙ flat_map-cons f y ys) ∙ length-append (f y) (flat_map f ys)))
 pieces_apart f n p l a (x ∷ xs) [] e = absurd (omega (arith, p, l x, ap length (sym e ∙ flat_map-cons f x xs) ∙ length-append (f x) (flat_map f xs)))
@@ -45,7 +45,7 @@ second_same a b c x y z e = cc e
 third_same : (a b c x y z : K) → a ∷ b ∷ c ∷ [] ≡ x ∷ y ∷ z ∷ [] → c ≡ z
 third_same a b c x y z e = cc e
 
-round_apart : (x y : Round) → coefficients_of x ≡ coefficients_of y → x ≡ y
+pub round_apart : (x y : Round) → coefficients_of x ≡ coefficients_of y → x ≡ y
 round_apart x y e = λ i. record {
   c0 = first_same x.c0 x.c1 x.c2 y.c0 y.c1 y.c2 e i;
   c1 = second_same x.c0 x.c1 x.c2 y.c0 y.c1 y.c2 e i;
@@ -55,7 +55,7 @@ round_apart x y e = λ i. record {
 rounds_apart : (xs ys : List Round) → flat_map coefficients_of xs ≡ flat_map coefficients_of ys → xs ≡ ys
 rounds_apart = pieces_apart coefficients_of 3 (lit< tt) (λ x. refl) round_apart
 
-elements_apart : (xs ys : List K) → flat_map bytes_of xs ≡ flat_map bytes_of ys → xs ≡ ys
+pub elements_apart : (xs ys : List K) → flat_map bytes_of xs ≡ flat_map bytes_of ys → xs ≡ ys
 elements_apart = pieces_apart bytes_of 8 (lit< tt) (λ x. refl) bytes_apart
 
 module _ (form : ProofForm) where

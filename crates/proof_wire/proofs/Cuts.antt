@@ -12,10 +12,10 @@ use Rattle.proof_wire.specs.Spelling.{all_coefficients, coefficient_count, layer
 use Rattle.proof_wire.specs.Lists.{HasShape, HaveShape}
 use Rattle.proof_wire.proofs.Counts.{count_more}
 
-lower : (ks : List ℕ) (j k : ℕ) → k ≡ get_or ks (j + 1) 0 → k ≡ get_or (drop 1 ks) j 0
+pub lower : (ks : List ℕ) (j k : ℕ) → k ≡ get_or ks (j + 1) 0 → k ≡ get_or (drop 1 ks) j 0
 lower ks j k e = grind (arith, e, get_or-drop)
 
-within : (ks : List ℕ) (j : ℕ) → j < length ks - 1 → j < length (drop 1 ks)
+pub within : (ks : List ℕ) (j : ℕ) → j < length ks - 1 → j < length (drop 1 ks)
 within ks j h = omega (arith, h, length-drop 1 ks)
 
 module _ (form : ProofForm) where

@@ -13,18 +13,15 @@ use Rattle.proof_wire.specs.declared.form.ProofForm.{ProofForm}
 use Rattle.proof_wire.specs.Forms.{last_degree, magic}
 use Rattle.proof_wire.specs.Spelling.{coefficients_of, layer_coefficients, all_coefficients, coefficient_count, spelling, length_of}
 use Rattle.proof_wire.specs.Lists.{HasShape, HaveShape}
+use Rattle.std.proofs.lemmas.List.{nil_from_length as nothing}
 
-bytes_length : (xs : List K) → length (flat_map bytes_of xs) ≡ 8 * length xs
+pub bytes_length : (xs : List K) → length (flat_map bytes_of xs) ≡ 8 * length xs
 bytes_length [] = refl
 bytes_length (x ∷ xs) = ap length (flat_map-cons bytes_of x xs) ∙ length-append (bytes_of x) (flat_map bytes_of xs) ∙ omega (arith, bytes_length xs)
 
 pub rounds_length : (rs : List Round) → length (flat_map coefficients_of rs) ≡ 3 * length rs
 rounds_length [] = refl
 rounds_length (r ∷ rs) = ap length (flat_map-cons coefficients_of r rs) ∙ length-append (coefficients_of r) (flat_map coefficients_of rs) ∙ omega (arith, rounds_length rs)
-
-nothing : (xs : List ℕ) → length xs ≡ 0 → xs ≡ []
-nothing [] e = refl
-nothing (x ∷ xs) e = absurd (omega (arith, e))
 
 module _ (form : ProofForm) where
   pub layer_count : (k : ℕ) (layer : LayerMessages) → HasShape form k layer → length (layer_coefficients layer) ≡ 6 * k + (last_degree form k + 1)

@@ -7,13 +7,13 @@ use Rattle.proof_wire.specs.declared.form.ProofForm.{ProofForm}
 use Rattle.proof_wire.specs.Forms.{magic}
 use Rattle.proof_wire.specs.Trouble.{Foreign, EndsEarly, OutOfRange, GoesOn, Opens, TroubleIs}
 
-order : (i j : ℕ) → (i < j) ⊎ ((j < i) ⊎ (i ≡ j))
+pub order : (i j : ℕ) → (i < j) ⊎ ((j < i) ⊎ (i ≡ j))
 order i j = grind arith
 
-alike : (xs ys : List ℕ) (m n i : ℕ) → take m xs ≡ take n ys → i < m → i < n → get_or xs i 0 ≡ get_or ys i 0
+pub alike : (xs ys : List ℕ) (m n i : ℕ) → take m xs ≡ take n ys → i < m → i < n → get_or xs i 0 ≡ get_or ys i 0
 alike xs ys m n i e h k = sym (get_or-take m xs i 0 h) ∙ ap (λ zs. get_or zs i 0) e ∙ get_or-take n ys i 0 k
 
-same_short : (a b c d : ℕ) → a ≡ c → b ≡ d → Short a b ≡ Short c d
+pub same_short : (a b c d : ℕ) → a ≡ c → b ≡ d → Short a b ≡ Short c d
 same_short a b c d e f = cc (e, f)
 
 module _ (form : ProofForm) where

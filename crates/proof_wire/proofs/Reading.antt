@@ -11,11 +11,12 @@ use Rattle.field_ext.specs.Bytes.{bytes_of, real_half, imaginary_half}
 use Rattle.proof_wire.specs.declared.form.ProofForm.{ProofForm}
 use Rattle.proof_wire.specs.Forms.{magic}
 use Rattle.proof_wire.specs.Trouble.{InRange, IsFront, Opens, element_at}
+use Rattle.field_ext.proofs.ElementBytes.{below_word}
 
 pub front_none : (form : ProofForm) (bytes : List ℕ) → 4 ≤ length bytes → Opens form bytes → IsFront form [] bytes
 front_none form bytes h o = record { spelled = o ∙ take_all (length bytes) (magic form) h; good = λ i u. absurd (omega (arith, u)) }
 
-last_or_before : (i n : ℕ) → i < n + 1 → (i < n) ⊎ (n ≡ i)
+pub last_or_before : (i n : ℕ) → i < n + 1 → (i < n) ⊎ (n ≡ i)
 last_or_before i n h = grind arith
 
 pub front_more : (form : ProofForm) (es : List K) (x : K) (bytes : List ℕ) → InRange bytes (length es) → bytes_of x ≡ element_at bytes (length es) → IsFront form es bytes → IsFront form (es ++ x ∷ []) bytes
@@ -28,9 +29,6 @@ front_more form es x bytes r e f = record {
       ∙ ap (λ ys. magic form ++ ys) (ap (λ ys. flat_map bytes_of es ++ ys) (sym (append-nil (bytes_of x))) ∙ sym (flat_map-append bytes_of es (x ∷ [])));
   good = λ i u. elim (last_or_before i (length es) (subst (λ n. i < n) (length-append es (x ∷ [])) u)) [ inl h ↦ f.good i h | inr h ↦ subst (InRange bytes) h r ];
 }
-
-below_word : (n : ℕ) → n < 2147483647 → n < 4294967296
-below_word n u = omega arith
 
 -- the eight bytes at a place are those of an element
 piece : (xs : List K) (i : ℕ) → i < length xs → (x : K) × (take 8 (drop (8 * i) (flat_map bytes_of xs)) ≡ bytes_of x)

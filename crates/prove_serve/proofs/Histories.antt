@@ -30,6 +30,7 @@ use Rattle.prove_serve.specs.Script.{IsOf, AreNumbered}
 use Rattle.prove_serve.specs.Sound.{IsMarked, IsServed}
 use Rattle.prove_serve.specs.History.{AnswerFits, EndsSo, IsHistoryOf}
 use Rattle.prove_serve.specs.Told.{AreTold, told, place_of}
+use Rattle.tallies.proofs.Once.{one_at_most as below_once}
 
 -- ---- lists of numbers
 
@@ -75,9 +76,6 @@ few_numbers (suc n) xs h = let one = h n in let b = below n in let s = split_at 
     let i = few_numbers n (s.0 ++ s.1) (λ x. let t = ap (times x) s.2 in let u = times-append x s.0 (n ∷ s.1) in let v = times-append x s.0 s.1 in let w = h x in let z = once_suc x n in omega arith) in omega arith where
       below : (n : ℕ) → once_below n (suc n) ≡ 1
       below n = grind (arith, nat_tests)
-
-below_once : (x n : ℕ) → once_below x n ≤ 1
-below_once x n = grind (arith, nat_tests)
 
 low_once : (x n : ℕ) → 1 ≤ once_below x n → x < n
 low_once x n h = grind (arith, nat_tests)

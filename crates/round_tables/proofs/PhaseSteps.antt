@@ -1,5 +1,5 @@
 -- The working tables begin a layer's sum, and go from challenge to challenge
-use Rattle.std.proofs.Common.{◌≡◌, ℕ, suc, ◌+◌, ◌-◌, ◌*◌, ◌^◌, ◌<◌, ◌≤◌, List, [], ◌∷◌, ◌++◌, length, take, drop, get_or, if◌then◌else◌, ◌==◌, All, ◌⊎◌, inl, inr, refl, sym, ◌∙◌, ap, ap₂, arith, append_assoc, append-nil, length-append}
+use Rattle.std.proofs.Common.{◌≡◌, ℕ, suc, ◌+◌, ◌-◌, ◌*◌, ◌^◌, ◌<◌, ◌≤◌, List, [], ◌∷◌, ◌++◌, length, take, get_or, if◌then◌else◌, ◌==◌, All, ◌⊎◌, inl, inr, refl, sym, ◌∙◌, ap, ap₂, arith, append_assoc, append-nil, length-append}
 use Rattle.std.proofs.lemmas.Bool.{cases_lt}
 use Rattle.std.proofs.lemmas.List.{length-take-le}
 use Rattle.std.proofs.lemmas.List.Elements.{All-head, All-tail}
@@ -12,7 +12,6 @@ use Rattle.circuit_core.specs.declared.gate.CircuitGate.{CircuitGate}
 use Rattle.wiring_poly.specs.Wiring.{sum_gates}
 use Rattle.gkr_layers.specs.Places.{Place, weighted_summand_at}
 use Rattle.round_tables.specs.Weights.{HasWeights, position_weight}
-use Rattle.wiring_poly.proofs.Identity.{take-front}
 use Rattle.round_tables.specs.Tables.{IsFolded, scale_of, shift_of, Gathers, GathersLeft, GathersRight, StandFor}
 use Rattle.round_tables.specs.LayerSum.{left_in_phase, after_phase}
 use Rattle.round_tables.specs.Phase.{IsLayer, IsPhase}
@@ -125,10 +124,6 @@ module _ {A : Type 0} (o : Ops A) (l : Laws A o) where
               (gathers-same Below h'' gates (λ gate. gate.right) _ _ layer.operands (λ g gate v p. ap₂ (shift_of o gate) (factor g gate v p) kept) gathers.shifted)
               ∙ ap (λ (t : List A). o.add (o.mul (extension_at o o (λ x. x) t w) (extension_at o o (λ x. x) s'' w)) (extension_at o o (λ x. x) h'' w)) (sym te);
         }
-
--- a vector that is written whole through its slice
-pub written_back : {A : Type 0} (old new : List A) (n : ℕ) → length new ≡ n → take n (new ++ drop (length new) old) ≡ new
-written_back old new n e = ap (λ (i : ℕ). take i (new ++ drop (length new) old)) (sym e) ∙ take-front new (drop (length new) old)
 
 -- the pairs of a round fit the tables
 pub half_fits : (k n size : ℕ) → 1 ≤ k → n < k + k → size ≡ 2 ^ k → 2 * 2 ^ (left_in_phase k n - 1) ≤ size

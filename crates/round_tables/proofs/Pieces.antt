@@ -14,7 +14,6 @@ use Rattle.wiring_poly.proofs.Sums.{sum_below-append}
 use Rattle.wiring_poly.proofs.Hom.{sum_below-hom}
 use Rattle.gkr_layers.proofs.RoundPoly.{value_hom}
 use Rattle.gkr_layers.proofs.PlaceSums.{value-round_polynomial}
-use Rattle.field_ext.proofs.Rings.{mul_zero}
 use Rattle.gkr_layers.proofs.Degree.{length-round_polynomial}
 use Rattle.round_tables.specs.LayerSum.{LayerSum, left_in_phase, after_phase, pieces_of, piece_pairs, piece_poly, next_poly}
 use Rattle.round_tables.specs.PartTables.{cuts_left}
@@ -24,6 +23,7 @@ use Rattle.round_tables.proofs.Sums.{sum_cube-bits}
 use Rattle.round_tables.proofs.PieceValues.{in_left_phase, in_right_phase, value-part}
 use Rattle.gkr_layers.proofs.Coefficients.{from_values, length-coefficients}
 use Rattle.round_tables.proofs.PartDegree.{length-part}
+use Rattle.gkr_layers.proofs.Coefficients.{value-coefficients}
 
 module _ {A : Type 0} (o : Ops A) (l : Laws A o) where
   -- pieces of n terms each
@@ -58,12 +58,6 @@ pieces-value s e u =
     ∙ sym (value-round_polynomial k_ops k_laws s.k s.gates s.values s.place s.bound (s.k + s.k - n - 1) e)
 
 module _ {A : Type 0} (o : Ops A) (l : Laws A o) where
-  pub value-coefficients : (n : ℕ) (p : List A) (e : A) → length p ≤ n → value_at o (coefficients o n p) e ≡ value_at o p e
-  value-coefficients zero [] e u = refl
-  value-coefficients zero (c ∷ cs) e u = absurd (omega arith)
-  value-coefficients (suc n) [] e u = ap (λ (x : A). o.add o.zero (o.mul e x)) (value-coefficients n [] e (omega arith)) ∙ ap (o.add o.zero) (mul_zero o l e) ∙ l.add_zero o.zero
-  value-coefficients (suc n) (c ∷ cs) e u = ap (λ (x : A). o.add c (o.mul e x)) (value-coefficients n cs e (omega arith))
-
   length-sum-equal : (p q : List A) → length p ≡ length q → length (sum_of o p q) ≡ length q
   length-sum-equal [] q u = refl
   length-sum-equal (c ∷ cs) [] u = absurd (omega arith)

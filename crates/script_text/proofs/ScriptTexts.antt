@@ -20,6 +20,7 @@ use Rattle.case_text.proofs.Choice.{BeginsWith, Either, IsOther, choice_exact}
 use Rattle.script_text.proofs.Positive.{IsPositive, positive_exact}
 use Rattle.case_text.proofs.OptionalLines.{alike_exact, joined_begins}
 use Rattle.case_text.proofs.Lines.{case_exact}
+use Rattle.case_text.proofs.Lines.{one_of_one as same_both}
 
 client_exact : IsExact (IsPositive client_number) (positive_at client_number)
 client_exact = positive_exact client_number (record { some = omega arith; fits = omega arith; zero_closes = refl; other_closes = refl }) (omega arith)
@@ -35,10 +36,6 @@ Case_of client = Joined Text_of_case (λ case job text. (job ≡ made client cas
 
 abbrev Parts : ScriptJob → List ℕ → Type 0
 Parts = Joined (IsWord (codes "client ")) (λ u. Joined (IsPositive client_number) Case_of)
-
-same_both : (b : Bool) (x : ℕ) → cond b x x ≡ x
-same_both true x = refl
-same_both false x = refl
 
 one_of_one : (n : ℕ) → behind client_number n ≡ 10
 one_of_one n = same_both (eqb n 0) 10

@@ -31,7 +31,8 @@ use Rattle.live_session.proofs.ElementSteps.{either}
 use Rattle.live_session.proofs.HonestList.{are_honest, length-honest}
 use Rattle.live_session.proofs.LayoutSteps.{length-sizes, whole-most, whole_all}
 use Rattle.live_session.proofs.ProverSteps.{told_end}
-use Rattle.live_session.proofs.VerifierSteps.{leading_take, length-bytes}
+use Rattle.live_session.proofs.VerifierSteps.{leading_take}
+use Rattle.proof_wire.proofs.Lengths.{bytes_length as length-bytes}
 use Rattle.session_prove.specs.Exchange.{HasEnded}
 use Rattle.session_prove.proofs.Fronts.{in-front, whole-first}
 use Rattle.session_prove.proofs.Messages.{bytes-flat, cut-flat, earlier, elements-count, flat, message-sizes}
@@ -220,7 +221,7 @@ module _ (c : SoundCircuit) (s : Session) (same : s.parts ≡ c.parts) (as_many 
   abbrev told-bytes : List ℕ
   told-bytes = flat_map bytes_of s.words ++ 1 ∷ []
 
-  words-length : length (flat_map bytes_of s.words) ≡ 8 * challenges_of s.parts
+  pub words-length : length (flat_map bytes_of s.words) ≡ 8 * challenges_of s.parts
   words-length = omega (arith, length-bytes s.words, words)
 
   all-words : length (leading (challenges_of s.parts) told-bytes) ≡ challenges_of s.parts

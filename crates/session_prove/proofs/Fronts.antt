@@ -3,7 +3,7 @@ use Rattle.std.proofs.Common.{◌≡◌, ℕ, zero, suc, ◌+◌, ◌-◌, ◌*�
 use Rattle.std.specs.Prelude.{◌&&◌, nat_lt}
 use Rattle.std.specs.List.{flat_map}
 use Rattle.std.proofs.Math.Seq.{take-append-add}
-use Rattle.std.proofs.lemmas.Bool.{and_from, cases_lt, le-leb, lt-leb, lt-ltb}
+use Rattle.std.proofs.lemmas.Bool.{and_from, cases_lt, le-leb, lt-ltb}
 use Rattle.std.proofs.lemmas.List.{drop_at, take_all, take_at}
 use Rattle.std.proofs.lemmas.List.Concat.{flat_map-cons}
 use Rattle.field_ext.specs.Bytes.{bytes_of}
@@ -14,6 +14,8 @@ use Rattle.live_session.specs.Layout.{whole}
 use Rattle.live_session.proofs.ElementSteps.{element_of-bytes, first_none, has_more, short}
 use Rattle.live_session.proofs.VerifierSteps.{leading_nothing}
 use Rattle.session_prove.proofs.Messages.{flat}
+use Rattle.live_session.proofs.LayoutSteps.{whole_step as step}
+use Rattle.live_session.proofs.LayoutSteps.{whole_stop as stop}
 
 -- ---- elements
 
@@ -46,12 +48,6 @@ in-front (suc n) (suc e) r (x ∷ xs) u v =
     ap (leading (suc n)) cut ∙ first-element n x (take (8 * e + r) rest) ∙ ap (λ (ys : List K). x ∷ ys) (in-front n e r xs (omega (arith, u)) v)
 
 -- ---- messages
-
-step : (size n : ℕ) (sizes : List ℕ) → size ≤ n → whole (size ∷ sizes) n ≡ suc (whole sizes (n - size))
-step size n sizes u = ap (λ (b : Bool). if b then suc (whole sizes (n - size)) else 0) (le-leb size n u)
-
-stop : (size n : ℕ) (sizes : List ℕ) → n < size → whole (size ∷ sizes) n ≡ 0
-stop size n sizes u = ap (λ (b : Bool). if b then suc (whole sizes (n - size)) else 0) (lt-leb size n u)
 
 -- in more elements no fewer are whole
 pub whole-mono : (sizes : List ℕ) (n m : ℕ) → n ≤ m → whole sizes n ≤ whole sizes m

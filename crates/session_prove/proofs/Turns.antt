@@ -17,9 +17,10 @@ use Rattle.live_session.specs.Verifying.{Session, element_count, lower, verifier
 use Rattle.live_session.proofs.ElementSteps.{either}
 use Rattle.live_session.proofs.HonestList.{length-honest}
 use Rattle.live_session.proofs.LayoutSteps.{length-sizes, whole-most}
-use Rattle.live_session.proofs.VerifierSteps.{bytes-take, leading_take, length-bytes}
+use Rattle.live_session.proofs.VerifierSteps.{bytes-take, leading_take}
+use Rattle.proof_wire.proofs.Lengths.{bytes_length as length-bytes}
 use Rattle.session_prove.specs.Exchange.{whole_session}
-use Rattle.session_prove.proofs.Ends.{all-sent, bytes-count, goes-on, prover-at, sent-at, sent-count}
+use Rattle.session_prove.proofs.Ends.{all-sent, bytes-count, goes-on, prover-at, sent-at, sent-count, words-length}
 use Rattle.session_prove.proofs.Fronts.{in-front, whole-mono}
 use Rattle.session_prove.proofs.Messages.{bytes-flat, flat}
 
@@ -68,11 +69,8 @@ module _ (c : SoundCircuit) (s : Session) (same : s.parts ≡ c.parts) (as_many 
   taken-is : verifier_sent (whole_session s) ≡ flat_map bytes_of s.words ++ 1 ∷ []
   taken-is = all-sent c s same as_many stand words
 
-  word-length : length (flat_map bytes_of s.words) ≡ 8 * challenges_of s.parts
-  word-length = omega (arith, length-bytes s.words, words)
-
   pub taken-length : length (verifier_sent (whole_session s)) ≡ 8 * challenges_of s.parts + 1
-  taken-length = ap length taken-is ∙ length-append (flat_map bytes_of s.words) (1 ∷ []) ∙ (let f : length (flat_map bytes_of s.words) + 1 ≡ 8 * challenges_of s.parts + 1 = omega (arith, word-length) in f)
+  taken-length = ap length taken-is ∙ length-append (flat_map bytes_of s.words) (1 ∷ []) ∙ (let f : length (flat_map bytes_of s.words) + 1 ≡ 8 * challenges_of s.parts + 1 = omega (arith, words-length c s same as_many stand words) in f)
 
   -- ---- the verifier
 
@@ -108,7 +106,7 @@ module _ (c : SoundCircuit) (s : Session) (same : s.parts ≡ c.parts) (as_many 
         ∙ ap (λ (b : Bool). flat_map bytes_of (take m s.words) ++ (if b then 1 ∷ [] else [])) none
         ∙ append-nil (flat_map bytes_of (take m s.words))
         ∙ bytes-take m s.words (omega (arith, most-words (g / 8), words))
-        ∙ sym (take-append-le (8 * m) word-bytes (1 ∷ []) (omega (arith, most-words (g / 8), word-length)))
+        ∙ sym (take-append-le (8 * m) word-bytes (1 ∷ []) (omega (arith, most-words (g / 8), words-length c s same as_many stand words)))
         ∙ ap (take (8 * m)) (sym taken-is)
         ∙ ap (λ (i : ℕ). take i (verifier_sent (whole_session s))) count
     | inr v ↦
@@ -147,7 +145,7 @@ module _ (c : SoundCircuit) (s : Session) (same : s.parts ≡ c.parts) (as_many 
       let cut : t ≡ 8 * (t / 8) + t % 8 = omega arith in
       ap (leading due) (
       ap (take t) taken-is
-      ∙ take-append-le t word-bytes (1 ∷ []) (omega (arith, u, word-length))
+      ∙ take-append-le t word-bytes (1 ∷ []) (omega (arith, u, words-length c s same as_many stand words))
       ∙ ap (λ (m : ℕ). take m word-bytes) cut)
       ∙ in-front due (t / 8) (t % 8) s.words (omega (arith, u)) (omega arith)
 

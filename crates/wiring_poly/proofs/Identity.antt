@@ -12,11 +12,15 @@ use Rattle.wiring_poly.specs.Wiring.{by_kind, sum_gates, gate_weight, summand, s
 use Rattle.field_ext.proofs.Solve.{var, nil, ◌⊕◌, ◌⊗◌, solve}
 use Rattle.mle_table.proofs.SumLaws.{sum_cube-same, sum_cube-add, sum_cube-scale, sum_cube-zero}
 use Rattle.mle_table.proofs.Points.{sum-eq, ext-bits}
-use Rattle.wiring_poly.proofs.Sums.{sum_below-front}
+use Rattle.field_ext.proofs.Sums.{sum_below-front}
 
 pub take-front : {A : Type 0} (u v : List A) → take (length u) (u ++ v) ≡ u
 take-front [] v = refl
 take-front (x ∷ u) v = ap (λ (t : List _). x ∷ t) (take-front u v)
+
+-- a vector that is written whole through its slice
+pub written_back : {A : Type 0} (old new : List A) (n : ℕ) → length new ≡ n → take n (new ++ drop (length new) old) ≡ new
+written_back old new n e = ap (λ (i : ℕ). take i (new ++ drop (length new) old)) (sym e) ∙ take-front new (drop (length new) old)
 
 pub drop-front : {A : Type 0} (u v : List A) → drop (length u) (u ++ v) ≡ v
 drop-front [] v = refl

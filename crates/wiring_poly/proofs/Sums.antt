@@ -1,13 +1,9 @@
--- Sums below a number: the first term, one sum after another, and a sum of zeros
+-- Sums below a number: one sum after another, and a sum of zeros
 use Rattle.std.proofs.Common.{◌≡◌, ℕ, zero, suc, ◌+◌, refl, sym, ◌∙◌, ap, arith}
 use Rattle.field_ext.specs.Ring.{Ops, Laws}
 use Rattle.field_ext.specs.Sums.{sum_below}
 
 module _ {A : Type 0} (o : Ops A) (l : Laws A o) where
-  pub sum_below-front : (n : ℕ) (f : ℕ → A) → sum_below o (suc n) f ≡ o.add (f 0) (sum_below o n (λ k. f (suc k)))
-  sum_below-front zero f = l.add_comm o.zero (f 0)
-  sum_below-front (suc n) f = ap (λ (t : A). o.add t (f (suc n))) (sum_below-front n f) ∙ l.add_assoc (f 0) (sum_below o n (λ k. f (suc k))) (f (suc n))
-
   pub sum_below-append : (m n : ℕ) (f : ℕ → A) → sum_below o (m + n) f ≡ o.add (sum_below o m f) (sum_below o n (λ j. f (m + j)))
   sum_below-append m zero f = let e : m + 0 ≡ m = omega arith in ap (λ (i : ℕ). sum_below o i f) e ∙ sym (l.add_zero (sum_below o m f))
   sum_below-append m (suc n) f =

@@ -3,7 +3,7 @@ use Rattle.std.proofs.Common.{◌≡◌, ℕ, ◌++◌, List, length, take, IsTr
 use Rattle.std.proofs.lemmas.List.{take_all}
 use Rattle.field_ext.specs.Field.{K}
 use Rattle.circuit_core.specs.Sound.{exponent_at}
-use Rattle.round_tables.proofs.PhaseSteps.{written_back}
+use Rattle.wiring_poly.proofs.Identity.{written_back}
 use Rattle.transcript_fs.specs.Source.{Source, point_draws, state_after_point, draws, all_draws, state_after}
 use Rattle.transcript_fs.proofs.Draws.{has_front, has_after_point}
 use Rattle.proof_wire.specs.declared.messages.LayerMessages.{LayerMessages}

@@ -5,7 +5,7 @@ use Rattle.circuit_core.specs.Parts.{padded_values}
 use Rattle.circuit_core.specs.Sound.{exponent_at}
 use Rattle.circuit_core.proofs.Sizes.{size_of}
 use Rattle.circuit_eval.proofs.LayerTables.{same_exponent}
-use Rattle.round_tables.proofs.PhaseSteps.{written_back}
+use Rattle.wiring_poly.proofs.Identity.{written_back}
 use Rattle.gkr_layers.specs.Sumcheck.{difference}
 use Rattle.gkr_layers.proofs.Shapes.{outputs_room}
 use Rattle.audit_core.proofs.Difference.{table_width}

@@ -3,7 +3,7 @@ use Rattle.std.proofs.Common.{◌≡◌, ℕ, ◌++◌, List, IsTrue, length, ta
 use Rattle.circuit_core.specs.Parts.{Parts, input_table}
 use Rattle.circuit_core.specs.Sound.{exponent_at, exponents}
 use Rattle.gkr_layers.specs.Layers.{layers_of, message_count}
-use Rattle.round_tables.proofs.PhaseSteps.{written_back}
+use Rattle.wiring_poly.proofs.Identity.{written_back}
 use Rattle.transcript_fs.specs.Source.{Source, point_draws, state_after_point, draws, state_after}
 use Rattle.proof_wire.specs.declared.messages.LayerMessages.{LayerMessages}
 use Rattle.proof_wire.specs.Lists.{all_messages, HaveShape}

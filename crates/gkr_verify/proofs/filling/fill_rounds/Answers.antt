@@ -5,7 +5,8 @@ use Rattle.transcript_fs.specs.Source.{Source}
 use Rattle.proof_wire.specs.declared.messages.Round.{Round}
 use Rattle.proof_wire.specs.Spelling.{coefficients_of}
 use Rattle.gkr_verify.specs.ShortProof.{filled_round}
-use Rattle.gkr_verify.proofs.FillSteps.{RoundsFilled, round_by_coefficients, round_filled, round_has}
+use Rattle.gkr_verify.proofs.FillSteps.{RoundsFilled, round_filled, round_has}
+use Rattle.proof_wire.proofs.Apart.{round_apart as round_by_coefficients}
 use Rattle.gkr_verify.proofs.filling.fill_rounds.Goals as goal
 
 pub draw_behind-requires : goal.draw_behind-requires

@@ -1,6 +1,6 @@
 use Rattle.std.proofs.Common.{rules, ◌≡◌, inl, inr, ⊎_elim, vec_len, ◌++◌, ◌∷◌, [], length, sym, ap, ◌∙◌, subst, arith, append_assoc, append-nil}
 use Rattle.std.specs.Vec.Iter.{into_iter_items}
-use Rattle.job_table.proofs.Kept.{nothing_left}
+use Rattle.std.proofs.lemmas.List.{nil_from_length as nothing_left}
 use Rattle.job_table.specs.declared.slot.Seen.{Seen}
 use Rattle.prove_serve.specs.declared.job.Job.{Job}
 use Rattle.prove_serve.specs.declared.job.Reply.{Reply}

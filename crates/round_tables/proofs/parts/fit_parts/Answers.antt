@@ -1,7 +1,7 @@
 -- The parts with capacity are the vector's
 use Rattle.std.proofs.Common.{rules, ◌≡◌, ◌++◌, List, length, take, drop, sym, subst, IfOk, All}
 use Rattle.round_tables.specs.PartTables.{PartTables, HasRoom}
-use Rattle.round_tables.proofs.PhaseSteps.{written_back}
+use Rattle.wiring_poly.proofs.Identity.{written_back}
 use Rattle.round_tables.proofs.parts.fit_parts.Goals as goal
 
 pub returns-clause-rooms : goal.returns-clause-rooms

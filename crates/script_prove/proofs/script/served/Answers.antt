@@ -1,6 +1,6 @@
 use Rattle.std.proofs.Common.{◌≡◌, ◌++◌, List, map, sym, ap, ◌∙◌, subst, append-nil}
 use Rattle.std.specs.Vec.Iter.{into_iter_items}
-use Rattle.job_table.proofs.Kept.{nothing_left}
+use Rattle.std.proofs.lemmas.List.{nil_from_length as nothing_left}
 use Rattle.job_table.specs.declared.event.Outcome.{Outcome}
 use Rattle.script_prove.specs.declared.prover.JobReply.{JobReply}
 use Rattle.script_prove.specs.Served.{answer_of}

@@ -1,16 +1,10 @@
-use Rattle.std.proofs.Common.{rules, ◌≡◌, ◌↔◌, ℕ, List, [], ◌∷◌, IsTrue, get_or, leb, min, true, arith, sym, ap, ◌∙◌, subst}
+use Rattle.std.proofs.Common.{rules, ◌≡◌, ◌↔◌, ℕ, IsTrue, get_or, leb, min, true, arith, sym, ap, ◌∙◌, subst}
 use Rattle.std.specs.List.{range_with_len}
 use Rattle.std.specs.List.Sorted.{IsPermutation}
-use mathlib.Core.Option.{some, some-injective, some-ne-none}
-use lib.ListN.{get_elem?}
 use Rattle.tallies.specs.Tallies.{times, once_below}
-use Rattle.chunk_board.proofs.Steps.{whole_drawn, stopped_full}
+use Rattle.chunk_board.proofs.Steps.{first_of, whole_drawn, stopped_full}
 use Rattle.tallies.proofs.Once.{closes, le_leb}
 use Rattle.chunk_board.proofs.board.ChunkBoard.close.Goals as goal
-
-first_of : (l : List ℕ) (x : ℕ) → get_elem? l 0 ≡ some x → get_or l 0 0 ≡ x
-first_of [] x e = absurd (some-ne-none x (sym e))
-first_of (y ∷ l) x e = some-injective y x e
 
 pub returns-clause-all : goal.returns-clause-all
 returns-clause-all c = let f = c.close_with-closed.ensures.values.2 in let seen = f.1 in let hand = c.claimer.inside.seat.me.0 in

@@ -1,7 +1,6 @@
-use Rattle.std.proofs.Common.{rules, ◌≡◌, ◌∙◌, ◌↔◌, ℕ, List, [], ◌∷◌, IsTrue, None, get_or, leb, min, true, arith, sym, ap, length, subst}
+use Rattle.std.proofs.Common.{rules, ◌≡◌, ◌∙◌, ◌↔◌, ℕ, IsTrue, None, get_or, leb, min, true, arith, sym, ap, length, subst}
 use Rattle.std.specs.List.{range_with_len}
 use Rattle.std.specs.List.Sorted.{IsPermutation}
-use mathlib.Core.Option.{some, some-injective, some-ne-none}
 use lib.ListN.{get_elem?}
 use Rattle.std.specs.Slots.{slots_items}
 use Rattle.tallies.specs.Tallies.{times, once_below}
@@ -9,10 +8,7 @@ use Rattle.tallies.proofs.Once.{closes, le_leb}
 use Rattle.chunk_board.proofs.PartEnds.{lefts, all_stopped}
 use Rattle.chunk_board.proofs.Emptying.{here, at_or}
 use Rattle.chunk_board.proofs.part_board.PartBoard.close.Goals as goal
-
-first_of : (l : List ℕ) (x : ℕ) → get_elem? l 0 ≡ some x → get_or l 0 0 ≡ x
-first_of [] x e = absurd (some-ne-none x (sym e))
-first_of (y ∷ l) x e = some-injective y x e
+use Rattle.chunk_board.proofs.Steps.{first_of}
 
 pub brought_home-parts-requires-clause-full : goal.brought_home-parts-requires-clause-full
 brought_home-parts-requires-clause-full g c = let hand = c.claimer.inside.seat.me.0 in let key = c.self.inside.table.shared.key in

@@ -7,7 +7,8 @@ use Rattle.round_tables.specs.PartTables.{flat_table, flat_scales, flat_shifts, 
 use Rattle.round_tables.specs.Tables.{GathersLeft}
 use Rattle.round_tables.specs.Phase.{IsPhase}
 use Rattle.round_tables.specs.Working.{place_of, parts_of}
-use Rattle.round_tables.proofs.PhaseSteps.{started, written_back}
+use Rattle.round_tables.proofs.PhaseSteps.{started}
+use Rattle.wiring_poly.proofs.Identity.{written_back}
 use Rattle.round_tables.proofs.PieceValues.{in_left_phase}
 use Rattle.round_tables.proofs.working.Working.begin.Goals as goal
 
