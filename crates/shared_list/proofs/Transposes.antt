@@ -81,21 +81,21 @@ turned-inside (suc n) m k inside =
     omega (arith, mul-add-lt (k % suc n) m (k / suc n) (suc n) row_in column_in, mul_comm m (suc n))
 
 -- a held transpose: its items, and how many there are
-pub held-turned : {A : Type 0} (held : Held A) (list : List A) (items : _) (rows columns : ℕ) (nothing : A) → held ≡ Turned items rows columns nothing → items_of held ≡ list →
+pub held-turned : {A : Type 0} (held : Held A) (list : List A) (items : _) (rows columns : ℕ) (nothing : A) → held ≡ Turned nothing items rows columns → items_of held ≡ list →
     list ≡ turned nothing rows columns items.value.items
 held-turned held list items rows columns nothing is view_is = sym view_is ∙ ap items_of is
 
-pub held-whole : {A : Type 0} (held : Held A) (items : _) (rows columns : ℕ) (nothing : A) → held ≡ Turned items rows columns nothing → IsWhole held → length items.value.items ≡ rows * columns
-held-whole held items rows columns nothing is whole = (subst IsWhole is whole).0
+pub held-whole : {A : Type 0} (held : Held A) (items : _) (rows columns : ℕ) (nothing : A) → held ≡ Turned nothing items rows columns → IsWhole held → length items.value.items ≡ rows * columns
+held-whole held items rows columns nothing is whole = subst IsWhole is whole
 
-pub held-length : {A : Type 0} (held : Held A) (list : List A) (items : _) (rows columns : ℕ) (nothing : A) → held ≡ Turned items rows columns nothing → items_of held ≡ list → IsWhole held →
+pub held-length : {A : Type 0} (held : Held A) (list : List A) (items : _) (rows columns : ℕ) (nothing : A) → held ≡ Turned nothing items rows columns → items_of held ≡ list → IsWhole held →
     length items.value.items ≡ length list
 held-length held list items rows columns nothing is view_is whole =
     held-whole held items rows columns nothing is whole
     ∙ sym (ap length (held-turned held list items rows columns nothing is view_is) ∙ turned-length nothing rows columns items.value.items)
 
 -- an item of a held transpose
-pub held-item : {A : Type 0} (held : Held A) (list : List A) (items : _) (rows columns : ℕ) (nothing : A) → held ≡ Turned items rows columns nothing → items_of held ≡ list → IsWhole held →
+pub held-item : {A : Type 0} (held : Held A) (list : List A) (items : _) (rows columns : ℕ) (nothing : A) → held ≡ Turned nothing items rows columns → items_of held ≡ list → IsWhole held →
     (place : ℕ) (past : A) → place < length items.value.items → get_or list place past ≡ get_or items.value.items (place % rows * columns + place / rows) nothing
 held-item held list items rows columns nothing is view_is whole place past inside =
     ap (λ xs. get_or xs place past) (held-turned held list items rows columns nothing is view_is)
@@ -109,7 +109,7 @@ get_or-past (x ∷ items) zero past outside = absurd (omega (arith, outside))
 get_or-past (x ∷ items) (suc k) past outside = get_or-past items k past (omega (arith, outside))
 
 -- a held transpose, transposed
-pub held-twice : {A : Type 0} (held : Held A) (list : List A) (items : _) (rows columns : ℕ) (nothing past : A) (n m : ℕ) → held ≡ Turned items rows columns nothing → items_of held ≡ list → IsWhole held →
+pub held-twice : {A : Type 0} (held : Held A) (list : List A) (items : _) (rows columns : ℕ) (nothing past : A) (n m : ℕ) → held ≡ Turned nothing items rows columns → items_of held ≡ list → IsWhole held →
     rows ≡ m → columns ≡ n → turned past n m list ≡ items.value.items
 held-twice held list items rows columns nothing past n m is view_is whole same_rows same_columns =
     ap (turned past n m) (held-turned held list items rows columns nothing is view_is)

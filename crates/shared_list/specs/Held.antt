@@ -1,5 +1,5 @@
 -- What a held list is: one item, a list, or the transpose of a list.
-use Rattle.std.specs.Prelude.{◌≡◌, ◌*◌, ◌<◌, ◌^◌, List, [], ◌∷◌, length}
+use Rattle.std.specs.Prelude.{◌≡◌, ◌*◌, List, [], ◌∷◌, length}
 use Rattle.shared_list.specs.declared.held.Held.{Held}
 use Rattle.shared_list.specs.declared.held.Held.TheVariants.{One, Rows, Turned}
 use Rattle.shared_list.specs.Turned.{turned}
@@ -7,11 +7,10 @@ use Rattle.shared_list.specs.Turned.{turned}
 abbrev pub items_of : {A : Type 0} → Held A → List A
 items_of (One item) = item ∷ []
 items_of (Rows items) = items.value.items
-items_of (Turned items rows columns nothing) = turned nothing rows columns items.value.items
+items_of (Turned nothing items rows columns) = turned nothing rows columns items.value.items
 
 -- a transpose is that of a whole matrix
 abbrev pub IsWhole : {A : Type 0} → Held A → Type 0
 IsWhole (One item) = Unit {0}
 IsWhole (Rows items) = Unit {0}
-IsWhole (Turned items rows columns nothing) =
-    (length items.value.items ≡ rows * columns) × (rows < 2 ^ 32) × (columns < 2 ^ 32)
+IsWhole (Turned nothing items rows columns) = length items.value.items ≡ rows * columns

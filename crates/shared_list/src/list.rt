@@ -63,18 +63,18 @@ impl<T: Copy> SharedList<T> {
                 })
             }
             Held::Turned {
+                nothing,
                 items,
                 rows,
                 columns,
-                nothing,
             } => {
                 let items = items.clone()?;
                 Ok(SharedList {
                     held: Held::Turned {
+                        nothing: *nothing,
                         items,
                         rows: *rows,
                         columns: *columns,
-                        nothing: *nothing,
                     },
                 })
             }
@@ -110,13 +110,14 @@ impl<T: Copy> SharedList<T> {
             Held::One(item) => { if place == 0 { *item } else { nothing } }
             Held::Rows(items) => item_or(items, place, nothing),
             Held::Turned {
+                nothing: within,
                 items,
                 rows,
                 columns,
-                nothing: within,
             } => {
                 if place < items.as_slice().len() {
-                    turned_item(items.as_slice(), *rows, *columns, place, *within)
+                    let (rows, columns) = (*rows as usize, *columns as usize);
+                    turned_item(items.as_slice(), rows, columns, place, *within)
                 } else {
                     nothing
                 }
@@ -132,11 +133,11 @@ impl<T: Copy> SharedList<T> {
             Held::One(item) => alone(alloc, *item),
             Held::Rows(items) => Vec::from_slice(alloc, items),
             Held::Turned {
+                nothing,
                 items,
                 rows,
                 columns,
-                nothing,
-            } => turned_items(alloc, *rows, *columns, *nothing, items),
+            } => turned_items(alloc, *rows as usize, *columns as usize, *nothing, items),
         }
     }
 
@@ -162,11 +163,11 @@ impl<T: Copy> SharedList<T> {
             Held::One(item) => alone(alloc, item),
             Held::Rows(items) => taken(alloc, items),
             Held::Turned {
+                nothing,
                 items,
                 rows,
                 columns,
-                nothing,
-            } => turned_items(alloc, rows, columns, nothing, &items),
+            } => turned_items(alloc, rows as usize, columns as usize, nothing, &items),
         }
     }
 
@@ -187,10 +188,10 @@ impl<T: Copy> SharedList<T> {
                 let items = items.clone()?;
                 Ok(SharedList {
                     held: Held::Turned {
-                        items,
-                        rows: n,
-                        columns: m,
                         nothing,
+                        items,
+                        rows: n as u32,
+                        columns: m as u32,
                     },
                 })
             }
@@ -199,7 +200,7 @@ impl<T: Copy> SharedList<T> {
                 rows,
                 columns,
                 ..
-            } if *rows == m && *columns == n => {
+            } if *rows as usize == m && *columns as usize == n => {
                 let items = items.clone()?;
                 Ok(SharedList {
                     held: Held::Rows(items),
