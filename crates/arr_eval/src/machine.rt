@@ -146,7 +146,8 @@ fn pair(
     left: &SharedList<Fp>,
     right: SharedList<Fp>,
 ) -> Result<SharedList<Fp>, AllocError>
-    ensures { IfOk result (λ found. found ≡ pair_of function left_shape right_shape left.now right) }
+    ensures { IfOk result
+        (λ found. found ≡ pair_of function left_shape right_shape left.now right) }
 {
     match (function, left_shape, right_shape) {
         (PairFunction::Scale, _, _) => {

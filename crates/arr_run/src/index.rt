@@ -93,7 +93,8 @@ fn times_value<A: Drop>(
     times: &TimesIndexFactor,
 ) -> Result<i64, CheckRefused>
     requires { nat_abs left ≤ 2 ^ 31 }
-    ensures value { Agrees (λ z. z) result (times_index_factor_value scope.now whole times.now left) }
+    ensures value { Agrees (λ z. z) result
+        (times_index_factor_value scope.now whole times.now left) }
     ensures small { IfOk result (λ z. nat_abs z ≤ 2 ^ 31) }
 {
     let right = factor_value(scope, whole, &times.factor)?;

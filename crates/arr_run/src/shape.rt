@@ -67,7 +67,8 @@ pub fn signed_shape(
     left: ShapeOf,
     right: ShapeOf,
 ) -> Result<ShapeOf, CheckRefused>
-    ensures { Agrees (λ shape. (shape, counts.new)) result (sum_shape sign at left right counts.old) }
+    ensures { Agrees (λ shape. (shape, counts.new)) result
+        (sum_shape sign at left right counts.old) }
 {
     if !is_alike(left, right) {
         return Err(misshapen(at));
@@ -92,7 +93,8 @@ pub fn times_shape(
     left: ShapeOf,
     right: ShapeOf,
 ) -> Result<ShapeOf, CheckRefused>
-    ensures { Agrees (λ shape. (shape, counts.new)) result (product_shape at left right counts.old) }
+    ensures { Agrees (λ shape. (shape, counts.new)) result
+        (product_shape at left right counts.old) }
 {
     if !is_alike(left, right) {
         return Err(misshapen(at));
@@ -108,7 +110,8 @@ pub fn single_shape(
     at: usize,
     shape: ShapeOf,
 ) -> Result<ShapeOf, CheckRefused>
-    ensures { Agrees (λ shape. (shape, counts.new)) result (shape_of_single function at shape counts.old) }
+    ensures { Agrees (λ shape. (shape, counts.new)) result
+        (shape_of_single function at shape counts.old) }
 {
     match (function, shape) {
         (SingleFunction::Sum, _) => {

@@ -37,7 +37,8 @@ pub fn truth_is_accepted()
 
 /// The audit of honest messages, where the outputs are the circuit's, names nothing.
 pub fn honesty_is_unnamed()
-    ensures { (form : ProofForm) (circuit : SoundCircuit) (inputs outputs : List F) (source : Source)
+    ensures { (form : ProofForm) (circuit : SoundCircuit) (inputs outputs : List F)
+        (source : Source)
         (s : List ℕ) (messages : Messages) → length outputs ≡ circuit.parts.outputs
         → AreOutputs circuit.parts inputs outputs
         → HaveShape form (drop 1 (exponents circuit.parts)) messages.layers →

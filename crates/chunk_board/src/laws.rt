@@ -35,7 +35,8 @@ pub fn one_sum<A>()
         → ((x y : A) → add x y ≡ add y x) → ((x y z : A) → add (add x y) z ≡ add x (add y z)) →
         (ss : List ClaimStep) (p : Phase A) → 0 < shares → IsRun n out ss (start shares) p
         → AllStopped p → AllWorked p →
-        sum_with add zero (outputs_of p.results) ≡ sum_with add zero (map out (range_with_len 0 n)) }
+        sum_with add zero (outputs_of p.results) ≡ sum_with add zero
+        (map out (range_with_len 0 n)) }
 {}
 
 /// At each moment of a board of parts, each part lies in its slot and no claimer holds it, or its slot is out and one claimer

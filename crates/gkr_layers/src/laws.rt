@@ -90,7 +90,8 @@ pub fn bounds_add()
 
 /// A false claim on the first layer that passes every equation shows an exceptional challenge.
 pub fn sound_layers()
-    ensures { (form : ProofForm) (j : ℕ) (layers : List GateLayer) (input : List K) (place : Place K)
+    ensures { (form : ProofForm) (j : ℕ) (layers : List GateLayer) (input : List K)
+        (place : Place K)
         (claim : K) (qs : List (List K)) (rs : List K) → IsOver j place → FitTogether j layers →
         length qs ≡ message_count layers → length rs ≡ message_count layers →
         LayersHold k_ops form layers input place claim qs rs
@@ -126,7 +127,8 @@ pub fn sound()
 
 /// Honest messages are accepted, where the claimed outputs are those that the circuit has on these inputs.
 pub fn honest_is_accepted()
-    ensures forms { (form : ProofForm) (c : SoundCircuit) (inputs outputs : List F) (source : Source)
+    ensures forms { (form : ProofForm) (c : SoundCircuit) (inputs outputs : List F)
+        (source : Source)
         (s : List ℕ) (qs : List (List K)) → length outputs ≡ c.parts.outputs →
         outputs ≡ take (length outputs) (drop 1 (layer_values c.parts inputs 0))
         → let stated = claim_in form c.parts inputs outputs in

@@ -49,7 +49,8 @@ pub(crate) fn prove_layer<R: Threads + Sync, C: Challenges, G: Gate>(
     requires workers { IsWorkerCount workers }
     requires layer { IsLayer K values.now.k gates.now values.now.items (place_of place.now) }
     requires few { length gates.now ≤ 65536 }
-    requires has { IsTrue (C.source.has (C.state challenges.old) (values.now.k + values.now.k + 1)) }
+    requires has { IsTrue
+        (C.source.has (C.state challenges.old) (values.now.k + values.now.k + 1)) }
     ensures honest { IfOk result (λ proved. let qs = messages_of proved.messages in
         IsHonestLayer form values.now.k gates.now values.now.items (place_of place.now) qs
         (draws C.source (C.state challenges.old) qs)) }

@@ -51,7 +51,8 @@ pub(crate) fn prove_layers<R: Threads + Sync, C: Challenges, G: Gate>(
         (λ messages. C.state challenges.new ≡ state_after C.source (C.state challenges.old)
         (all_messages messages.items)) }
     ensures shape { IfOk result
-        (λ messages. HaveShape form (lower_exponents (layers_of circuit.now.parts)) messages.items) }
+        (λ messages. HaveShape form (lower_exponents (layers_of circuit.now.parts))
+        messages.items) }
 {
     let mut messages = Vec::new(alloc);
     for layer in 0..circuit.height() {

@@ -39,7 +39,8 @@ pub fn prove<R: Threads + Sync, C: Challenges, G: Gate>(
 ) -> Result<Messages, AllocError>
     requires workers { IsWorkerCount workers }
     requires values { (inputs : List F) × AreTables circuit.now.parts inputs values.now }
-    requires has { IsTrue (C.source.has (C.state challenges.old) (challenges_of circuit.now.parts)) }
+    requires has { IsTrue
+        (C.source.has (C.state challenges.old) (challenges_of circuit.now.parts)) }
     ensures honest { IfOk result (λ messages. (inputs : List F)
         → AreTables circuit.now.parts inputs values.now →
         IsHonestProof circuit.now.parts inputs C.source (C.state challenges.old)
@@ -48,7 +49,8 @@ pub fn prove<R: Threads + Sync, C: Challenges, G: Gate>(
         ≡ state_after C.source (state_after_point C.source (C.state challenges.old)
         (exponent_at circuit.now.parts 0)) (all_messages messages.layers)) }
     ensures shape { IfOk result
-        (λ messages. HaveShape ProofForm.Line (drop 1 (exponents circuit.now.parts)) messages.layers) }
+        (λ messages. HaveShape ProofForm.Line (drop 1 (exponents circuit.now.parts))
+        messages.layers) }
 {
     prove_as(
         rt,
@@ -74,7 +76,8 @@ pub fn prove_pair<R: Threads + Sync, C: Challenges, G: Gate>(
 ) -> Result<PairMessages, AllocError>
     requires workers { IsWorkerCount workers }
     requires values { (inputs : List F) × AreTables circuit.now.parts inputs values.now }
-    requires has { IsTrue (C.source.has (C.state challenges.old) (challenges_of circuit.now.parts)) }
+    requires has { IsTrue
+        (C.source.has (C.state challenges.old) (challenges_of circuit.now.parts)) }
     ensures honest { IfOk result (λ messages. (inputs : List F)
         → AreTables circuit.now.parts inputs values.now →
         AreHonestMessages ProofForm.Pair circuit.now.parts inputs C.source (C.state challenges.old)
@@ -83,7 +86,8 @@ pub fn prove_pair<R: Threads + Sync, C: Challenges, G: Gate>(
         ≡ state_after C.source (state_after_point C.source (C.state challenges.old)
         (exponent_at circuit.now.parts 0)) (all_messages messages.layers)) }
     ensures shape { IfOk result
-        (λ messages. HaveShape ProofForm.Pair (drop 1 (exponents circuit.now.parts)) messages.layers) }
+        (λ messages. HaveShape ProofForm.Pair (drop 1 (exponents circuit.now.parts))
+        messages.layers) }
 {
     prove_as(
         rt,
@@ -110,7 +114,8 @@ pub fn prove_as<R: Threads + Sync, C: Challenges, G: Gate>(
 ) -> Result<Messages, AllocError>
     requires workers { IsWorkerCount workers }
     requires values { (inputs : List F) × AreTables circuit.now.parts inputs values.now }
-    requires has { IsTrue (C.source.has (C.state challenges.old) (challenges_of circuit.now.parts)) }
+    requires has { IsTrue
+        (C.source.has (C.state challenges.old) (challenges_of circuit.now.parts)) }
     ensures honest { IfOk result (λ messages. (inputs : List F)
         → AreTables circuit.now.parts inputs values.now →
         AreHonestMessages form circuit.now.parts inputs C.source (C.state challenges.old)

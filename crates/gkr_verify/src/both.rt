@@ -27,8 +27,10 @@ impl GateShares {
     /// What no gate adds.
     #[inline]
     fn none() -> GateShares
-        ensures add { (both : BothEquality) (block : ℕ) → with_factors both block result.add ≡ zero_k }
-        ensures mul { (both : BothEquality) (block : ℕ) → with_factors both block result.mul ≡ zero_k }
+        ensures add { (both : BothEquality) (block : ℕ) → with_factors both block result.add
+            ≡ zero_k }
+        ensures mul { (both : BothEquality) (block : ℕ) → with_factors both block result.mul
+            ≡ zero_k }
     {
         GateShares {
             add: Shares::none(),

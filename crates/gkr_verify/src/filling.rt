@@ -57,7 +57,8 @@ pub fn fill<C: Challenges>(
 ) -> Result<Messages, AllocError>
     requires outputs { length outputs.now ≡ circuit.now.parts.outputs }
     requires shape { HavePairs (drop 1 (exponents circuit.now.parts)) pairs.now.layers }
-    requires has { IsTrue (C.source.has (C.state challenges.old) (challenges_of circuit.now.parts)) }
+    requires has { IsTrue
+        (C.source.has (C.state challenges.old) (challenges_of circuit.now.parts)) }
     ensures messages { IfOk result (λ messages. messages ≡ filled circuit.now.parts outputs.now
         C.source (C.state challenges.old) pairs.now) }
     ensures shape { IfOk result (λ messages. HaveShape ProofForm.Line
@@ -79,7 +80,8 @@ pub(crate) fn fill_drawn<C: Challenges>(
 ) -> Result<Filled, AllocError>
     requires outputs { length outputs.now ≡ circuit.now.parts.outputs }
     requires shape { HavePairs (drop 1 (exponents circuit.now.parts)) pairs.now.layers }
-    requires has { IsTrue (C.source.has (C.state challenges.old) (challenges_of circuit.now.parts)) }
+    requires has { IsTrue
+        (C.source.has (C.state challenges.old) (challenges_of circuit.now.parts)) }
     ensures messages { IfOk result (λ made. made.messages ≡ filled circuit.now.parts outputs.now
         C.source (C.state challenges.old) pairs.now) }
     ensures shape { IfOk result (λ made. HaveShape ProofForm.Line
@@ -111,7 +113,8 @@ pub(crate) fn start<C: Challenges>(
     challenges: &mut C,
 ) -> Result<AtOutputs, AllocError>
     requires outputs { length outputs.now ≡ circuit.now.parts.outputs }
-    requires has { IsTrue (C.source.has (C.state challenges.old) (exponent_at circuit.now.parts 0)) }
+    requires has { IsTrue
+        (C.source.has (C.state challenges.old) (exponent_at circuit.now.parts 0)) }
     ensures point { IfOk result (λ made. made.point.items ≡ point_draws C.source
         (C.state challenges.old) (exponent_at circuit.now.parts 0)) }
     ensures claim { IfOk result (λ made. made.claim ≡ output_claim circuit.now.parts outputs.now

@@ -50,7 +50,8 @@ pub(crate) fn check_layer<C: Challenges>(
     requires drawn { length drawn.old ≡ exponent_at circuit.now.parts (layer + 1) + exponent_at
         circuit.now.parts (layer + 1) }
     requires has { IsTrue (C.source.has (C.state challenges.old)
-        (exponent_at circuit.now.parts (layer + 1) + exponent_at circuit.now.parts (layer + 1) + 1)) }
+        (exponent_at circuit.now.parts (layer + 1) + exponent_at circuit.now.parts (layer + 1) +
+        1)) }
     ensures holds { IfOk result
         (λ next. (below : List GateLayer) (input : List K) (qs : List (List K)) →
         answer C.source (C.state challenges.old)

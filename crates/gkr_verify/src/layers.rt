@@ -39,7 +39,8 @@ pub(crate) fn check_layers<C: Challenges>(
     requires inputs { length inputs.now ≡ circuit.now.parts.inputs }
     requires layer { layer + length messages.now ≡ height circuit.now.parts }
     requires place { IsOver (exponent_at circuit.now.parts layer) (place_of place.now) }
-    requires shape { HaveShape form (lower_exponents (layers_below circuit.now.parts layer)) messages.now }
+    requires shape { HaveShape form (lower_exponents (layers_below circuit.now.parts layer))
+        messages.now }
     requires room { length room.old ≡ 3 * total_exponent (layers_below circuit.now.parts layer) }
     requires has { IsTrue (C.source.has (C.state challenges.old)
         (message_count (layers_below circuit.now.parts layer))) }

@@ -35,7 +35,8 @@ pub(crate) fn check_rounds<C: Challenges>(
         (λ last. last ≡ claim_after claim (round_messages messages.now)
         (draws C.source (C.state challenges.old) (round_messages messages.now))) }
     ensures drawn { IfOk result
-        (λ last. drawn.new ≡ draws C.source (C.state challenges.old) (round_messages messages.now)) }
+        (λ last. drawn.new ≡ draws C.source (C.state challenges.old)
+        (round_messages messages.now)) }
     ensures state { IfOk result
         (λ last. C.state challenges.new ≡ state_after C.source (C.state challenges.old)
         (round_messages messages.now)) }

@@ -33,7 +33,8 @@ pub fn check_two<C: Challenges>(
     requires inputs { length inputs.now ≡ circuit.now.parts.inputs }
     requires outputs { length outputs.now ≡ circuit.now.parts.outputs }
     requires shape { HavePairs (drop 1 (exponents circuit.now.parts)) pairs.now.layers }
-    requires has { IsTrue (C.source.has (C.state challenges.old) (challenges_of circuit.now.parts)) }
+    requires has { IsTrue
+        (C.source.has (C.state challenges.old) (challenges_of circuit.now.parts)) }
     ensures verdict { IfOk result (λ verdict.
         let stated = claim_of circuit.now.parts inputs.now outputs.now in
         let s = C.state challenges.old in

@@ -122,7 +122,8 @@ pub(crate) fn standing_below<'a>(
     challenge: Ext,
     point: &'a [Ext],
 ) -> Standing<'a>
-    requires { form ≡ ProofForm.Line → point.now ≡ point_between k_ops left.now right.now challenge }
+    requires { form ≡ ProofForm.Line → point.now ≡ point_between k_ops left.now right.now
+        challenge }
     ensures { place_of result ≡ place_between k_ops form left.now right.now challenge }
 {
     match form {

@@ -58,7 +58,8 @@ pub fn first_sum<C: Challenges>(
     requires outputs { length outputs.now ≡ circuit.now.parts.outputs }
     requires shape { HaveShape ProofForm.Line (drop 1 (exponents circuit.now.parts))
         messages.now.layers }
-    requires has { IsTrue (C.source.has (C.state challenges.old) (challenges_of circuit.now.parts)) }
+    requires has { IsTrue
+        (C.source.has (C.state challenges.old) (challenges_of circuit.now.parts)) }
     ensures first { IfOk result (λ found.
         let sums = sums_of circuit.now.parts outputs.now C.source (C.state challenges.old)
         messages.now in
@@ -83,7 +84,8 @@ fn first_of_layers<C: Challenges>(
 ) -> Option<LayerSum>
     requires few { All (λ layer. length layer.rounds ≤ 32) layers.now }
     requires room { length room.old ≡ 32 }
-    requires has { IsTrue (C.source.has (C.state challenges.old) (length (all_messages layers.now))) }
+    requires has { IsTrue
+        (C.source.has (C.state challenges.old) (length (all_messages layers.now))) }
     ensures first { let sums = sums_from C.source 0 (C.state challenges.old) first layers.now in
         MatchOption result (first_failure sums ≡ Accepted)
         (λ fault. first_failure sums ≡ layer_failure fault) }
@@ -109,7 +111,8 @@ fn sums_of_layer<C: Challenges>(
 ) -> Result<Ext, SumFault>
     requires few { length messages.now.rounds ≤ 32 }
     requires room { length room.old ≡ 32 }
-    requires has { IsTrue (C.source.has (C.state challenges.old) (length (messages_of messages.now))) }
+    requires has { IsTrue
+        (C.source.has (C.state challenges.old) (length (messages_of messages.now))) }
     ensures holds { IfOk result (λ next. (number : ℕ) →
         let qs = round_messages messages.now.rounds in
         first_failure (sum_equations number 1 claim qs (draws C.source (C.state challenges.old) qs))

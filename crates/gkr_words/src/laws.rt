@@ -72,7 +72,8 @@ pub fn words_with_forms()
     ensures to_none { (program : List ℕ) → command_of (program ∷ codes "convert" ∷ []) ≡ None }
     ensures pair_by { (program : List ℕ) (workers : ℕ) → 1 ≤ workers → workers ≤ 64
         → command_of (program ∷ codes "prove" ∷ codes "--proof" ∷ codes "pair" ∷ codes "--workers"
-        ∷ decimal workers ∷ []) ≡ Some (Command.OfCase (CaseCommand.Prove workers ProofKind.ByPairs)) }
+        ∷ decimal workers ∷ []) ≡ Some
+        (Command.OfCase (CaseCommand.Prove workers ProofKind.ByPairs)) }
 {}
 
 /// `session --piece B` names a session in pieces of B bytes, for each B from 1 to 65,536 in decimal and for no other below 2^32, by

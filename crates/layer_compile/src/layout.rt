@@ -83,7 +83,8 @@ impl<'a> Plan<'a> {
         layers: Vec<Layer>,
         leaves: Vec<Leaf>,
     ) -> Result<Circuit, AllocError>
-        requires layers { layers.items ≡ layers_from self.now.list.now (height_of self.now.list.now) }
+        requires layers { layers.items ≡ layers_from self.now.list.now
+            (height_of self.now.list.now) }
         requires leaves { leaves.items ≡ map (λ k. leaf_of (node_at self.now.list.now k))
             (row self.now.list.now 0) }
         requires faultless { fault_of greatest (circuit_of self.now.list.now) ≡ None }

@@ -133,7 +133,8 @@ impl Table {
     /// The value of the multilinear extension at a point of k coordinates. Err only where no memory is found.
     pub fn eval_at(&self, alloc: Global, point: &[Ext]) -> Result<Ext, AllocError>
         requires { length point.now ≡ self.now.k }
-        ensures { IfOk result (λ x. x ≡ extension_at k_ops k_ops (λ y. y) self.now.items point.now) }
+        ensures { IfOk result
+            (λ x. x ≡ extension_at k_ops k_ops (λ y. y) self.now.items point.now) }
     {
         let values = Vec::from_slice(alloc, self.values.as_slice())?;
         Ok(values::eval_values(values, point))

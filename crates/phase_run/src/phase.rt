@@ -28,7 +28,8 @@ where
     W::Out: Drop + Send,
     requires pieces { (0 < n) × (n ≤ W.pieces work.now) }
     requires workers { IsWorkerCount workers }
-    ensures { IfOk result (λ outputs. outputs.items ≡ map (W.out_of work.now) (range_with_len 0 n)) }
+    ensures { IfOk result
+        (λ outputs. outputs.items ≡ map (W.out_of work.now) (range_with_len 0 n)) }
 {
     let (board, claimer) = ChunkBoard::new(alloc, n, workers)?;
     let (claimer, results) = spread(rt, alloc, &board, claimer, 0, work, gate);

@@ -23,5 +23,6 @@ pub fn evaluation()
     ensures sums { (p q : List K) (e : K)
         → value_at k_ops (sum_of k_ops p q) e ≡ add_k (value_at k_ops p e) (value_at k_ops q e) }
     ensures products { (p q : List K) (e : K)
-        → value_at k_ops (product_of k_ops p q) e ≡ mul_k (value_at k_ops p e) (value_at k_ops q e) }
+        → value_at k_ops (product_of k_ops p q) e ≡ mul_k (value_at k_ops p e)
+        (value_at k_ops q e) }
 {}

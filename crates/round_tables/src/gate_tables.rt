@@ -178,7 +178,8 @@ impl<'a> GateTables<'a> {
         values: &'a Table,
         place: &Standing<'_>,
     ) -> Result<GateTables<'a>, TooLittleRoom>
-        requires layer { IsLayer K values.now.k gates.now values.now.items (standing.place_of place.now) }
+        requires layer { IsLayer K values.now.k gates.now values.now.items
+            (standing.place_of place.now) }
         requires few { length gates.now ≤ 65536 }
         ensures k { IfOk result (λ sum. sum.k ≡ values.now.k) }
         ensures gates { IfOk result (λ sum. sum.gates ≡ gates.now) }

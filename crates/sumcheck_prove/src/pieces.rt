@@ -11,7 +11,8 @@ use std::alloc::{AllocError, Global};
 #[derive(Drop)]
 pub(crate) struct PieceSums<'a, 'b> {
     pub(crate) tables: &'a GateTables<'b>,
-    ghost ready: { (tables.now.lent ≡ []) × (length tables.now.bound < tables.now.k + tables.now.k) },
+    ghost ready: { (tables.now.lent ≡ []) ×
+        (length tables.now.bound < tables.now.k + tables.now.k) },
 }
 
 impl<'a, 'b> PieceWork for PieceSums<'a, 'b> {

@@ -31,7 +31,8 @@ impl Model for Transcript {
 impl Transcript {
     /// The transcript of a proof by lines that has taken in the statement alone.
     pub fn start(statement: &Statement) -> Transcript
-        ensures { result ≡ start_state statement.now.text statement.now.inputs statement.now.outputs }
+        ensures { result ≡ start_state statement.now.text statement.now.inputs
+            statement.now.outputs }
     {
         Transcript::start_named(b"gkr-transcript-1".as_slice(), statement)
     }

@@ -38,7 +38,8 @@ pub struct Terms<S> {
 impl<S: Storied<E>, E> TableRule<Option<S>, View<E>, Terms<S>> for InTurn<S> {
     ghost use Rattle.turn_lock.specs.Turns.{IsLock, newcomer};
 
-    ghost holds = { λ terms. IsLock S.history S.owns S.fixed (S.fixed terms.first.value) terms.seats };
+    ghost holds = { λ terms. IsLock S.history S.owns S.fixed (S.fixed terms.first.value)
+        terms.seats };
 
     ghost first = { λ terms. newcomer (S.fixed terms.first.value) terms.seats };
 }
