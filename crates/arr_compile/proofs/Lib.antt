@@ -3,4 +3,5 @@ pub mod OneCircuit
 pub mod Computing
 pub mod SoundCircuits
 pub mod PlacesForgotten
+pub mod SumLevels
 pub mod WhiteSpace

@@ -32,6 +32,6 @@ pub use auditing::audit_case;
 pub use circuit::{circuit_case, circuit_of};
 pub use converting::{Converted, convert_case};
 pub use evaluation::eval_case;
-pub use proving::{meant_outputs, prove_case};
+pub use proving::{meant_outputs, prove_case, prove_laid_out};
 pub use refused::Refused;
-pub use verification::verify_case;
+pub use verification::{verify_case, verify_laid_out};

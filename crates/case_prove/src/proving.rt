@@ -52,14 +52,14 @@ pub fn prove_case<R: Threads + Sync, G: Gate>(
         Ok(circuit) => circuit,
         Err(refused) => return Err(refused),
     };
-    match prove_claim(rt, alloc, case, &circuit, kind, workers, gate) {
+    match prove_laid_out(rt, alloc, case, &circuit, kind, workers, gate) {
         Ok(proved) => Ok(proved),
         Err(_) => Err(Refused::Memory),
     }
 }
 
-/// The case with its outputs and their proof, where its program is laid out as this circuit.
-fn prove_claim<R: Threads + Sync, G: Gate>(
+/// What `prove_case` gives where the case's program is laid out as this circuit, which isn't compiled again.
+pub fn prove_laid_out<R: Threads + Sync, G: Gate>(
     rt: &R,
     alloc: Global,
     case: &Case,

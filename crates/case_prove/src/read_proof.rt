@@ -53,23 +53,28 @@ pub(crate) fn read_proof(alloc: Global, case: &Case, form: ProofForm) -> Result<
     if have != need {
         return Err(Refused::Input { have, need });
     }
-    read_messages(alloc, case, form, compiled.circuit)
+    let circuit = compiled.circuit;
+    let (messages, start) = read_messages(alloc, case, form, &circuit)?;
+    Ok(ReadProof {
+        circuit,
+        messages,
+        start,
+    })
 }
 
-/// Reads the proof of a case whose program is laid out as this circuit.
-fn read_messages(
+/// Reads the proof of a case whose program is laid out as this circuit: its messages, and the start of its challenges.
+pub(crate) fn read_messages(
     alloc: Global,
     case: &Case,
     form: ProofForm,
-    circuit: Circuit,
-) -> Result<ReadProof, Refused>
-    requires compiled { IsCompiled case.now.program circuit.parts }
-    requires counted { length case.now.inputs ≡ circuit.parts.inputs }
+    circuit: &Circuit,
+) -> Result<(Messages, Transcript), Refused>
+    requires compiled { IsCompiled case.now.program circuit.now.parts }
+    requires counted { length case.now.inputs ≡ circuit.now.parts.inputs }
     requires outputs { IsSome case.now.outputs }
     requires proof { IsSome case.now.proof }
-    ensures read { IfOk result
-        (λ read. IsReadAs form case.now read.circuit.parts read.messages) }
-    ensures start { IfOk result (λ read. IsOwnStart form case.now read.start) }
+    ensures read { IfOk result (λ read. IsReadAs form case.now circuit.now.parts read.0) }
+    ensures start { IfOk result (λ read. IsOwnStart form case.now read.1) }
     ensures refused { IfErr result (λ refused. RefusesProof form case.now refused) }
 {
     let Some(outputs) = case.outputs() else {
@@ -82,14 +87,10 @@ fn read_messages(
     }
     let start = transcript_of(case, form, outputs);
     let messages = match form {
-        ProofForm::Line => read_lines(alloc, case, &circuit, outputs, start)?,
-        ProofForm::Pair => read_pairs(alloc, case, &circuit, outputs)?,
+        ProofForm::Line => read_lines(alloc, case, circuit, outputs, start)?,
+        ProofForm::Pair => read_pairs(alloc, case, circuit, outputs)?,
     };
-    Ok(ReadProof {
-        circuit,
-        messages,
-        start,
-    })
+    Ok((messages, start))
 }
 
 /// Reads the proof of a case of as many outputs as one by pairs.

@@ -1,10 +1,11 @@
 //! The verdict on the proof of a case.
 
-ghost use Rattle.std.specs.Prelude.{◌≡◌, IsSome, IfOk, IfErr};
+ghost use Rattle.std.specs.Prelude.{◌≡◌, length, IsSome, IfOk, IfErr};
+ghost use Rattle.arr_compile.specs.Circuits.{IsCompiled};
 ghost use Rattle.case_prove.specs.Started.{IsOwnStart};
 ghost use Rattle.case_prove.specs.Verified.{IsReadAs, IsVerdictOn, RefusesVerify, proof_form};
 
-use crate::read_proof::read_proof;
+use crate::read_proof::{read_messages, read_proof};
 use crate::refused::Refused;
 use case_text::Case;
 use circuit_core::Circuit;
@@ -31,6 +32,27 @@ pub fn verify_case(alloc: Global, case: &Case) -> Result<Verdict, Refused>
         Err(refused) => return Err(refused),
     };
     match check_claim(alloc, case, form, &read.circuit, &read.messages, read.start) {
+        Ok(verdict) => Ok(verdict),
+        Err(_) => Err(Refused::Memory),
+    }
+}
+
+/// The verdict of `verify_case` where the case's program is laid out as this circuit, which isn't compiled again. It is refused
+/// as `verify_case` refuses such a case.
+pub fn verify_laid_out(alloc: Global, case: &Case, circuit: &Circuit) -> Result<Verdict, Refused>
+    requires compiled { IsCompiled case.now.program circuit.now.parts }
+    requires counted { length case.now.inputs ≡ circuit.now.parts.inputs }
+    requires outputs { IsSome case.now.outputs }
+    requires proof { IsSome case.now.proof }
+    ensures verdict { IfOk result (λ verdict. IsVerdictOn case.now verdict) }
+    ensures refused { IfErr result (λ refused. RefusesVerify case.now refused) }
+{
+    let form = proof_form(case);
+    let (messages, start) = match read_messages(alloc, case, form, circuit) {
+        Ok(read) => read,
+        Err(refused) => return Err(refused),
+    };
+    match check_claim(alloc, case, form, circuit, &messages, start) {
         Ok(verdict) => Ok(verdict),
         Err(_) => Err(Refused::Memory),
     }

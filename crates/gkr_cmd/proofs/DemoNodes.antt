@@ -15,7 +15,7 @@ use Rattle.layer_compile.specs.Circuits.{circuit_of, refusal_of, too_wide}
 use Rattle.layer_compile.specs.Levels.{height_of}
 use Rattle.layer_compile.specs.Rows.{row, stands}
 use Rattle.layer_compile.proofs.Refusals.{accepted}
-use Rattle.gkr_cmd.proofs.SumLevels.{IsLow, length-adds, leaf-low, leaves-low, matmul-low, sum-low}
+use Rattle.arr_compile.proofs.SumLevels.{IsLow, length-adds, leaf-low, leaves-low, matmul-low, sum-low}
 use Rattle.arr_ast.specs.declared.expression.SingleFunction.TheVariants.{Sum}
 use Rattle.arr_ast.specs.declared.expression.PairFunction.TheVariants.{MatMul}
 use Rattle.arr_ast.specs.declared.program.Dimensions.TheVariants as dimensions

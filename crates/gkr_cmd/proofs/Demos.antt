@@ -104,30 +104,20 @@ first_is outputs (y ∷ ys) x d is some read = record { others = ys; outputs_are
 
 -- ---- what is reported
 
-pub some_layer : (c : Content) (sizes : Sizes) (layers : List LayerSize) → IsLaidOut c sizes → layers ≡ sizes.layers → 1 ≤ length layers
-some_layer c sizes layers is same =
-    let counted = length-map-range_with_len (layer_size is.parts) 0 (height is.parts + 1) in
-    let all : length layers ≡ length (sizes_of is.parts).layers = ap length same ∙ ap (λ (z : Sizes). length z.layers) is.sizes_are in
-    omega (arith, counted, all)
-
-pub told : (number : ℕ) (s : DemoSummary) (c p : Content) (sizes : Sizes) (proof : List ℕ) → c ≡ demo_case number → IsLaidOut c sizes → IsProved (ByLines One) c p → IsVerdictOn p Accepted → HasFirst p.outputs s.output → p.proof ≡ Some proof
-    → s.number ≡ number → s.size ≡ demo_size number → s.layers ≡ length sizes.layers - 1 → s.proof ≡ length proof → s.digest ≡ sha256 proof → IsDemo number s
-told number s c p sizes proof case laid_out proved accepted first proof_is number_is size_is layers_are length_is digest_is =
-    let parts = laid_out.parts in
-    let counted = length-map-range_with_len (layer_size parts) 0 (height parts + 1) in
-    let one_fewer : length (sizes_of parts).layers - 1 ≡ height parts = omega (arith, counted) in
-    record {
-      number_is = number_is;
-      size_is = size_is;
-      parts = parts;
-      compiled = subst (λ (d : Content). IsCompiled d.program parts) case laid_out.compiled;
-      layers_are = layers_are ∙ ap (λ (z : Sizes). length z.layers - 1) laid_out.sizes_are ∙ one_fewer;
-      proved = p;
-      is_proved = subst (λ (d : Content). IsProved (ByLines One) d p) case proved;
-      is_accepted = accepted;
-      output_is = first;
-      proof = proof;
-      proof_is = proof_is;
-      length_is = length_is;
-      digest_is = digest_is;
-    }
+pub reported : (number : ℕ) (s : DemoSummary) (c p : Content) (parts : Parts) (proof : List ℕ) → c ≡ demo_case number → IsCompiled c.program parts → IsProved (ByLines One) c p → IsVerdictOn p Accepted → HasFirst p.outputs s.output → p.proof ≡ Some proof
+    → s.number ≡ number → s.size ≡ demo_size number → s.layers ≡ height parts → s.proof ≡ length proof → s.digest ≡ sha256 proof → IsDemo number s
+reported number s c p parts proof case compiled proved accepted first proof_is number_is size_is layers_are length_is digest_is = record {
+  number_is = number_is;
+  size_is = size_is;
+  parts = parts;
+  compiled = subst (λ (d : Content). IsCompiled d.program parts) case compiled;
+  layers_are = layers_are;
+  proved = p;
+  is_proved = subst (λ (d : Content). IsProved (ByLines One) d p) case proved;
+  is_accepted = accepted;
+  output_is = first;
+  proof = proof;
+  proof_is = proof_is;
+  length_is = length_is;
+  digest_is = digest_is;
+}

@@ -19,5 +19,4 @@ mod ScriptReplies
 mod SessionReplies
 mod SessionAnswers
 mod HistoryReplies
-mod SumLevels
 mod VerifyAnswers

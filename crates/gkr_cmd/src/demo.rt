@@ -3,7 +3,8 @@
 ghost use Rattle.std.specs.Prelude.{◌≡◌, ◌≢◌, ◌++◌, ◌≤◌, ◌-◌, length, IfOk, OnOk, IsSome, Some};
 ghost use Rattle.sha2.specs.Sha256.{sha256};
 ghost use Rattle.gkr_layers.specs.declared.verdict.Verdict.TheVariants.{Accepted};
-ghost use Rattle.case_prove.specs.Circuits.{IsLaidOut, RefusesCircuit};
+ghost use Rattle.arr_compile.specs.Circuits.{IsCompiled};
+ghost use Rattle.case_prove.specs.Circuits.{RefusesCircuit};
 ghost use Rattle.case_prove.specs.Proved.{IsProved};
 ghost use Rattle.case_prove.specs.Verified.{IsVerdictOn};
 ghost use Rattle.phase_run.specs.Work.{IsWorkerCount};
@@ -16,8 +17,9 @@ use arr_compile::laws::{
     circuit_computes, compiled_or_refused, one_circuit, one_circuit_refusal, one_tree,
 };
 use case_prove::laws::{one_saying, proved_is_accepted};
-use case_prove::{Refused, circuit_case, prove_case, verify_case};
-use case_text::{Case, CircuitSizes, DemoSummary, Reply};
+use case_prove::{Refused, circuit_of, prove_laid_out, verify_laid_out};
+use case_text::{Case, DemoSummary, Reply};
+use circuit_core::Circuit;
 use field_ext::Fp;
 use gkr_verify::Verdict;
 use io_edge::Gate;
@@ -28,7 +30,7 @@ use std::alloc::{AllocError, Global};
 use std::marker::Sync;
 use std::thread::Threads;
 
-/// The reply of `demo`: its case is generated, proved by so many workers, and verified.
+/// The reply of `demo`: its case is generated, compiled once, proved by so many workers, and verified.
 pub fn demo<R: Threads + Sync, G: Gate>(
     rt: &R,
     alloc: Global,
@@ -41,20 +43,17 @@ pub fn demo<R: Threads + Sync, G: Gate>(
     ensures fault { result ≢ Err ReplyError.ReadFault }
 {
     let case = demo_case(alloc, number)?;
-    let sizes = match circuit_case(alloc, &case) {
-        Ok(sizes) => sizes,
+    let circuit = match circuit_of(alloc, &case) {
+        Ok(circuit) => circuit,
         Err(refused) => return Err(want_of_memory(number, refused)),
     };
     let kind = ProofKind::ByLines(ProofVersion::One);
-    let proved = match prove_case(rt, alloc, &case, kind, workers, gate) {
-        Ok(proved) => proved,
-        Err(refused) => return Err(want_of_memory(number, refused)),
-    };
-    accept(alloc, &case, &proved)?;
-    Ok(Reply::Demo(summary(number, &sizes, &case, &proved)))
+    let proved = prove_laid_out(rt, alloc, &case, &circuit, kind, workers, gate)?;
+    accept(alloc, &case, &circuit, &proved)?;
+    Ok(Reply::Demo(summary(number, &circuit, &case, &proved)))
 }
 
-/// Why the case of a number wasn't laid out or proved: memory ran out, and nothing else.
+/// Why the case of a number wasn't laid out: memory ran out, and nothing else.
 fn want_of_memory(number: u32, refused: Refused) -> ReplyError
     requires { RefusesCircuit (demo_case number) refused }
     ensures { result ≡ ReplyError.Memory }
@@ -122,8 +121,10 @@ fn demo_inputs(alloc: Global, number: u32, count: u32) -> Result<Vec<Fp>, AllocE
     Ok(inputs)
 }
 
-/// Verifies a case that was proved, which is always accepted.
-fn accept(alloc: Global, case: &Case, proved: &Case) -> Result<(), ReplyError>
+/// Verifies a case that was proved for its circuit, which is always accepted.
+fn accept(alloc: Global, case: &Case, circuit: &Circuit, proved: &Case) -> Result<(), ReplyError>
+    requires compiled { IsCompiled case.now.program circuit.now.parts }
+    requires counted { length case.now.inputs ≡ circuit.now.parts.inputs }
     requires proved { IsProved (ProofKind.ByLines ProofVersion.One) case.now proved.now }
     ensures accepted { OnOk result (IsVerdictOn proved.now Accepted) }
     ensures fault { result ≢ Err ReplyError.ReadFault }
@@ -133,7 +134,7 @@ fn accept(alloc: Global, case: &Case, proved: &Case) -> Result<(), ReplyError>
     compiled_or_refused();
     one_saying();
     proved_is_accepted();
-    match verify_case(alloc, proved) {
+    match verify_laid_out(alloc, proved, circuit) {
         Ok(verdict) => match verdict {
             Verdict::Accepted => Ok(()),
             _ => unreachable!(),
@@ -169,11 +170,10 @@ fn proof_of(proved: &Case) -> &[u8]
     }
 }
 
-/// The summary of the case of a number that was proved and accepted, where its circuit has these
-/// sizes.
-fn summary(number: u32, sizes: &CircuitSizes, case: &Case, proved: &Case) -> DemoSummary
+/// The summary of the case of a number that was proved and accepted, where its program is laid out as this circuit.
+fn summary(number: u32, circuit: &Circuit, case: &Case, proved: &Case) -> DemoSummary
     requires case { case.now ≡ demo_case number }
-    requires laid_out { IsLaidOut case.now sizes.now }
+    requires compiled { IsCompiled case.now.program circuit.now.parts }
     requires proved { IsProved (ProofKind.ByLines ProofVersion.One) case.now proved.now }
     requires accepted { IsVerdictOn proved.now Accepted }
     ensures { IsDemo number result }
@@ -183,7 +183,7 @@ fn summary(number: u32, sizes: &CircuitSizes, case: &Case, proved: &Case) -> Dem
         number,
         size: demo_size(number),
         output: first_output(case, proved),
-        layers: sizes.layers().len() - 1,
+        layers: circuit.height(),
         proof: proof.len(),
         digest: Sha256::digest(proof),
     }

@@ -11,7 +11,7 @@ use Rattle.case_prove.specs.Started.{start_of}
 use Rattle.case_text.specs.Content.{Content}
 use Rattle.case_prove.proofs.ProvedCases.{same_content}
 use Rattle.case_prove.proofs.ProvedSizes.{fits, few_outputs, kind_length}
-use Rattle.case_prove.proofs.proving.prove_claim.Goals as goal
+use Rattle.case_prove.proofs.proving.prove_laid_out.Goals as goal
 
 pub honest_messages-requires-clause-few : goal.honest_messages-requires-clause-few
 honest_messages-requires-clause-few g c κs within =
