@@ -5,7 +5,7 @@ use Rattle.arr_ast.specs.ProgramTree.{ProgramTree}
 use Rattle.arr_lex.specs.declared.token.Token.{Token}
 use Rattle.arr_lex.specs.Blank.{AreBlank, IsWhiteSpace}
 use Rattle.arr_lex.specs.Byte.{is_blank}
-use Rattle.arr_lex.specs.Lexing.{taken, with_front, token_first, tokens_from}
+use Rattle.arr_lex.specs.Lexing.{taken, with_prefix, token_first, tokens_from}
 use Rattle.arr_lex.specs.Moved.{moved_token, moved}
 use Rattle.arr_lex.specs.Spans.{AreSpans}
 use Rattle.arr_parse.specs.Mark.{part_of, word}
@@ -66,7 +66,7 @@ SameAnywhere = (distance : ℕ) (text : List ℕ) → tokens_from distance 0 tex
 
 abbrev WhiteSpaceMoves : Type 0
 WhiteSpaceMoves = (front : List ℕ) (blank : ℕ) (back : List ℕ) (tokens : List Token) → is_blank blank ≡ true → tokens_from 0 0 front ≡ Ok tokens →
-    tokens_from 0 0 (front ++ blank ∷ back) ≡ with_front tokens (moved (length front + 1) (tokens_from 0 0 back))
+    tokens_from 0 0 (front ++ blank ∷ back) ≡ with_prefix tokens (moved (length front + 1) (tokens_from 0 0 back))
 
 abbrev Spans : Type 0
 Spans = (text : List ℕ) (tokens : List Token) → tokens_from 0 0 text ≡ Ok tokens → AreSpans 0 text tokens
@@ -83,17 +83,17 @@ blanks-passed (byte ∷ bytes) back at blank =
     ∙ blanks-passed bytes back (at + 1) blank.1 ∙ ap (λ a. tokens_from a 0 back) same
 
 tokens-between : SameAnywhere → WhiteSpaceMoves → (front blanks back : List ℕ) (tokens : List Token) → tokens_from 0 0 front ≡ Ok tokens → IsWhiteSpace blanks →
-    tokens_from 0 0 (front ++ (blanks ++ back)) ≡ with_front tokens (moved (length (front ++ blanks)) (tokens_from 0 0 back))
+    tokens_from 0 0 (front ++ (blanks ++ back)) ≡ with_prefix tokens (moved (length (front ++ blanks)) (tokens_from 0 0 back))
 tokens-between anywhere moves front [] back tokens found blank = absurd blank
 tokens-between anywhere moves front (byte ∷ bytes) back tokens found blank =
     let same : length front + 1 + length bytes ≡ length (front ++ byte ∷ bytes) = simp length-append (omega arith) in
     moves front byte (bytes ++ back) tokens blank.0 found
-    ∙ ap (with_front tokens)
+    ∙ ap (with_prefix tokens)
     (sym (anywhere (length front + 1) (bytes ++ back)) ∙ blanks-passed bytes back (length front + 1) blank.1
     ∙ ap (λ at. tokens_from at 0 back) same ∙ anywhere (length (front ++ byte ∷ bytes)) back)
 
 -- the tokens after it, where all are there
-behind_ok : (distance : ℕ) (front : List Token) (read : Result (List Token) ℕ) (tokens : List Token) → with_front front (moved distance read) ≡ Ok tokens →
+behind_ok : (distance : ℕ) (front : List Token) (read : Result (List Token) ℕ) (tokens : List Token) → with_prefix front (moved distance read) ≡ Ok tokens →
     (rest : List Token) × (read ≡ Ok rest) × (tokens ≡ front ++ map (moved_token distance) rest)
 behind_ok distance front (Ok rest) tokens e = (rest, refl, cc)
 behind_ok distance front (Err place) tokens e = cc

@@ -19,7 +19,7 @@ ghost use Rattle.arr_compile.specs.Circuits.{IsCompiled, IsCircuitRefusal, Compu
 use arr_lex::laws::{same_anywhere, spans, white_space_moves};
 use arr_lower::laws::{has_outputs, nodes_in_order, nodes_mean};
 use arr_parse::laws::{one_program_tree, one_tree_of_words};
-use layer_compile::laws::{no_fault, outputs_stand};
+use layer_compile::laws::{no_fault, outputs_in_order};
 
 /// A text has at most one tree.
 pub fn one_tree()
@@ -109,7 +109,7 @@ pub fn circuit_computes()
 {
     nodes_in_order();
     nodes_mean();
-    outputs_stand();
+    outputs_in_order();
 }
 
 /// The circuit of a text computes what the text's tree means.

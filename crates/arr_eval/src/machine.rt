@@ -40,9 +40,9 @@ impl<'a> Machine for Numbers<'a> {
 
     fn input(&mut self, shape: ShapeOf) -> Result<SharedList<Fp>, AllocError> {
         let size = size(shape) as usize;
-        let items = Vec::from_slice(self.alloc, front(self.inputs, size))?;
+        let items = Vec::from_slice(self.alloc, prefix(self.inputs, size))?;
         let items = SharedList::new(self.alloc, items)?;
-        self.inputs = behind(self.inputs, size);
+        self.inputs = after(self.inputs, size);
         Ok(items)
     }
 
@@ -171,7 +171,7 @@ fn pair(
 
 /// The first numbers, or all of them where there are fewer.
 #[tactic(auto, using(crate::proofs::Lists::of_fronts))]
-fn front(numbers: &[Fp], count: usize) -> &[Fp]
+fn prefix(numbers: &[Fp], count: usize) -> &[Fp]
     ensures { result.now ≡ take count numbers.now }
 {
     if count <= numbers.len() {
@@ -183,7 +183,7 @@ fn front(numbers: &[Fp], count: usize) -> &[Fp]
 
 /// The numbers after the first.
 #[tactic(auto, using(crate::proofs::Lists::of_fronts))]
-fn behind(numbers: &[Fp], count: usize) -> &[Fp]
+fn after(numbers: &[Fp], count: usize) -> &[Fp]
     ensures { result.now ≡ drop count numbers.now }
 {
     if count <= numbers.len() {

@@ -7,9 +7,9 @@ use Rattle.arr_lex.specs.declared.token.Symbol.{Symbol}
 use Rattle.arr_lex.specs.declared.token.Symbol.TheVariants.{Range}
 use Rattle.arr_lex.specs.declared.token.Token.{Token}
 use Rattle.arr_lex.specs.Byte.{is_blank, is_digit, is_letter, is_name_byte, sign_of}
-use Rattle.arr_lex.specs.Lexing.{Taken, number_of, numbered, number_taken, word_taken, single_taken, sign_taken, taken, with_front, token_first, tokens_from}
+use Rattle.arr_lex.specs.Lexing.{Taken, number_of, numbered, number_taken, word_taken, single_taken, sign_taken, taken, with_prefix, token_first, tokens_from}
 use Rattle.arr_lex.specs.Moved.{moved_token, moved}
-use Rattle.arr_lex.proofs.Passed.{with_front-append}
+use Rattle.arr_lex.proofs.Passed.{with_prefix-append}
 use Rattle.arr_lex.proofs.Spans.{run-shorter}
 use Rattle.arr_lex.proofs.Spans.{front_ok}
 
@@ -41,7 +41,7 @@ moved_taken distance at byte bytes =
     (moved_if (is_digit byte) distance _ _ _ _ (moved_number distance at (number_of (byte - 48) (take_while is_digit bytes)) (length (take_while is_digit bytes))) (moved_sign distance at byte bytes))
 
 moved_front : (distance at count : ℕ) (symbol : Symbol) (read : Result (List Token) ℕ) →
-    with_front (record { symbol = symbol; start = at + distance; end = at + distance + count } ∷ []) (moved distance read) ≡ moved distance (with_front (record { symbol = symbol; start = at; end = at + count } ∷ []) read)
+    with_prefix (record { symbol = symbol; start = at + distance; end = at + distance + count } ∷ []) (moved distance read) ≡ moved distance (with_prefix (record { symbol = symbol; start = at; end = at + count } ∷ []) read)
 moved_front distance at count symbol (Ok tokens) =
     let same : at + distance + count ≡ at + count + distance = omega arith in
     ap (λ e. Ok (record { symbol = symbol; start = at + distance; end = e } ∷ map (moved_token distance) tokens)) same
@@ -51,7 +51,7 @@ moved_first : (distance at : ℕ) (found : Taken) (go_on go_on' : ℕ → Result
     token_first (at + distance) (moved_place distance found) go_on' ≡ moved distance (token_first at found go_on)
 moved_first distance at (Err place) go_on go_on' e = refl
 moved_first distance at (Ok found) go_on go_on' e =
-    ap (with_front (record { symbol = found.0; start = at + distance; end = at + distance + found.1 } ∷ [])) (e (found.1 - 1)) ∙ moved_front distance at found.1 found.0 (go_on (found.1 - 1))
+    ap (with_prefix (record { symbol = found.0; start = at + distance; end = at + distance + found.1 } ∷ [])) (e (found.1 - 1)) ∙ moved_front distance at found.1 found.0 (go_on (found.1 - 1))
 
 moved_cond : (b : Bool) (distance : ℕ) (x y x' y' : Result (List Token) ℕ) → x' ≡ moved distance x → y' ≡ moved distance y → (if b then x' else y') ≡ moved distance (if b then x else y)
 moved_cond true distance x y x' y' e f = e
@@ -151,50 +151,50 @@ within_taken at byte bytes =
     within_if (is_letter byte) _ _ _ (within_count _ _ _ (run-shorter is_name_byte (byte ∷ bytes)))
     (within_if (is_digit byte) _ _ _ (within_number at _ (length (take_while is_digit bytes)) (number_of (byte - 48) (take_while is_digit bytes)) (omega (arith, digits))) (within_sign at byte bytes))
 
-with_front-none : (read : Result (List Token) ℕ) → with_front [] read ≡ read
-with_front-none (Ok tokens) = refl
-with_front-none (Err place) = refl
+with_prefix-none : (read : Result (List Token) ℕ) → with_prefix [] read ≡ read
+with_prefix-none (Ok tokens) = refl
+with_prefix-none (Err place) = refl
 
 -- what the rest of the text gives after so many bytes, with white space and more after it
 abbrev Goes : List ℕ → ℕ → ℕ → List ℕ → Type 0
 Goes bytes at blank back = (inside : ℕ) (tokens : List Token) → inside ≤ length bytes → tokens_from (at + 1) inside bytes ≡ Ok tokens →
-    tokens_from (at + 1) inside (bytes ++ blank ∷ back) ≡ with_front tokens (tokens_from (at + 1 + length bytes + 1) 0 back)
+    tokens_from (at + 1) inside (bytes ++ blank ∷ back) ≡ with_prefix tokens (tokens_from (at + 1 + length bytes + 1) 0 back)
 
 further : (byte : ℕ) (bytes : List ℕ) (at : ℕ) (back : List ℕ) (tokens : List Token) →
-    with_front tokens (tokens_from (at + 1 + length bytes + 1) 0 back) ≡ with_front tokens (tokens_from (at + length (byte ∷ bytes) + 1) 0 back)
-further byte bytes at back tokens = let same : at + 1 + length bytes + 1 ≡ at + length (byte ∷ bytes) + 1 = omega arith in ap (λ a. with_front tokens (tokens_from a 0 back)) same
+    with_prefix tokens (tokens_from (at + 1 + length bytes + 1) 0 back) ≡ with_prefix tokens (tokens_from (at + length (byte ∷ bytes) + 1) 0 back)
+further byte bytes at back tokens = let same : at + 1 + length bytes + 1 ≡ at + length (byte ∷ bytes) + 1 = omega arith in ap (λ a. with_prefix tokens (tokens_from a 0 back)) same
 
 after_token : (byte : ℕ) (bytes : List ℕ) (at blank : ℕ) (back : List ℕ) (tokens : List Token) → Goes bytes at blank back → (t : Taken) → taken at (byte ∷ bytes) ≡ t →
     token_first at t (λ inside. tokens_from (at + 1) inside bytes) ≡ Ok tokens →
-    token_first at t (λ inside. tokens_from (at + 1) inside (bytes ++ blank ∷ back)) ≡ with_front tokens (tokens_from (at + length (byte ∷ bytes) + 1) 0 back)
+    token_first at t (λ inside. tokens_from (at + 1) inside (bytes ++ blank ∷ back)) ≡ with_prefix tokens (tokens_from (at + length (byte ∷ bytes) + 1) 0 back)
 after_token byte bytes at blank back tokens goes (Err place) is f = cc
 after_token byte bytes at blank back tokens goes (Ok found) is f =
     let front : Token = record { symbol = found.0; start = at; end = at + found.1 } in
     let within : found.1 ≤ length (byte ∷ bytes) = within_taken at byte bytes found.0 found.1 is in
     let rest = front_ok front (tokens_from (at + 1) (found.1 - 1) bytes) tokens f in
-    ap (with_front (front ∷ [])) (goes (found.1 - 1) rest.0 (omega (arith, within)) rest.1 ∙ further byte bytes at back rest.0)
-    ∙ with_front-append (front ∷ []) rest.0 (tokens_from (at + length (byte ∷ bytes) + 1) 0 back)
-    ∙ ap (λ all. with_front all (tokens_from (at + length (byte ∷ bytes) + 1) 0 back)) (sym rest.2)
+    ap (with_prefix (front ∷ [])) (goes (found.1 - 1) rest.0 (omega (arith, within)) rest.1 ∙ further byte bytes at back rest.0)
+    ∙ with_prefix-append (front ∷ []) rest.0 (tokens_from (at + length (byte ∷ bytes) + 1) 0 back)
+    ∙ ap (λ all. with_prefix all (tokens_from (at + length (byte ∷ bytes) + 1) 0 back)) (sym rest.2)
 
 at_token : (byte : ℕ) (bytes : List ℕ) (at blank : ℕ) (back : List ℕ) (tokens : List Token) → is_blank blank ≡ true → Goes bytes at blank back → (b : Bool) → is_blank byte ≡ b →
     (if b then tokens_from (at + 1) 0 bytes else token_first at (taken at (byte ∷ bytes)) (λ inside. tokens_from (at + 1) inside bytes)) ≡ Ok tokens →
     (if b then tokens_from (at + 1) 0 (bytes ++ blank ∷ back) else token_first at (taken at (byte ∷ (bytes ++ blank ∷ back))) (λ inside. tokens_from (at + 1) inside (bytes ++ blank ∷ back)))
-    ≡ with_front tokens (tokens_from (at + length (byte ∷ bytes) + 1) 0 back)
+    ≡ with_prefix tokens (tokens_from (at + length (byte ∷ bytes) + 1) 0 back)
 at_token byte bytes at blank back tokens e goes true is f = goes 0 tokens (omega arith) f ∙ further byte bytes at back tokens
 at_token byte bytes at blank back tokens e goes false is f =
     ap (λ t. token_first at t (λ inside. tokens_from (at + 1) inside (bytes ++ blank ∷ back))) (taken-blank at byte bytes blank back e)
     ∙ after_token byte bytes at blank back tokens goes (taken at (byte ∷ bytes)) refl f
 
 pub tokens_from-blank : (front : List ℕ) (at inside blank : ℕ) (back : List ℕ) (tokens : List Token) → is_blank blank ≡ true → inside ≤ length front → tokens_from at inside front ≡ Ok tokens →
-    tokens_from at inside (front ++ blank ∷ back) ≡ with_front tokens (tokens_from (at + length front + 1) 0 back)
+    tokens_from at inside (front ++ blank ∷ back) ≡ with_prefix tokens (tokens_from (at + length front + 1) 0 back)
 tokens_from-blank [] at zero blank back tokens e h found =
     let none : [] ≡ tokens = cc in
     let same : at + 1 ≡ at + 0 + 1 = omega arith in
     ap (λ b. cond b (tokens_from (at + 1) 0 back) (token_first at (taken at (blank ∷ back)) (λ inside. tokens_from (at + 1) inside back))) e
-    ∙ ap (λ a. tokens_from a 0 back) same ∙ sym (with_front-none (tokens_from (at + 0 + 1) 0 back)) ∙ ap (λ front. with_front front (tokens_from (at + 0 + 1) 0 back)) none
+    ∙ ap (λ a. tokens_from a 0 back) same ∙ sym (with_prefix-none (tokens_from (at + 0 + 1) 0 back)) ∙ ap (λ front. with_prefix front (tokens_from (at + 0 + 1) 0 back)) none
 tokens_from-blank [] at (suc inside) blank back tokens e h found = absurd (omega (arith, h))
 tokens_from-blank (byte ∷ bytes) at (suc inside) blank back tokens e h found =
     let same : at + 1 + length bytes + 1 ≡ at + length (byte ∷ bytes) + 1 = omega arith in
-    tokens_from-blank bytes (at + 1) inside blank back tokens e (omega (arith, h)) found ∙ ap (λ a. with_front tokens (tokens_from a 0 back)) same
+    tokens_from-blank bytes (at + 1) inside blank back tokens e (omega (arith, h)) found ∙ ap (λ a. with_prefix tokens (tokens_from a 0 back)) same
 tokens_from-blank (byte ∷ bytes) at zero blank back tokens e h found =
     at_token byte bytes at blank back tokens e (λ inside tokens h f. tokens_from-blank bytes (at + 1) inside blank back tokens e h f) (is_blank byte) refl found

@@ -7,7 +7,7 @@ use Rattle.arr_lex.specs.declared.token.Symbol.TheVariants.{Range}
 use Rattle.arr_lex.specs.declared.token.Token.{Token}
 use Rattle.arr_lex.specs.Blank.{AreBlank}
 use Rattle.arr_lex.specs.Byte.{is_blank, is_digit, is_letter, is_name_byte, sign_of}
-use Rattle.arr_lex.specs.Lexing.{Taken, number_of, number_taken, numbered, single_taken, sign_taken, taken, with_front, token_first, tokens_from, word_taken}
+use Rattle.arr_lex.specs.Lexing.{Taken, number_of, number_taken, numbered, single_taken, sign_taken, taken, with_prefix, token_first, tokens_from, word_taken}
 use Rattle.arr_lex.specs.Spans.{IsNext, AreSpans}
 
 -- ---- how many bytes are taken
@@ -99,7 +99,7 @@ spans-later at byte bytes (token ∷ tokens) blank (next, rest) =
     (next-later at byte bytes token blank next, subst (λ n. AreSpans token.end (drop n (byte ∷ bytes)) tokens) more rest)
 
 -- the tokens after the first, where all are there
-pub front_ok : (front : Token) (read : Result (List Token) ℕ) (tokens : List Token) → with_front (front ∷ []) read ≡ Ok tokens → (rest : List Token) × (read ≡ Ok rest) × (tokens ≡ front ∷ rest)
+pub front_ok : (front : Token) (read : Result (List Token) ℕ) (tokens : List Token) → with_prefix (front ∷ []) read ≡ Ok tokens → (rest : List Token) × (read ≡ Ok rest) × (tokens ≡ front ∷ rest)
 front_ok front (Ok rest) tokens e = (rest, refl, cc)
 front_ok front (Err place) tokens e = cc
 
@@ -109,7 +109,7 @@ Goes at bytes = (inside : ℕ) (tokens : List Token) → inside ≤ length bytes
 
 -- a token of so many bytes and one
 token-first : (at byte count : ℕ) (bytes : List ℕ) (symbol : Symbol) (tokens : List Token) → Goes at bytes → suc count ≤ length (byte ∷ bytes) →
-    taken at (byte ∷ bytes) ≡ Ok (symbol, suc count) → with_front (record { symbol = symbol; start = at; end = at + suc count } ∷ []) (tokens_from (at + 1) count bytes) ≡ Ok tokens →
+    taken at (byte ∷ bytes) ≡ Ok (symbol, suc count) → with_prefix (record { symbol = symbol; start = at; end = at + suc count } ∷ []) (tokens_from (at + 1) count bytes) ≡ Ok tokens →
     AreSpans at (byte ∷ bytes) tokens
 token-first at byte count bytes symbol tokens goes within is f =
     let front : Token = record { symbol = symbol; start = at; end = at + suc count } in
@@ -129,13 +129,13 @@ token-first at byte count bytes symbol tokens goes within is f =
     subst (AreSpans at (byte ∷ bytes)) (sym rest.2) (next, subst (λ n. AreSpans (at + suc count) (drop n (byte ∷ bytes)) rest.0) wide behind)
 
 token-of : (at byte count : ℕ) (bytes : List ℕ) (symbol : Symbol) (tokens : List Token) → Goes at bytes → (1 ≤ count) × (count ≤ length (byte ∷ bytes)) →
-    taken at (byte ∷ bytes) ≡ Ok (symbol, count) → with_front (record { symbol = symbol; start = at; end = at + count } ∷ []) (tokens_from (at + 1) (count - 1) bytes) ≡ Ok tokens →
+    taken at (byte ∷ bytes) ≡ Ok (symbol, count) → with_prefix (record { symbol = symbol; start = at; end = at + count } ∷ []) (tokens_from (at + 1) (count - 1) bytes) ≡ Ok tokens →
     AreSpans at (byte ∷ bytes) tokens
 token-of at byte zero bytes symbol tokens goes (some, within) is f = absurd (omega (arith, some))
 token-of at byte (suc count) bytes symbol tokens goes (some, within) is f =
     let less : suc count - 1 ≡ count = omega arith in
     token-first at byte count bytes symbol tokens goes within is
-    (subst (λ n. with_front (record { symbol = symbol; start = at; end = at + suc count } ∷ []) (tokens_from (at + 1) n bytes) ≡ Ok tokens) less f)
+    (subst (λ n. with_prefix (record { symbol = symbol; start = at; end = at + suc count } ∷ []) (tokens_from (at + 1) n bytes) ≡ Ok tokens) less f)
 
 token-there : (at byte : ℕ) (bytes : List ℕ) (tokens : List Token) → Goes at bytes → (t : Taken) → taken at (byte ∷ bytes) ≡ t →
     token_first at t (λ inside. tokens_from (at + 1) inside bytes) ≡ Ok tokens → AreSpans at (byte ∷ bytes) tokens

@@ -3,7 +3,7 @@
 ghost use Rattle.std.specs.Prelude.{◌≡◌, ℕ, ◌+◌, true, List, ◌∷◌, ◌++◌, length, Ok};
 ghost use Rattle.arr_lex.specs.Byte.{is_blank};
 ghost use Rattle.arr_lex.specs.declared.token.Token.{Token};
-ghost use Rattle.arr_lex.specs.Lexing.{tokens_from, with_front};
+ghost use Rattle.arr_lex.specs.Lexing.{tokens_from, with_prefix};
 ghost use Rattle.arr_lex.specs.Moved.{moved};
 ghost use Rattle.arr_lex.specs.Spans.{AreSpans};
 
@@ -18,7 +18,7 @@ pub fn same_anywhere()
 pub fn white_space_moves()
     ensures { (front : List ℕ) (blank : ℕ) (back : List ℕ) (tokens : List Token)
         → is_blank blank ≡ true → tokens_from 0 0 front ≡ Ok tokens →
-        tokens_from 0 0 (front ++ blank ∷ back) ≡ with_front tokens
+        tokens_from 0 0 (front ++ blank ∷ back) ≡ with_prefix tokens
         (moved (length front + 1) (tokens_from 0 0 back)) }
 {}
 

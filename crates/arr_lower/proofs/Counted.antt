@@ -45,7 +45,7 @@ use Rattle.circuit_core.specs.declared.gate.Kind.TheVariants.{Add, Mul}
 use Rattle.node_core.specs.declared.node.Node.{Node}
 use Rattle.node_core.specs.declared.node.Node.TheVariants.{Constant}
 use Rattle.node_core.specs.Nodes.{Nodes, IsNodeList}
-use Rattle.arr_lower.specs.Lowering.{Kept, behind, nodes, nodes_at_end, nodes_of}
+use Rattle.arr_lower.specs.Lowering.{Kept, kept_after, nodes, nodes_at_end, nodes_of}
 use Rattle.arr_run.specs.Limits.{minus_one}
 use Rattle.arr_lower.specs.Operations.{Made, MadeOne, leaf_nodes, constant_node, operation_node, difference_node, signed_nodes, pairwise_nodes, difference_nodes, scaled_nodes, negated_nodes, sum_node, dot_node, product_pairs, matmul_nodes, single_nodes, pair_nodes}
 use Rattle.arr_lower.proofs.Adds.{Adds, has, has-push, adds-as, operation-adds, difference-adds, each-adds, each-size, leaves-add, sum-adds, dot-adds, matmul-adds, zip-size}
@@ -109,9 +109,9 @@ constant-counted at n before counts kept e counted =
     (ap (λ b. if b then Ok before else (nodes_at at 1 before >>= λ counts. Ok (with_constant (element_number n) counts))) (sym known) ∙ e) counted
 
 -- -1, and nodes after it
-behind-minus_one : (at more : ℕ) (before counts : Counts) (kept : Kept) (made : List Node) → ((middle : Counts) × (constant_at at 2147483646 before ≡ Ok middle) × (nodes_at at more middle ≡ Ok counts)) →
+kept_after-minus_one : (at more : ℕ) (before counts : Counts) (kept : Kept) (made : List Node) → ((middle : Counts) × (constant_at at 2147483646 before ≡ Ok middle) × (nodes_at at more middle ≡ Ok counts)) →
     Adds more (constant_node minus_one kept.nodes).nodes made → IsCounted before kept → IsCounted counts (with_made made kept)
-behind-minus_one at more before counts kept made parts adds counted =
+kept_after-minus_one at more before counts kept made parts adds counted =
     nodes-counted at more parts.0 counts (with_made (constant_node minus_one kept.nodes).nodes kept) made parts.2 adds (constant-counted at minus_one before parts.0 kept parts.1 counted)
 
 abbrev Alike : Counts → Shapes → Kept → Type 0
@@ -124,7 +124,7 @@ abbrev Later : Shapes → Kept → Shapes → Kept → Type 0
 Later s t s' t' = Unit {0}
 
 abbrev Given : Counts → Shapes → Kept → ShapeOf → Made → Type 0
-Given counts s t shape made = Gives shapes nodes Alike Stand Later counts s t shape (tt, s) (behind t made)
+Given counts s t shape made = Gives shapes nodes Alike Stand Later counts s t shape (tt, s) (kept_after t made)
 
 pairs-long : (left right : List ℕ) (a b shape : ShapeOf) → length left ≡ size_of a → length right ≡ size_of b → same_shape a b ≡ true → shape ≡ a → length (zip left right) ≡ size_of shape
 pairs-long left right a b shape l r same is = zip-size left right (size_of a) l (r ∙ sym (same_shape-size a b same)) ∙ sym (ap size_of is)
@@ -148,7 +148,7 @@ signed-given Minus at left right shape before counts s t a b e counted first sec
     let long = pairs-long a b left right left first.0 second.0 found.0 refl in
     let size : length (difference_nodes a b t.nodes).items ≡ size_of shape = each-size (difference_node factor.item) (zip a b) factor.nodes ∙ long ∙ sym (ap size_of found.1) in
     let adds = adds-as (length (zip a b) * 2) (size_of left * 2) factor.nodes (difference_nodes a b t.nodes).nodes (ap (λ n. n * 2) long) (each-adds (difference_node factor.item) 2 (difference-adds factor.item) (zip a b) factor.nodes) in
-    (behind-minus_one at (size_of left * 2) before counts t (difference_nodes a b t.nodes).nodes (difference-counts at left right shape before counts e) adds counted, (size, subst (λ (shape : ShapeOf). 1 ≤ size_of shape) (sym found.1) first.1), tt)
+    (kept_after-minus_one at (size_of left * 2) before counts t (difference_nodes a b t.nodes).nodes (difference-counts at left right shape before counts e) adds counted, (size, subst (λ (shape : ShapeOf). 1 ≤ size_of shape) (sym found.1) first.1), tt)
 
 opposite-given : (at : ℕ) (of shape : ShapeOf) (before counts : Counts) (s : Shapes) (t : Kept) (items : List ℕ) → for_minus_one at (size_of of) of before ≡ Ok (shape, counts) → IsCounted before t → Stand s t of tt items →
     Given counts s t shape (negated_nodes items t.nodes)
@@ -158,7 +158,7 @@ opposite-given at of shape before counts s t items e counted stand =
     let make : ℕ → List Node → MadeOne = λ item. operation_node Mul (item, factor.item) in
     let size : length (negated_nodes items t.nodes).items ≡ size_of shape = each-size make items factor.nodes ∙ stand.0 ∙ sym (ap size_of is) in
     let adds = adds-as (length items * 1) (size_of of) factor.nodes (negated_nodes items t.nodes).nodes (omega (arith, stand.0)) (each-adds make 1 (λ item before. operation-adds Mul (item, factor.item) before) items factor.nodes) in
-    (behind-minus_one at (size_of of) before counts t (negated_nodes items t.nodes).nodes (for_minus_one-counts at (size_of of) of shape before counts e) adds counted, (size, subst (λ (shape : ShapeOf). 1 ≤ size_of shape) (sym is) stand.1), tt)
+    (kept_after-minus_one at (size_of of) before counts t (negated_nodes items t.nodes).nodes (for_minus_one-counts at (size_of of) of shape before counts e) adds counted, (size, subst (λ (shape : ShapeOf). 1 ≤ size_of shape) (sym is) stand.1), tt)
 
 single-given : (function : SingleFunction) (at : ℕ) (of shape : ShapeOf) (before counts : Counts) (s : Shapes) (t : Kept) (items : List ℕ) → single_shape function at of before ≡ Ok (shape, counts) → IsCounted before t → Stand s t of tt items →
     Given counts s t shape (single_nodes function of items t.nodes)

@@ -34,7 +34,7 @@ use Rattle.node_core.specs.Nodes.{Nodes, IsFineAt, node_at, values}
 use Rattle.arr_eval.specs.Meaning.{Kept, numbers, meaning, outputs_of, signed, single, pair}
 use Rattle.arr_eval.specs.Numbers.{element, element_wise, sum_of, dot_of}
 use Rattle.arr_eval.proofs.Sized.{signed-size, element_wise-size, single-size, pair-size}
-use Rattle.arr_lower.specs.Lowering.{Kept as KeptNodes, behind, nodes, nodes_at_end, nodes_of}
+use Rattle.arr_lower.specs.Lowering.{Kept as KeptNodes, kept_after, nodes, nodes_at_end, nodes_of}
 use Rattle.arr_lower.specs.Operations.{Made, MadeOne, one_made, leaf_nodes, constant_node, signed_nodes, pairwise_nodes, negated_nodes, sum_node, dot_node, single_nodes, pair_nodes}
 use Rattle.arr_lower.proofs.Grown.{value, IsFine, Grows, Stands, HasOne, grows-none, grows-then, constant-has}
 use Rattle.arr_lower.proofs.LeavesMade.{leaf-each, leaves-long}
@@ -61,7 +61,7 @@ module _ (inputs : List F) where
 
   -- nodes that were made for a list of values
   gives : (counts after : Counts) (s : Kept) (t : KeptNodes) (shape : ShapeOf) (made : Made) (xs : List F) → Alike counts s t → HasEach inputs t.nodes made xs → length xs ≡ size_of shape →
-      Gives numbers nodes Alike Stand Later after s t shape (xs, s) (behind t made)
+      Gives numbers nodes Alike Stand Later after s t shape (xs, s) (kept_after t made)
   gives counts after s t shape made xs alike h size = ((h.grows.fine alike.0, all-kept inputs t.nodes made.nodes h.grows t.outputs s.outputs alike.1), (h.stand, size), h.grows)
 
   one-each : (before : List Node) (one : MadeOne) (x : F) → HasOne inputs before one x → HasEach inputs before (one_made one) (x ∷ [])
@@ -144,9 +144,9 @@ module _ (inputs : List F) where
         let xs : List F = take n (drop (length t.nodes) inputs) in
         let size : length xs ≡ n = length-take-le n (drop (length t.nodes) inputs) (omega (arith, length-drop (length t.nodes) inputs, within)) in
         let long : length (leaf_nodes n t.nodes).nodes ≡ length t.nodes + n = leaves-long n t.nodes in
-        let given : Gives numbers nodes Alike Stand Later counts s t shape (xs, record s { inputs = drop n s.inputs }) (behind t (leaf_nodes n t.nodes)) =
+        let given : Gives numbers nodes Alike Stand Later counts s t shape (xs, record s { inputs = drop n s.inputs }) (kept_after t (leaf_nodes n t.nodes)) =
         ((made.grows.fine alike.0, all-kept inputs t.nodes (leaf_nodes n t.nodes).nodes made.grows t.outputs s.outputs alike.1), (made.stand, size), made.grows) in (
-          subst (λ (left : List F). Gives numbers nodes Alike Stand Later counts s t shape (take n left, record s { inputs = drop n s.inputs }) (behind t (leaf_nodes n t.nodes))) (sym enough.0) given,
+          subst (λ (left : List F). Gives numbers nodes Alike Stand Later counts s t shape (take n left, record s { inputs = drop n s.inputs }) (kept_after t (leaf_nodes n t.nodes))) (sym enough.0) given,
           (ap (drop n) enough.0 ∙ drop-drop n (length t.nodes) inputs ∙ ap (λ k. drop k inputs) (sym long), omega (arith, enough.1, all, is_shape, long)),
         );
   }

@@ -17,21 +17,21 @@ pub record Kept : Type 0 where
   pub outputs : List ℕ
 
 -- an array whose nodes are made
-abbrev pub behind : Kept → Made → List ℕ × Kept
-behind kept made = (made.items, record kept { nodes = made.nodes })
+abbrev pub kept_after : Kept → Made → List ℕ × Kept
+kept_after kept made = (made.items, record kept { nodes = made.nodes })
 
 -- an array is the list of its elements' nodes, row by row
 abbrev pub nodes : Operations (List ℕ) Kept
 nodes = record {
-  input = λ shape kept. behind kept (leaf_nodes (size_of shape) kept.nodes);
-  constant = λ value kept. behind kept (one_made (constant_node value kept.nodes));
-  signed = λ sign left right kept. behind kept (signed_nodes sign left right kept.nodes);
-  product = λ left right kept. behind kept (pairwise_nodes Mul left right kept.nodes);
-  opposite = λ items kept. behind kept (negated_nodes items kept.nodes);
+  input = λ shape kept. kept_after kept (leaf_nodes (size_of shape) kept.nodes);
+  constant = λ value kept. kept_after kept (one_made (constant_node value kept.nodes));
+  signed = λ sign left right kept. kept_after kept (signed_nodes sign left right kept.nodes);
+  product = λ left right kept. kept_after kept (pairwise_nodes Mul left right kept.nodes);
+  opposite = λ items kept. kept_after kept (negated_nodes items kept.nodes);
   single = λ function shape items kept.
-      behind kept (single_nodes function shape items kept.nodes);
+      kept_after kept (single_nodes function shape items kept.nodes);
   pair = λ function shape other left right kept.
-      behind kept (pair_nodes function shape other left right kept.nodes);
+      kept_after kept (pair_nodes function shape other left right kept.nodes);
   element = λ items place. get_or items place 0 ∷ [];
   with_element = λ items place new. set items place (get_or new 0 0);
   output = λ items kept. record kept { outputs = kept.outputs ++ items };

@@ -111,7 +111,7 @@ impl Nodes {
     /// The number of the next node.
     fn next(&self) -> Result<u32, AllocError>
         ensures number { IfOk result (λ item. item ≡ length self.now) }
-        ensures room { IfOk result (λ item. item + 1 < 2 ^ 32) }
+        ensures capacity { IfOk result (λ item. item + 1 < 2 ^ 32) }
     {
         if self.nodes.len() >= u32::MAX as usize {
             return Err(AllocError);

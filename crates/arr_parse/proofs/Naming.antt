@@ -14,7 +14,7 @@ use Rattle.arr_lex.specs.declared.token.Symbol.{Symbol}
 use Rattle.arr_lex.specs.declared.token.Symbol.TheVariants as symbol
 use Rattle.arr_lex.specs.declared.token.Token.{Token}
 use Rattle.arr_parse.specs.Mark.{Source, part_of, found_in, or_zero, mark, mark_of}
-use Rattle.arr_parse.specs.Names.{words, named_at, names_from, TellsNames}
+use Rattle.arr_parse.specs.Names.{words, named_at, names_from, KnowsNames}
 use Rattle.arr_parse.specs.NameMap.{found, or_else, entries_of}
 
 -- ---- a map with one more name
@@ -199,7 +199,7 @@ same_number None b h k e = cc
 same_number (Some a) None h k e = cc
 same_number (Some a) (Some b) h k e = ap Some e
 
-pub tells_names : (text : List ℕ) (tokens : List Token) (a b : Token) → Contains tokens a → Contains tokens b → a.symbol ≡ symbol.Name → b.symbol ≡ symbol.Name → TellsNames text tokens a b
+pub tells_names : (text : List ℕ) (tokens : List Token) (a b : Token) → Contains tokens a → Contains tokens b → a.symbol ≡ symbol.Name → b.symbol ≡ symbol.Name → KnowsNames text tokens a b
 tells_names text tokens a b h k is is' = record {
   same = ap (λ name. or_zero (found_in (names_from 0 (words text tokens)) name));
   apart = λ e.

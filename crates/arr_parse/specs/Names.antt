@@ -23,7 +23,7 @@ abbrev pub source_of : List ℕ → List Token → Source
 source_of text tokens = record { text = text; names = names_from 0 (words text tokens) }
 
 -- two tokens that are names have one number exactly where they have the same bytes
-pub record TellsNames (text : List ℕ) (tokens : List Token) (a b : Token) : Type 0 where
+pub record KnowsNames (text : List ℕ) (tokens : List Token) (a b : Token) : Type 0 where
   pub same : part_of text a.start a.end ≡ part_of text b.start b.end
       → number_at (source_of text tokens) a ≡ number_at (source_of text tokens) b
   pub apart : number_at (source_of text tokens) a ≡ number_at (source_of text tokens) b

@@ -36,9 +36,9 @@ abbrev pub Reads : {X : Type 0} → List Part → Rest → Result X ParseRefused
 Reads parts old result new = Leads parts (λ found. []) old result new
 
 -- the part that is due after what was found
-abbrev pub behind : {X : Type 0} → Part → Option X → List Part
-behind part None = []
-behind part (Some found) = part ∷ []
+abbrev pub after_found : {X : Type 0} → Part → Option X → List Part
+after_found part None = []
+after_found part (Some found) = part ∷ []
 
 -- The tokens begin no row of the part, so it is skipped, whatever is due after it.
 abbrev pub IsSkipped : Part → List Token → Type 0

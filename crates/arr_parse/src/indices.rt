@@ -3,7 +3,7 @@
 ghost use Rattle.std.specs.Prelude.{[], ◌∷◌, IfOk};
 ghost use Rattle.arr_parse.specs.IndexSpelling.{second_spelling, maybe_indices_spelling};
 ghost use Rattle.arr_parse.specs.Grammar.{FirstIndex, SecondIndex};
-ghost use Rattle.arr_parse.specs.Steps.{Takes, Leads, Reads, behind};
+ghost use Rattle.arr_parse.specs.Steps.{Takes, Leads, Reads, after_found};
 
 use crate::cursor::Cursor;
 use crate::index::index_expression;
@@ -28,7 +28,7 @@ pub fn maybe_indices(cursor: &mut Cursor) -> Result<Option<Indices>, ParseRefuse
 fn maybe_index(cursor: &mut Cursor) -> Result<Option<IndexExpression>, ParseRefused>
     ensures spelled { IfOk result
         (λ found. Takes [] cursor.old (second_spelling found) cursor.new) }
-    ensures first { Leads (FirstIndex ∷ []) (behind SecondIndex) cursor.old result cursor.new }
+    ensures first { Leads (FirstIndex ∷ []) (after_found SecondIndex) cursor.old result cursor.new }
     ensures second { Reads (SecondIndex ∷ []) cursor.old result cursor.new }
 {
     let Some(token) = cursor.open_square() else {

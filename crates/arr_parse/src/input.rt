@@ -7,7 +7,7 @@ ghost use Rattle.arr_parse.specs.ProgramSpelling.{dimensions_spelling, input_spe
 ghost use Rattle.arr_parse.specs.Grammar.{The, AName, ANumber, FirstDimension, SecondDimension, Inputs, TopStatements};
 ghost use Rattle.arr_parse.specs.Reading.{refusal};
 ghost use Rattle.arr_parse.specs.Parsed.{Agrees};
-ghost use Rattle.arr_parse.specs.Steps.{Takes, Leads, Reads, behind, maybe_dimension_spelling};
+ghost use Rattle.arr_parse.specs.Steps.{Takes, Leads, Reads, after_found, maybe_dimension_spelling};
 
 use crate::cursor::Cursor;
 use crate::refused::ParseRefused;
@@ -67,7 +67,7 @@ fn dimensions(cursor: &mut Cursor) -> Result<Dimensions, ParseRefused>
 fn maybe_dimension(cursor: &mut Cursor) -> Result<Option<Dimension>, ParseRefused>
     ensures spelled { IfOk result
         (λ found. Takes [] cursor.old (maybe_dimension_spelling found) cursor.new) }
-    ensures first { Leads (FirstDimension ∷ []) (behind SecondDimension)
+    ensures first { Leads (FirstDimension ∷ []) (after_found SecondDimension)
         cursor.old result cursor.new }
     ensures second { Reads (SecondDimension ∷ []) cursor.old result cursor.new }
 {

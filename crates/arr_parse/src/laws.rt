@@ -7,7 +7,7 @@ ghost use Rattle.arr_lex.specs.declared.token.Symbol.TheVariants.{Name};
 ghost use Rattle.arr_lex.specs.declared.token.Token.{Token};
 ghost use Rattle.arr_parse.specs.Grammar.{Part, Inputs};
 ghost use Rattle.arr_parse.specs.IndexSpelling.{sum_marks};
-ghost use Rattle.arr_parse.specs.Names.{TellsNames};
+ghost use Rattle.arr_parse.specs.Names.{KnowsNames};
 ghost use Rattle.arr_parse.specs.Parsed.{IsTreeOf};
 ghost use Rattle.arr_parse.specs.ProgramSpelling.{program_marks};
 ghost use Rattle.arr_parse.specs.Reading.{refusal, OnlyNests};
@@ -44,9 +44,9 @@ pub fn refused_by_symbols()
 {}
 
 /// Two names of a program have one number exactly where they have the same bytes.
-pub fn numbers_tell_names()
+pub fn numbers_determine_names()
     ensures { (text : List ℕ) (tokens : List Token) (a b : Token) → Contains tokens a
-        → Contains tokens b → a.symbol ≡ Name → b.symbol ≡ Name → TellsNames text tokens a b }
+        → Contains tokens b → a.symbol ≡ Name → b.symbol ≡ Name → KnowsNames text tokens a b }
 {}
 
 /// Tokens that reading doesn't refuse have a tree.

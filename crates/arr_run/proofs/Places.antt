@@ -109,10 +109,10 @@ module _ {A : Type 0} (names : Names A) (last : ℕ) (binding : Bound A) where
 
   -- a name that wasn't is found after the others
   pub declared_new : (places : List (Option ℕ)) → Answers places names → place_of last names ≡ None → last < length places → Answers (set places last (Some (length names))) (names ++ (last, binding) ∷ [])
-  declared_new places answers none room name = elim (cases_eq name last) [
+  declared_new places answers none capacity name = elim (cases_eq name last) [
     | inl same ↦
         subst (λ n. get_or (set places last (Some (length names))) n None ≡ place_of n (names ++ (last, binding) ∷ [])) (sym same)
-        (get_or-set_same places last (Some (length names)) None room ∙ sym (place-last names last binding none))
+        (get_or-set_same places last (Some (length names)) None capacity ∙ sym (place-last names last binding none))
     | inr other ↦
         get_or-set_other places last name (Some (length names)) None other ∙ answers name
         ∙ sym (place-other names last binding name (ne_eqb last name (λ e. other (sym e))))
@@ -120,7 +120,7 @@ module _ {A : Type 0} (names : Names A) (last : ℕ) (binding : Bound A) where
 
   -- without the last name, which was the only one of its number
   pub forgotten_only : (places : List (Option ℕ)) → Answers places (names ++ (last, binding) ∷ []) → get_or places last None ≡ Some (length names) → last < length places → Answers (set places last None) names
-  forgotten_only places answers here room = by (place_of last names) refl
+  forgotten_only places answers here capacity = by (place_of last names) refl
     where
       by : (found : Option ℕ) → place_of last names ≡ found → Answers (set places last None) names
       by (Some place) e =
@@ -129,7 +129,7 @@ module _ {A : Type 0} (names : Names A) (last : ℕ) (binding : Bound A) where
           let same : place ≡ length names = cc in
           absurd (omega (arith, below, same))
       by None e = λ name. elim (cases_eq name last) [
-        | inl same ↦ subst (λ n. get_or (set places last None) n None ≡ place_of n names) (sym same) (get_or-set_same places last None None room ∙ sym e)
+        | inl same ↦ subst (λ n. get_or (set places last None) n None ≡ place_of n names) (sym same) (get_or-set_same places last None None capacity ∙ sym e)
         | inr other ↦
             get_or-set_other places last name None None other ∙ answers name
             ∙ place-other names last binding name (ne_eqb last name (λ e. other (sym e)))

@@ -124,7 +124,7 @@ impl<A: Drop> Scope<A> {
         ensures { OnOk result (self.new ≡ self.old ++ (name, binding) ∷ []) }
     {
         let place = self.names.len();
-        make_room(&mut self.places, name)?;
+        extend_places(&mut self.places, name)?;
         self.names.push((name, binding))?;
         set_place(&mut self.places, name, Some(place));
         Ok(())
@@ -173,10 +173,10 @@ fn set_place(places: &mut Vec<Option<usize>>, name: usize, place: Option<usize>)
 }
 
 /// Extends the list as far as the place of a name.
-fn make_room(places: &mut Vec<Option<usize>>, name: usize) -> Result<(), AllocError>
+fn extend_places(places: &mut Vec<Option<usize>>, name: usize) -> Result<(), AllocError>
     ensures same { (other : ℕ) → get_or places.new.items other None
         ≡ get_or places.old.items other None }
-    ensures room { OnOk result (name < length places.new.items) }
+    ensures capacity { OnOk result (name < length places.new.items) }
 {
     'each: while places.len() <= name {
         places.push(None)?;

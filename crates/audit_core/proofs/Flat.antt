@@ -7,7 +7,7 @@ use Rattle.proof_wire.specs.declared.messages.Round.{Round}
 use Rattle.proof_wire.specs.Spelling.{coefficients_of}
 use Rattle.proof_wire.specs.Lists.{round_messages, messages_of, all_messages}
 use Rattle.gkr_layers.proofs.Lists.{next-read}
-use Rattle.audit_core.specs.Found.{StandsAt}
+use Rattle.audit_core.specs.Found.{IsAt}
 
 -- the number of the first message of layer i
 abbrev pub first_number : List LayerMessages → ℕ → ℕ
@@ -17,7 +17,7 @@ pub length-layer : (m : LayerMessages) → length (messages_of m) ≡ length m.r
 length-layer m = omega (arith, length-append (round_messages m.rounds) (m.last ∷ []), length-map m.rounds coefficients_of)
 
 -- a layer's messages begin there
-pub layer_stands : (ms : List LayerMessages) (i : ℕ) (d : LayerMessages) → i < length ms → StandsAt (all_messages ms) (first_number ms i) (messages_of (get_or ms i d))
+pub layer_stands : (ms : List LayerMessages) (i : ℕ) (d : LayerMessages) → i < length ms → IsAt (all_messages ms) (first_number ms i) (messages_of (get_or ms i d))
 layer_stands [] i d u j v = absurd (omega arith)
 layer_stands (m ∷ ms) zero d u j v = (let z : 0 + j ≡ j = omega arith in ap (λ (n : ℕ). get_or (all_messages (m ∷ ms)) n []) z) ∙ get_or_append_left (messages_of m) (all_messages ms) [] j v
 layer_stands (m ∷ ms) (suc i) d u j v =
@@ -47,8 +47,8 @@ module _ (ms : List LayerMessages) (i : ℕ) (m : LayerMessages) (u : i < length
   pub layer_count : first_number ms (i + 1) ≡ first_number ms i + (length m.rounds + 1)
   layer_count = number_more ms i m u ∙ ap (λ (n : ℕ). first_number ms i + n) (ap (λ (x : LayerMessages). length (messages_of x)) (sym is) ∙ length-layer m)
 
-  pub stands_here : (n : ℕ) → n ≡ first_number ms i → StandsAt (all_messages ms) n (messages_of m)
-  stands_here n e = coe 1 0 (j. StandsAt (all_messages ms) (e j) (messages_of (is j))) (layer_stands ms i m u)
+  pub stands_here : (n : ℕ) → n ≡ first_number ms i → IsAt (all_messages ms) n (messages_of m)
+  stands_here n e = coe 1 0 (j. IsAt (all_messages ms) (e j) (messages_of (is j))) (layer_stands ms i m u)
 
 -- the messages of a layer one by one
 pub read_round : (m : LayerMessages) (j : ℕ) (r : Round) → j < length m.rounds → r ≡ get_or m.rounds j r → get_or (messages_of m) j [] ≡ coefficients_of r

@@ -24,8 +24,8 @@ pub record IsFoundBelow (qs ts : List (List K)) (rs : List K) (count : ℕ) (fou
   pub challenge : NamesFirst (Passes qs ts rs) count (λ n. n) found.challenge
 
 -- a list is in another from place n on
-abbrev pub StandsAt : List (List K) → ℕ → List (List K) → Type 0
-StandsAt whole n part =
+abbrev pub IsAt : List (List K) → ℕ → List (List K) → Type 0
+IsAt whole n part =
     (j : ℕ) → j < length part → slice_index_or whole (n + j) [] ≡ slice_index_or part j []
 
 -- layers of messages of the same shape

@@ -3,7 +3,7 @@
 ghost use Rattle.std.specs.Prelude.{◌≡◌, ◌+◌, ◌^◌, ◌≤◌, ◌<◌, List, length};
 ghost use Rattle.field_ext.specs.Field.{K};
 ghost use Rattle.proof_wire.specs.Lists.{messages_of, all_messages};
-ghost use Rattle.audit_core.specs.Found.{IsFoundBelow, StandsAt, AreAlike};
+ghost use Rattle.audit_core.specs.Found.{IsFoundBelow, IsAt, AreAlike};
 
 use crate::found::Found;
 use field_ext::Ext;
@@ -40,7 +40,7 @@ fn compare_layer(
     requires drawn { number + length messages.now.rounds < length drawn.now }
     requires few { length drawn.now < 2 ^ 32 }
     ensures { (qs ts : List (List K)) → IsFoundBelow qs ts drawn.now number before
-        → StandsAt qs number (messages_of messages.now) → StandsAt ts number (messages_of truth.now)
+        → IsAt qs number (messages_of messages.now) → IsAt ts number (messages_of truth.now)
         → IsFoundBelow qs ts drawn.now (number + length (messages_of messages.now)) result }
 {
     let mut found = before;

@@ -48,14 +48,14 @@ fn draw_layer<C: Challenges>(
         (C.state challenges.old) (messages_of messages.now)) }
 {
     for round in messages.rounds.as_slice() {
-        draw_behind(&round.coefficients(), drawn, challenges)?;
+        draw_after(&round.coefficients(), drawn, challenges)?;
     }
-    draw_behind(messages.last.as_slice(), drawn, challenges)?;
+    draw_after(messages.last.as_slice(), drawn, challenges)?;
     Ok(())
 }
 
 /// Takes a message in, and adds the challenge after it.
-fn draw_behind<C: Challenges>(
+fn draw_after<C: Challenges>(
     message: &[Ext],
     drawn: &mut Vec<Ext>,
     challenges: &mut C,

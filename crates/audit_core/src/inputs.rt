@@ -38,7 +38,7 @@ pub(crate) fn inputs_of(
 /// Writes each input that a leaf reads, as it is found after position 0 of the table of the input layer.
 fn read_leaves(leaves: &[Leaf], table: &Table, inputs: &mut [Fp])
     requires within { All (IsLeafWithin (length inputs.old)) leaves.now }
-    requires room { length leaves.now < 2 ^ table.now.k }
+    requires capacity { length leaves.now < 2 ^ table.now.k }
     ensures { (wanted : List F) → AreLeafValues wanted leaves.now table.now.items
         → GiveValues inputs.new wanted leaves.now (length leaves.now) }
 {

@@ -32,7 +32,7 @@ pub record IsAnswered (c : Content) (proved : Bool) (text : List ℕ) : Type 0 w
   pub reply : Reply
   pub is_answer : IsProveAnswer (ByLines One) c reply
   pub is_text : text ≡ reply_text reply
-  pub tells : proved ≡ is_proved_case reply
+  pub says : proved ≡ is_proved_case reply
 
 -- what contracts see of a case that was answered
 pub record AnsweredView : Type 0 where

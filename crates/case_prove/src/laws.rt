@@ -103,7 +103,7 @@ pub fn audit_has_the_verdict()
 {}
 
 /// An audit says that the outputs are the same exactly where they are the program's meaning on the inputs.
-pub fn audit_tells_the_meaning()
+pub fn audit_says_the_meaning()
     ensures { (c : Content) (audit : Audit) → IsAudited c audit
         → IsTrue audit.same ↔ HasMeaning c }
 {

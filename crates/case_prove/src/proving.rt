@@ -99,7 +99,7 @@ pub fn meant_outputs(
     ensures meaning { IfOk result (λ outputs. IsEvaluated case.now outputs.items) }
     ensures as_many { IfOk result
         (λ outputs. length outputs.items ≡ circuit.now.parts.outputs) }
-    ensures stand { IfOk result (λ outputs. outputs.items
+    ensures outputs { IfOk result (λ outputs. outputs.items
         ≡ take (length outputs.items) (drop 1 (layer_values circuit.now.parts case.now.inputs 0))) }
 {
     circuit_computes();

@@ -47,7 +47,7 @@ module _ {T : Type 0} where
           reached = ([], refl);
           backs = refl;
           puts = λ x. refl;
-          room = length-map slots some ∙ ap length e ∙ length-map parts Some;
+          capacity = length-map slots some ∙ ap length e ∙ length-map parts Some;
           fresh = λ k x h at. lies k x at;
           each = λ j v at. only j v at;
         },

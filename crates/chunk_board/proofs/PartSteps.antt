@@ -122,12 +122,12 @@ module _ {T : Type 0} where
 
       claim_one : v.stopped ≡ false → v.held ≡ None → next < length parts → IsPartBoard parts shares (next + 1) back (set homes next none) (set hands id (record v { drawn = v.drawn ++ next ∷ []; held = Some next }))
       claim_one going free h = let w : PartHand T = record v { drawn = v.drawn ++ next ∷ []; held = Some next } in let none_held : (y : ℕ) → holding y v.held ≡ 0 = λ y. ap (holding y) free in
-          let inside_room : next < length homes = let c = b.room in omega arith in record {
+          let inside_room : next < length homes = let c = b.capacity in omega arith in record {
             worked = b.worked;
             reached = claim_reached w going (sym (claiming_one (length parts) next (worker_in v) h));
             backs = b.backs;
             puts = same_puts id v w at refl;
-            room = length-set homes next none ∙ b.room;
+            capacity = length-set homes next none ∙ b.capacity;
             fresh = λ k x le e. set_else homes next k none (λ s. absurd (omega arith)) ∙ b.fresh k x (omega arith) e;
             each = each_set (FitsHomes (set homes next none)) hands id w
                 record {
@@ -148,7 +148,7 @@ module _ {T : Type 0} where
         reached = claim_reached w going (sym (claiming_none (length parts) next (worker_in v) h));
         backs = b.backs;
         puts = same_puts id v w at refl;
-        room = b.room;
+        capacity = b.capacity;
         fresh = λ k x le e. b.fresh k x (omega arith) e;
         each = each_set (FitsHomes homes) hands id w record { keys = f.keys; lies = f.lies; out = f.out } b.each;
       }
@@ -203,12 +203,12 @@ module _ {T : Type 0} where
         put_one : IsPartBoard parts shares next (back + 1) (set homes at' (some (Some x))) (set hands id after_put)
         put_one = let w : PartHand T = after_put in let f = b.each id v at in
             let low = counted_below at' next (length parts) (let le = one_le (λ (u : PartHand T). times at' u.drawn) hands id v at in let all = drawn_in at' in let m = mine in omega arith) in
-            let inside_room : at' < length homes = let c = b.room in let d = low.1 in omega arith in record {
+            let inside_room : at' < length homes = let c = b.capacity in let d = low.1 in omega arith in record {
               worked = b.worked ++ (at', tt) ∷ [];
               reached = one_more (length parts) shares (phase next (map worker_in hands) b.worked) (phase next (map worker_in (set hands id w)) (b.worked ++ (at', tt) ∷ [])) (Work id at') b.reached work_step;
               backs = let e = b.backs in omega (arith, length-append b.worked ((at', tt) ∷ []));
               puts = λ y. let t = total_set (λ (u : PartHand T). times y (map number_of u.put)) hands id v w at in let o = b.puts y in omega (arith, more_worked y, more_put y);
-              room = length-set homes at' (some (Some x)) ∙ b.room;
+              capacity = length-set homes at' (some (Some x)) ∙ b.capacity;
               fresh = λ k y h e. let d = low.0 in set_else homes at' k (some (Some x)) (λ s. absurd (omega arith)) ∙ b.fresh k y h e;
               each = each_other (FitsHomes (set homes at' (some (Some x)))) hands id w
                   record {
@@ -236,7 +236,7 @@ module _ {T : Type 0} where
       );
       backs = b.backs;
       puts = λ x. same_puts id v l at refl x ∙ sym (snoc_nothing x vs m refl);
-      room = b.room;
+      capacity = b.capacity;
       fresh = b.fresh;
       each = each_snoc (FitsHomes homes) vs m record { keys = λ y. refl; lies = λ i k x e. absurd (some-ne-none (k, x) (sym e)); out = λ k e. absurd (no_some e) }
           (each_set (FitsHomes homes) hands id l record { keys = f.keys; lies = f.lies; out = f.out } b.each);
@@ -262,7 +262,7 @@ module _ {T : Type 0} where
           backs = b.backs;
           puts = λ x. let t = total_set (λ (u : PartHand T). times x (map number_of u.put)) hands id v j at in let t' = total_set (λ (u : PartHand T). times x (map number_of u.put)) vs other w z there in let o = b.puts x in
               let e = ap (times x) (map-append number_of v.put w.put) in omega (arith, times-append x (map number_of v.put) (map number_of w.put));
-          room = b.room;
+          capacity = b.capacity;
           fresh = b.fresh;
           each = each_set (FitsHomes homes) vs other z record { keys = λ y. refl; lies = λ i k x e. absurd (some-ne-none (k, x) (sym e)); out = λ k e. absurd (no_some e) }
               (each_set (FitsHomes homes) hands id j

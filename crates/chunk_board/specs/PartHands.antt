@@ -56,7 +56,7 @@ module _ {T : Type 0} where
     pub backs : length worked ≡ back
     pub puts : (x : ℕ) → times x (pieces_of worked)
         ≡ total (λ v. times x (map number_of v.put)) hands
-    pub room : length homes ≡ length parts
+    pub capacity : length homes ≡ length parts
     pub fresh : (k : ℕ) (x : T) → next ≤ k → get_elem? parts k ≡ some x
         → get_elem? homes k ≡ some (some (Some x))
     pub each : (j : ℕ) (v : PartHand T) → get_elem? hands j ≡ some v → FitsHomes homes v

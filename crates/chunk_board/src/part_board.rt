@@ -26,7 +26,7 @@ const BACK: usize = 1;
 pub struct PartBoard<T: Drop> {
     table: Table<Option<T>, PartHand<T>, PartPlan<T>, HomeOrHeld, Global>,
     count: u32,
-    room: Vec<T>,
+    buffer: Vec<T>,
 }
 
 impl<T: Drop> Model for PartBoard<T> {
@@ -43,7 +43,7 @@ impl<T: Drop> Model for PartBoard<T> {
 
     ghost invariant = { λ b. let n = length b.table.shared.key.parts.value.items in
         (b.table.shared.table_id.words ≡ 2) × (b.table.shared.table_id.slots ≡ n) × (b.count ≡ n)
-        × (vec_len b.room ≡ 0) × (b.count ≤ vec_capacity b.room) };
+        × (vec_len b.buffer ≡ 0) × (b.count ≤ vec_capacity b.buffer) };
 }
 
 /// The right to claim parts of one board, one at a time: some of its shares, what was drawn and put back under them, and the
@@ -138,7 +138,7 @@ impl<T: Drop> PartBoard<T> {
                 let board = PartBoard {
                     table,
                     count: count as u32,
-                    room: parts,
+                    buffer: parts,
                 };
                 let claimer = PartClaimer {
                     shares,
@@ -275,10 +275,14 @@ impl<T: Drop> PartBoard<T> {
             ↔ IsPermutation (range_with_len 0 (length self.parts)) claimer.drawn }
     {
         let PartClaimer { seat, .. } = claimer;
-        let PartBoard { table, count, room } = self;
+        let PartBoard {
+            table,
+            count,
+            buffer,
+        } = self;
         let closed = table.close_with(seat);
         let next = closed.word(NEXT);
-        let parts = brought_home(closed, count as usize, room);
+        let parts = brought_home(closed, count as usize, buffer);
         Parts {
             all: next >= u64::from(count),
             parts,

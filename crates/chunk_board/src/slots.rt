@@ -24,7 +24,7 @@ pub(crate) fn filled<T: Drop>(mut slots: Vec<Option<T>>, parts: &mut Vec<T>) -> 
     requires { slots.items ≡ replicate (vec_len parts.old) None }
     ensures slots { result.items ≡ map Some parts.old.items }
     ensures emptied { vec_len parts.new ≡ 0 }
-    ensures room { vec_len parts.old ≤ vec_capacity parts.new }
+    ensures capacity { vec_len parts.old ≤ vec_capacity parts.new }
 {
     while let Some(part) = parts.pop() {
         let at = parts.len();
@@ -36,7 +36,7 @@ pub(crate) fn filled<T: Drop>(mut slots: Vec<Option<T>>, parts: &mut Vec<T>) -> 
 /// The parts out of the slots, in their order, within the capacity that is there.
 pub(crate) fn emptied<T: Drop>(mut slots: Vec<Option<T>>, parts: &mut Vec<T>)
     requires none { vec_len parts.old ≡ 0 }
-    requires room { vec_len slots ≤ vec_capacity parts.old }
+    requires capacity { vec_len slots ≤ vec_capacity parts.old }
     requires full { (i : ℕ) → i < vec_len slots
         → (x : T) × (slice_get slots.items i ≡ Some (Some x)) }
     ensures { map Some parts.new.items ≡ slots.items }
@@ -62,7 +62,7 @@ pub(crate) fn brought_home<T: Drop>(
     requires full { (k : ℕ) → k < count
         → (x : T) × (get_elem? (slots_items closed.slots) k ≡ some (Some x)) }
     requires none { vec_len parts ≡ 0 }
-    requires room { count ≤ vec_capacity parts }
+    requires capacity { count ≤ vec_capacity parts }
     ensures len { vec_len result ≡ count }
     ensures items { (k : ℕ) (x : T) → get_elem? (slots_items closed.slots) k ≡ some (Some x)
         → slice_get result.items k ≡ Some x }

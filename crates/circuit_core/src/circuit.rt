@@ -179,7 +179,7 @@ impl Circuit {
     pub fn leaves(&self) -> &[Leaf]
         ensures value { result.now ≡ self.now.parts.leaves }
         ensures inputs { All (IsLeafWithin self.now.parts.inputs) result.now }
-        ensures room { 1 + length result.now ≤ width_of self.now.parts (height self.now.parts) }
+        ensures capacity { 1 + length result.now ≤ width_of self.now.parts (height self.now.parts) }
     {
         self.lists.leaves()
     }

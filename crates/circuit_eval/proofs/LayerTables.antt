@@ -39,9 +39,9 @@ module _ (c : SoundCircuit) (inputs : List F) where
         | inr last ↦
             let same : i ≡ height c.parts = omega arith in
             let width : width_of c.parts (height c.parts) ≡ c.parts.input_width = cond-false _ _ _ (le-ltb (height c.parts) (height c.parts) (omega arith)) in
-            let room : 1 + length c.parts.leaves ≤ c.parts.input_width = subst (λ w. 1 + length c.parts.leaves ≤ w) width (leaves_room c.parts no_fault) in
+            let capacity : 1 + length c.parts.leaves ≤ c.parts.input_width = subst (λ w. 1 + length c.parts.leaves ≤ w) width (leaves_room c.parts no_fault) in
             ap (λ (i : ℕ). length (layer_values c.parts inputs i)) same
-            ∙ length-input c.parts inputs room ∙ sym width ∙ ap (λ (i : ℕ). width_of c.parts i) (sym same)
+            ∙ length-input c.parts inputs capacity ∙ sym width ∙ ap (λ (i : ℕ). width_of c.parts i) (sym same)
       ]
 
   -- there is a power of two of them

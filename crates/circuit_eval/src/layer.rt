@@ -52,7 +52,7 @@ pub fn gate_values<R: Threads + Sync>(
 
 /// Writes the value of each gate.
 fn evaluate(gates: &[CircuitGate], below: &[Fp], values: &mut [Fp])
-    requires room { length values.old ≡ length gates.now }
+    requires capacity { length values.old ≡ length gates.now }
     requires operands { All (IsOver (length below.now)) gates.now }
     ensures { values.new ≡ map (gate_value below.now) gates.now }
 {
@@ -68,7 +68,7 @@ fn evaluate_side_by_side<R: Threads + Sync>(
     below: &[Fp],
     values: &mut [Fp],
 )
-    requires room { length values.old ≡ length gates.now }
+    requires capacity { length values.old ≡ length gates.now }
     requires operands { All (IsOver (length below.now)) gates.now }
     ensures { values.new ≡ map (gate_value below.now) gates.now }
 {

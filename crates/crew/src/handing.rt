@@ -21,7 +21,7 @@ where
     requires few { vec_len parts.old ≤ length relays.now }
     ensures sent { AreOut relays.now parts.old.items 0 senders.new }
     ensures emptied { vec_len parts.new ≡ 0 }
-    ensures room { vec_len parts.old ≤ vec_capacity parts.new }
+    ensures capacity { vec_len parts.old ≤ vec_capacity parts.new }
 {
     while let Some(part) = parts.pop() {
         let k = parts.len();
@@ -44,7 +44,7 @@ where
     requires count { count ≡ vec_len sent.now.value }
     requires few { count ≤ length relays.now }
     requires none { vec_len parts.old ≡ 0 }
-    requires room { count ≤ vec_capacity parts.old }
+    requires capacity { count ≤ vec_capacity parts.old }
     ensures home { AllHome relays.now senders.new }
     ensures len { vec_len parts.new ≡ count }
     ensures worked { (w : W) → ServeAll w relays.now

@@ -16,13 +16,13 @@ struct Halting<'a> {
 }
 
 impl Read for Halting<'_> {
-    fn read(&mut self, room: &mut [u8]) -> io::Result<usize> {
+    fn read(&mut self, buffer: &mut [u8]) -> io::Result<usize> {
         self.calls = self.calls.saturating_add(1);
         if self.calls == 2 {
             return Err(io::Error::from(io::ErrorKind::WouldBlock));
         }
-        let most = room.len().min(3);
-        self.left.read(&mut room[..most])
+        let most = buffer.len().min(3);
+        self.left.read(&mut buffer[..most])
     }
 }
 
@@ -64,9 +64,9 @@ fn reads_through_std(rt: HostRuntime) {
         (Ok(1), b"d..."),
         (Ok(0), b"...."),
     ] {
-        let mut room = *b"....";
-        assert_eq!(rt; source.read(&mut room), want);
-        assert_eq!(rt; &room, bytes);
+        let mut buffer = *b"....";
+        assert_eq!(rt; source.read(&mut buffer), want);
+        assert_eq!(rt; &buffer, bytes);
     }
 }
 
@@ -101,14 +101,14 @@ fn moves_in_memory(rt: HostRuntime) -> Result<(), Fail> {
         (Ok(1), Ok(0)),
         (Ok(0), Ok(0)),
     ] {
-        let mut room = [0; 3];
-        assert_eq!(rt; source.read(&mut room), want);
-        assert_eq!(rt; steady_source.read(&mut room), steady);
+        let mut buffer = [0; 3];
+        assert_eq!(rt; source.read(&mut buffer), want);
+        assert_eq!(rt; steady_source.read(&mut buffer), steady);
     }
 
     let mut sink = MemorySink::new(rt.alloc(), 4, 3, &[2])?;
     let mut steady_sink = SteadySink::new(rt.alloc(), 4)?;
-    for (piece, want, tells) in [
+    for (piece, want, known) in [
         ("abcd", Ok(3), true),
         ("d", Err(Failed), false),
         ("de", Ok(1), false),
@@ -116,7 +116,7 @@ fn moves_in_memory(rt: HostRuntime) -> Result<(), Fail> {
     ] {
         assert_eq!(rt; sink.write(piece.as_bytes()), want);
         assert_eq!(rt; steady_sink.write(piece.as_bytes()), Ok(piece.len()));
-        assert_eq!(rt; steady_sink.tells(), tells);
+        assert_eq!(rt; steady_sink.is_known(), known);
     }
     assert_eq!(rt; sink.bytes(), b"abcd".as_slice());
     assert_eq!(rt; steady_sink.bytes(), b"abcd".as_slice());

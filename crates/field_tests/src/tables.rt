@@ -19,11 +19,11 @@ fn folds_and_evaluates_by_hand(rt: HostRuntime) -> Result<(), AllocError> {
     match Table::of_values(elements(alloc, &[1, 2, 3, 4])?) {
         Ok(mut table) => {
             assert_eq!(rt; table.k(), 2);
-            let mut room = [Ext::zero(); 2];
+            let mut buffer = [Ext::zero(); 2];
             if table.k() == 2 {
                 assert!(rt; table.eval_at(alloc, &[number(5), number(7)])? == number(20));
-                table.fold_into(number(5), &mut room);
-                assert!(rt; room == [number(6), number(8)]);
+                table.fold_into(number(5), &mut buffer);
+                assert!(rt; buffer == [number(6), number(8)]);
                 table.fold(number(5));
                 assert!(rt; table.at(0) == number(6) && table.at(1) == number(8));
             }

@@ -55,7 +55,7 @@ impl<'a> Ends<'a> {
 
 /// How many bytes a sink in memory holds, and takes a write.
 #[derive(Clone, Copy)]
-struct Room {
+struct Capacity {
     most: usize,
     piece: usize,
     ghost some: { 0 < piece },
@@ -75,9 +75,9 @@ fn ended<R: Threads + Wait + Sync + Abort + AllocGlobal>(
     rt: &R,
     words: &[&str],
     ends: &Ends,
-    room: Room,
+    capacity: Capacity,
 ) -> Result<(Status, Vec<u8>), Fail> {
-    ended_by(rt, words, ends, room, &OpenGate)
+    ended_by(rt, words, ends, capacity, &OpenGate)
 }
 
 /// The same, where the workers pass this gate.
@@ -85,13 +85,13 @@ fn ended_by<R: Threads + Wait + Sync + Abort + AllocGlobal, G: Gate>(
     rt: &R,
     words: &[&str],
     ends: &Ends,
-    room: Room,
+    capacity: Capacity,
     gate: &G,
 ) -> Result<(Status, Vec<u8>), Fail> {
     let alloc = rt.alloc();
     let owned = owned_words(alloc, words)?;
     let mut source = MemorySource::new(alloc, ends.input, ends.piece, ends.failing_reads)?;
-    let mut sink = MemorySink::new(alloc, room.most, room.piece, ends.failing_writes)?;
+    let mut sink = MemorySink::new(alloc, capacity.most, capacity.piece, ends.failing_writes)?;
     let status = gkr_run(rt, alloc, &owned, &mut source, &mut sink, gate);
     Ok((status, Vec::from_slice(alloc, sink.bytes())?))
 }
@@ -105,11 +105,11 @@ fn sees<R: Threads + Wait + Sync + Abort + AllocGlobal>(
     status: Status,
     reply: &[u8],
 ) -> Result<(), Fail> {
-    let room = Room {
+    let capacity = Capacity {
         most: 4096,
         piece: 5,
     };
-    let (found, written) = ended(rt, words, ends, room)?;
+    let (found, written) = ended(rt, words, ends, capacity)?;
     assert_eq!(rt; found, status);
     assert_eq!(rt; written.as_slice(), reply);
     Ok(())

@@ -6,7 +6,7 @@ ghost use Rattle.lane_kernel.specs.Kernel.{AreBelow};
 use crate::proving::{LayerCase, case_of, nanoseconds, started};
 use field_ext::{Ext, Fp};
 use lane_kernel::{fold_pairs, pair_sums};
-use round_tables::{GateTables, Room};
+use round_tables::{Buffers, GateTables};
 use std::alloc::{AllocError, Global};
 use std::io;
 use std::time::Instant;
@@ -85,7 +85,7 @@ struct Loops {
 /// The least of twenty times of the loops. The first round is bound before, so that the tables have values of the extension.
 fn time_loops(rt: &HostRuntime, case: &LayerCase, k: u32) -> io::Result<Loops> {
     let width = 1usize << k.min(16);
-    let mut room = Room::new(rt.alloc(), width, width)?;
+    let mut buffers = Buffers::new(rt.alloc(), width, width)?;
     let mut least = Loops {
         bind: u64::MAX,
         sum: u64::MAX,
@@ -93,7 +93,7 @@ fn time_loops(rt: &HostRuntime, case: &LayerCase, k: u32) -> io::Result<Loops> {
     };
     let r = Ext::of(Fp::reduce(123_456_789), Fp::reduce(987_654_321));
     for _ in 0..20u32 {
-        let Some(mut tables) = started(room, &case.circuit, &case.values, &case.point)? else {
+        let Some(mut tables) = started(buffers, &case.circuit, &case.values, &case.point)? else {
             return Ok(least);
         };
         if tables.rounds_left() < 2 {
@@ -106,7 +106,7 @@ fn time_loops(rt: &HostRuntime, case: &LayerCase, k: u32) -> io::Result<Loops> {
         let begun = Instant::now(rt)?;
         tables.bind(r);
         least.bind = least.bind.min(nanoseconds(begun.elapsed(rt)?));
-        room = tables.into_room();
+        buffers = tables.into_buffers();
     }
     Ok(least)
 }

@@ -200,22 +200,22 @@ fn send(
     }
 }
 
-fn gather_left(gates: &[CircuitGate], values: &[Plain], room: &mut PlainBuffers) {
-    clear(&mut room.scales);
-    clear(&mut room.shifts);
-    for (gate, factor) in gates.iter().zip(room.point_equality.as_slice()) {
+fn gather_left(gates: &[CircuitGate], values: &[Plain], buffers: &mut PlainBuffers) {
+    clear(&mut buffers.scales);
+    clear(&mut buffers.shifts);
+    for (gate, factor) in gates.iter().zip(buffers.point_equality.as_slice()) {
         let product = mul(*factor, value_at(values, gate.right));
-        let (scales, shifts) = (&mut room.scales, &mut room.shifts);
+        let (scales, shifts) = (&mut buffers.scales, &mut buffers.shifts);
         send(scales, shifts, gate.kind, gate.left, *factor, product);
     }
 }
 
-fn gather_right(gates: &[CircuitGate], bound: Plain, room: &mut PlainBuffers) {
-    clear(&mut room.scales);
-    clear(&mut room.shifts);
-    for (gate, factor) in gates.iter().zip(room.point_equality.as_slice()) {
-        let factor = mul(*factor, value_at(&room.left_equality, gate.left));
-        let (scales, shifts) = (&mut room.scales, &mut room.shifts);
+fn gather_right(gates: &[CircuitGate], bound: Plain, buffers: &mut PlainBuffers) {
+    clear(&mut buffers.scales);
+    clear(&mut buffers.shifts);
+    for (gate, factor) in gates.iter().zip(buffers.point_equality.as_slice()) {
+        let factor = mul(*factor, value_at(&buffers.left_equality, gate.left));
+        let (scales, shifts) = (&mut buffers.scales, &mut buffers.shifts);
         send(
             scales,
             shifts,
@@ -227,17 +227,19 @@ fn gather_right(gates: &[CircuitGate], bound: Plain, room: &mut PlainBuffers) {
     }
 }
 
-fn rounds(room: &mut PlainBuffers, challenges: &[Plain]) -> u32 {
+fn rounds(buffers: &mut PlainBuffers, challenges: &[Plain]) -> u32 {
     let mut seen = 0u32;
-    let mut half = room.table.len() / 2;
+    let mut half = buffers.table.len() / 2;
     for r in challenges {
-        half = half.min(room.table.len() / 2);
-        half = half.min(room.scales.len() / 2).min(room.shifts.len() / 2);
-        let message = pair_sums(&room.table, &room.scales, &room.shifts, half);
+        half = half.min(buffers.table.len() / 2);
+        half = half
+            .min(buffers.scales.len() / 2)
+            .min(buffers.shifts.len() / 2);
+        let message = pair_sums(&buffers.table, &buffers.scales, &buffers.shifts, half);
         seen = seen.wrapping_add(message[0].re ^ message[1].im ^ message[2].re);
-        fold(&mut room.table, half, *r);
-        fold(&mut room.scales, half, *r);
-        fold(&mut room.shifts, half, *r);
+        fold(&mut buffers.table, half, *r);
+        fold(&mut buffers.scales, half, *r);
+        fold(&mut buffers.shifts, half, *r);
         half /= 2;
     }
     seen
@@ -250,15 +252,15 @@ pub fn prove_layer(
     point: &[Plain],
     left: &[Plain],
     right: &[Plain],
-    room: &mut PlainBuffers,
+    buffers: &mut PlainBuffers,
 ) -> u32 {
-    equality_table(point, &mut room.point_equality);
-    copy(values, &mut room.table);
-    gather_left(gates, values, room);
-    let seen = rounds(room, left);
-    let bound = value_at(&room.table, 0);
-    equality_table(left, &mut room.left_equality);
-    copy(values, &mut room.table);
-    gather_right(gates, bound, room);
-    seen.wrapping_add(rounds(room, right))
+    equality_table(point, &mut buffers.point_equality);
+    copy(values, &mut buffers.table);
+    gather_left(gates, values, buffers);
+    let seen = rounds(buffers, left);
+    let bound = value_at(&buffers.table, 0);
+    equality_table(left, &mut buffers.left_equality);
+    copy(values, &mut buffers.table);
+    gather_right(gates, bound, buffers);
+    seen.wrapping_add(rounds(buffers, right))
 }

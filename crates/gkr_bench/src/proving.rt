@@ -10,7 +10,7 @@ use field_ext::{Ext, Fp};
 use io_edge::OpenGate;
 use line_reduce::line_poly;
 use mle_table::Table;
-use round_tables::{GateTables, Room};
+use round_tables::{Buffers, GateTables};
 use std::alloc::{AllocError, Global};
 use std::io;
 use std::marker::Sync;
@@ -115,7 +115,7 @@ pub(crate) fn case_of(alloc: Global, k: u32) -> Result<Option<LayerCase>, AllocE
 
 /// The working tables of the layer in the buffers, where its sizes fit.
 pub(crate) fn started<'a>(
-    room: Room,
+    buffers: Buffers,
     circuit: &'a Circuit,
     values: &'a Table,
     point: &'a [Ext],
@@ -128,14 +128,14 @@ pub(crate) fn started<'a>(
     if circuit.coordinates(1) != values.k() as usize {
         return Ok(None);
     }
-    let tables = GateTables::start_in(room, circuit.gates(0), values, point)?;
+    let tables = GateTables::start_in(buffers, circuit.gates(0), values, point)?;
     Ok(Some(tables))
 }
 
 /// The buffers that a layer used, and a digest of its messages.
 #[derive(Drop)]
 pub(crate) struct Proved {
-    pub(crate) room: Room,
+    pub(crate) buffers: Buffers,
     pub(crate) seen: u32,
 }
 
@@ -143,13 +143,13 @@ pub(crate) struct Proved {
 pub(crate) fn prove<R: Threads + Sync>(
     rt: &R,
     alloc: Global,
-    room: Room,
+    buffers: Buffers,
     case: &LayerCase,
     workers: u32,
 ) -> Result<Option<Proved>, AllocError>
     requires { IsWorkerCount workers }
 {
-    let Some(mut tables) = started(room, &case.circuit, &case.values, &case.point)? else {
+    let Some(mut tables) = started(buffers, &case.circuit, &case.values, &case.point)? else {
         return Ok(None);
     };
     let mut seen = 0u32;
@@ -161,8 +161,8 @@ pub(crate) fn prove<R: Threads + Sync>(
             bind_round(rt, alloc, &mut tables, *r, workers, &OpenGate)?;
         }
     }
-    let room = tables.into_room();
-    Ok(Some(Proved { room, seen }))
+    let buffers = tables.into_buffers();
+    Ok(Some(Proved { buffers, seen }))
 }
 
 pub(crate) fn nanoseconds(time: Duration) -> u64 {
@@ -177,15 +177,15 @@ fn time_proved<R: Threads + Sync>(
     k: u32,
 ) -> io::Result<(u64, u32)> {
     let width = 1usize << k.min(16);
-    let mut room = Room::new(rt.alloc(), width, width)?;
+    let mut buffers = Buffers::new(rt.alloc(), width, width)?;
     let (mut best, mut seen) = (u64::MAX, 0);
     for _ in 0..20u32 {
         let begun = Instant::now(rt)?;
-        let Some(proved) = prove(threads, rt.alloc(), room, case, 1)? else {
+        let Some(proved) = prove(threads, rt.alloc(), buffers, case, 1)? else {
             return Ok((best, seen));
         };
         best = best.min(nanoseconds(begun.elapsed(rt)?));
-        room = proved.room;
+        buffers = proved.buffers;
         seen = proved.seen;
     }
     Ok((best, seen))
@@ -218,13 +218,13 @@ fn time_plain(rt: &HostRuntime, case: &LayerCase) -> io::Result<(u64, u32)> {
     let values = plain(alloc, case.values.values())?;
     let (point, left) = (plain(alloc, &case.point)?, plain(alloc, &case.left)?);
     let right = plain(alloc, &case.right)?;
-    let mut room = plain_buffers(alloc, values.len())?;
+    let mut buffers = plain_buffers(alloc, values.len())?;
     let (mut best, mut seen) = (u64::MAX, 0);
     if case.circuit.height() > 0 {
         let gates = case.circuit.gates(0);
         for _ in 0..20u32 {
             let begun = Instant::now(rt)?;
-            seen = prove_layer(gates, &values, &point, &left, &right, &mut room);
+            seen = prove_layer(gates, &values, &point, &left, &right, &mut buffers);
             best = best.min(nanoseconds(begun.elapsed(rt)?));
         }
     }

@@ -1,7 +1,7 @@
 //! What the rounds of a layer take with one worker and with more.
 
 use crate::proving::{LayerCase, case_of, nanoseconds, prove};
-use round_tables::Room;
+use round_tables::Buffers;
 use std::io;
 use std::marker::Sync;
 use std::thread::Threads;
@@ -22,7 +22,7 @@ fn least_times<R: Threads + Sync>(
     k: u32,
 ) -> io::Result<[Least; 4]> {
     let width = 1usize << k.min(16);
-    let mut room = Room::new(rt.alloc(), width, width)?;
+    let mut buffers = Buffers::new(rt.alloc(), width, width)?;
     let mut least = [Least {
         time: u64::MAX,
         seen: 0,
@@ -30,7 +30,7 @@ fn least_times<R: Threads + Sync>(
     for turn in 0..800u32 {
         let workers = turn % 4 + 1;
         let begun = Instant::now(rt)?;
-        let Some(proved) = prove(threads, rt.alloc(), room, case, workers)? else {
+        let Some(proved) = prove(threads, rt.alloc(), buffers, case, workers)? else {
             return Ok(least);
         };
         let time = nanoseconds(begun.elapsed(rt)?);
@@ -39,7 +39,7 @@ fn least_times<R: Threads + Sync>(
             time: least[place].time.min(time),
             seen: proved.seen,
         };
-        room = proved.room;
+        buffers = proved.buffers;
     }
     Ok(least)
 }

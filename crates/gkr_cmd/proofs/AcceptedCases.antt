@@ -7,7 +7,7 @@ use Rattle.case_text.specs.declared.reply.Reply.{Reply}
 use Rattle.case_text.specs.declared.reply.Reply.TheVariants as replies
 use Rattle.case_prove.specs.Sound.{HasExceptionalChallenge, HasMeaning}
 use Rattle.case_prove.specs.Verified.{HasAcceptedProof, IsVerdictOn, proof_form}
-use Rattle.case_text.specs.declared.verdict.VerdictLine.TheVariants as told
+use Rattle.case_text.specs.declared.verdict.VerdictLine.TheVariants as reported
 use Rattle.gkr_layers.specs.declared.verdict.Verdict.{Verdict}
 use Rattle.gkr_layers.specs.declared.verdict.Verdict.TheVariants as verdicts
 use Rattle.gkr_cmd.specs.declared.status.Status.TheVariants.{Done}
@@ -15,7 +15,7 @@ use Rattle.gkr_words.specs.declared.words.Command.{Command}
 use Rattle.gkr_words.specs.declared.words.CaseCommand.TheVariants.{Verify}
 use Rattle.gkr_words.specs.declared.words.Command.TheVariants.{OfCase}
 use Rattle.gkr_cmd.specs.Replies.{IsCommandReply, IsOfCase, IsVerifyAnswer, status_of}
-use Rattle.gkr_cmd.specs.Told.{verdict_line}
+use Rattle.gkr_cmd.specs.Reported.{verdict_line}
 use Rattle.case_prove.proofs.AcceptedProofs.{meets, verdict_on}
 use Rattle.gkr_cmd.proofs.OneReply.{Found, found, long, no_case, of_case}
 use Rattle.gkr_cmd.proofs.ProofRefusals.{refusal_undone}
@@ -24,7 +24,7 @@ use Rattle.gkr_cmd.proofs.OneReply.{same_case as one_case}
 
 -- the reply of one that is accepted
 abbrev pub accepted_reply : Reply
-accepted_reply = replies.Verdict told.Accepted
+accepted_reply = replies.Verdict reported.Accepted
 
 by_verdict : (c : Content) (verdict : Verdict) → IsVerdictOn c verdict → status_of (replies.Verdict (verdict_line verdict)) ≡ Done → (replies.Verdict (verdict_line verdict) ≡ accepted_reply) × IsVerdictOn c verdicts.Accepted
 by_verdict c verdicts.Accepted is e = (refl, is)

@@ -18,7 +18,7 @@ use Rattle.case_text.specs.Reading.{reading}
 use Rattle.case_text.specs.Replies.{reply_text}
 use Rattle.gkr_cmd.specs.RunLaws.{RunLaws}
 use Rattle.gkr_cmd.specs.Runs.{HasLineProof, WritesAudit}
-use Rattle.gkr_cmd.specs.Told.{audit_lines}
+use Rattle.gkr_cmd.specs.Reported.{audit_lines}
 use Rattle.gkr_cmd.proofs.CircuitAnswers.{IsOne}
 use Rattle.gkr_cmd.proofs.OneReply.{OneAnswer, Found, found, long, no_case, of_case}
 use Rattle.gkr_cmd.proofs.ProofRefusals.{IsOneProof, Refusal, refusal, refusal_undone, one_refusal, not_both}

@@ -31,7 +31,7 @@ use Rattle.gkr_words.specs.declared.words.CaseCommand.TheVariants as commands
 use Rattle.gkr_cmd.specs.Replies.{IsCommandReply, IsConvertAnswer, IsOfCase, IsSumLine, IsVerifyAnswer, status_of}
 use Rattle.gkr_cmd.specs.RunLaws.{RunLaws}
 use Rattle.gkr_cmd.specs.Runs.{IsConvertible, WritesConverted}
-use Rattle.gkr_cmd.specs.Told.{sum_line}
+use Rattle.gkr_cmd.specs.Reported.{sum_line}
 use Rattle.gkr_cmd.proofs.CircuitAnswers.{IsOne}
 use Rattle.gkr_cmd.proofs.OneReply.{OneAnswer, Found, found, long, no_case, of_case}
 use Rattle.gkr_cmd.proofs.VerifyAnswers.{answered_alike}

@@ -13,7 +13,7 @@ use Rattle.circuit_core.proofs.Faultless.{unless_true}
 use Rattle.circuit_core.proofs.First.{none_from_each}
 use Rattle.layer_compile.specs.Circuits.{circuit_of, refusal_of, too_wide}
 use Rattle.layer_compile.specs.Levels.{height_of}
-use Rattle.layer_compile.specs.Rows.{row, stands}
+use Rattle.layer_compile.specs.Rows.{row, is_at}
 use Rattle.layer_compile.proofs.Refusals.{accepted}
 use Rattle.arr_compile.proofs.SumLevels.{IsLow, length-adds, leaf-low, leaves-low, matmul-low, sum-low}
 use Rattle.arr_ast.specs.declared.expression.SingleFunction.TheVariants.{Sum}
@@ -250,9 +250,9 @@ unfolding demo_nodes
 row_short n h is =
     let nodes = demo_nodes n in
     let all = range_with_len 0 (length nodes.nodes) in
-    let kept = filtered (stands nodes h) all in
+    let kept = filtered (is_at nodes h) all in
     let many = length-range_with_len 0 (length nodes.nodes) in
-    if_shorter (nat_lt h (height_of nodes)) (filter (stands nodes h) all) nodes.outputs 10000 (omega (arith, kept, many, is.few)) (omega arith)
+    if_shorter (nat_lt h (height_of nodes)) (filter (is_at nodes h) all) nodes.outputs 10000 (omega (arith, kept, many, is.few)) (omega arith)
 
 height_small : (n : ℕ) → IsSmall n → height_of (demo_nodes n) ≤ 14
 unfolding demo_nodes

@@ -14,11 +14,11 @@ use Rattle.gkr_cmd.specs.declared.status.Status.{Status}
 use Rattle.gkr_cmd.specs.declared.status.Status.TheVariants as statuses
 use Rattle.gkr_words.specs.declared.words.Command.{Command}
 use Rattle.gkr_words.specs.declared.words.CaseCommand.TheVariants.{Eval, Circuit, Prove, Verify, Audit, Convert}
-use Rattle.gkr_words.specs.Commands.{ReadsCase, command_of, input_limit, read_room}
+use Rattle.gkr_words.specs.Commands.{ReadsCase, command_of, input_limit, read_buffer}
 use Rattle.gkr_cmd.specs.Headline.{HasCauses, HasOneReply, Headline, KeepsPromises, Run}
 use Rattle.gkr_cmd.specs.Reached.{IsReadUpTo, ReadsWithin}
 use Rattle.gkr_cmd.specs.Replies.{IsCommandReply, IsReply, status_of}
-use Rattle.gkr_cmd.specs.Runs.{HasCircuit, HasLineProof, IsConvertible, IsEvaluable, IsInput, IsReplied, WritesReplyFront}
+use Rattle.gkr_cmd.specs.Runs.{HasCircuit, HasLineProof, IsConvertible, IsEvaluable, IsInput, IsReplied, WritesReplyPrefix}
 use Rattle.gkr_cmd.specs.Finished.{Finishes, WritesSome}
 use Rattle.gkr_cmd.specs.RunLaws.{RunLaws}
 use Rattle.gkr_cmd.proofs.AcceptedCases.{accepted_of, sound_of}
@@ -51,7 +51,7 @@ pub record Makes (run : Run) (command : Option Command) (made : Result Reply Rep
   pub is_reply : IfOk made (λ reply. (input : List ℕ) → IsInput command run.before.left input → IsCommandReply command input reply)
   pub usage : IfOk made (λ reply. (status_of reply ≡ statuses.Usage) ↔ (command ≡ None))
   pub read : ReadsCase command → OnOk made (IsReadUpTo (input_limit command + 1) run.before.left run.after.left)
-  pub within : ReadsCase command → ReadsWithin (input_limit command + 1) read_room run.before.left run.after.left run.before.calls run.after.calls
+  pub within : ReadsCase command → ReadsWithin (input_limit command + 1) read_buffer run.before.left run.after.left run.before.calls run.after.calls
   pub fault : IsErrOf made errors.ReadFault → Rose run.before.read_faults run.after.read_faults
   pub no_fault : made ≢ Err errors.ReadFault → run.after.read_faults ≡ run.before.read_faults
 
@@ -124,18 +124,18 @@ headline_of laws run whole =
     record {
       accepted = λ input asks replies.
           let w = (whole replies).wrote in (
-            λ done. (accepted_of command input (whole replies).reply asks.named (w.made.is_reply input (input_of Verify command left input asks.named asks.told)) (sym w.status ∙ done)).1,
-            λ case. w.status ∙ done_of Full Verify HasAcceptedProof laws.accepted command input (whole replies).reply asks.named (w.made.is_reply input (input_of Verify command left input asks.named asks.told)) case,
+            λ done. (accepted_of command input (whole replies).reply asks.named (w.made.is_reply input (input_of Verify command left input asks.named asks.known)) (sym w.status ∙ done)).1,
+            λ case. w.status ∙ done_of Full Verify HasAcceptedProof laws.accepted command input (whole replies).reply asks.named (w.made.is_reply input (input_of Verify command left input asks.named asks.known)) case,
           );
       accepted_text = λ input asks done.
           let some = whole (done_replies run.ended done) in
           let w = some.wrote in
           subst (λ r. Grows run.before.written run.after.written (reply_text r))
-          (accepted_of command input some.reply asks.named (w.made.is_reply input (input_of Verify command left input asks.named asks.told)) (sym w.status ∙ done)).0 w.written;
+          (accepted_of command input some.reply asks.named (w.made.is_reply input (input_of Verify command left input asks.named asks.known)) (sym w.status ∙ done)).0 w.written;
       honest = λ input workers kind content asks read done.
           let some = whole (done_replies run.ended done) in
           let w = some.wrote in
-          let case = proved_of workers kind command input content some.reply asks.named (w.made.is_reply input (input_of (Prove workers kind) command left input asks.named asks.told)) (sym w.status ∙ done) read in
+          let case = proved_of workers kind command input content some.reply asks.named (w.made.is_reply input (input_of (Prove workers kind) command left input asks.named asks.known)) (sym w.status ∙ done) read in
           record {
             proved = case.proved;
             is_proved = case.is_proved;
@@ -145,53 +145,53 @@ headline_of laws run whole =
       sound = λ input content asks read done wrong.
           let some = whole (done_replies run.ended done) in
           let w = some.wrote in
-          sound_of laws.sound input content (accepted_of command input some.reply asks.named (w.made.is_reply input (input_of Verify command left input asks.named asks.told)) (sym w.status ∙ done)).1 read wrong;
+          sound_of laws.sound input content (accepted_of command input some.reply asks.named (w.made.is_reply input (input_of Verify command left input asks.named asks.known)) (sym w.status ∙ done)).1 read wrong;
       audited = λ input asks replies.
           let w = (whole replies).wrote in (
-            λ done. line_proof_of input (whole replies).reply (audited_of command input (whole replies).reply asks.named (w.made.is_reply input (input_of Audit command left input asks.named asks.told)) (sym w.status ∙ done)),
-            λ case. w.status ∙ done_of Full Audit HasLineProof laws.audited command input (whole replies).reply asks.named (w.made.is_reply input (input_of Audit command left input asks.named asks.told)) case,
+            λ done. line_proof_of input (whole replies).reply (audited_of command input (whole replies).reply asks.named (w.made.is_reply input (input_of Audit command left input asks.named asks.known)) (sym w.status ∙ done)),
+            λ case. w.status ∙ done_of Full Audit HasLineProof laws.audited command input (whole replies).reply asks.named (w.made.is_reply input (input_of Audit command left input asks.named asks.known)) case,
           );
       audit_text = λ input content asks read done.
           let some = whole (done_replies run.ended done) in
           let w = some.wrote in
           writes_audit laws input content some.reply run.before.written run.after.written
-          (audited_of command input some.reply asks.named (w.made.is_reply input (input_of Audit command left input asks.named asks.told)) (sym w.status ∙ done)) read w.written;
+          (audited_of command input some.reply asks.named (w.made.is_reply input (input_of Audit command left input asks.named asks.known)) (sym w.status ∙ done)) read w.written;
       converted = λ input version asks replies.
           let w = (whole replies).wrote in (
-            λ done. convertible_of version input (whole replies).reply (converted_of version command input (whole replies).reply asks.named (w.made.is_reply input (input_of (Convert version) command left input asks.named asks.told)) (sym w.status ∙ done)),
-            λ case. w.status ∙ done_of Full (Convert version) (IsConvertible version) (laws.convertible version) command input (whole replies).reply asks.named (w.made.is_reply input (input_of (Convert version) command left input asks.named asks.told)) case,
+            λ done. convertible_of version input (whole replies).reply (converted_of version command input (whole replies).reply asks.named (w.made.is_reply input (input_of (Convert version) command left input asks.named asks.known)) (sym w.status ∙ done)),
+            λ case. w.status ∙ done_of Full (Convert version) (IsConvertible version) (laws.convertible version) command input (whole replies).reply asks.named (w.made.is_reply input (input_of (Convert version) command left input asks.named asks.known)) case,
           );
       converted_text = λ input version content asks read done.
           let some = whole (done_replies run.ended done) in
           let w = some.wrote in
           writes_converted laws version input content some.reply run.before.written run.after.written
-          (converted_of version command input some.reply asks.named (w.made.is_reply input (input_of (Convert version) command left input asks.named asks.told)) (sym w.status ∙ done)) read w.written;
+          (converted_of version command input some.reply asks.named (w.made.is_reply input (input_of (Convert version) command left input asks.named asks.known)) (sym w.status ∙ done)) read w.written;
       in_session = λ input piece workers asks replies.
           let w = (whole replies).wrote in
-          let is = session_reply_of piece workers command left (whole replies).reply asks.named (w.made.is_reply) input asks.told in (
+          let is = session_reply_of piece workers command left (whole replies).reply asks.named (w.made.is_reply) input asks.known in (
             λ done. words_of input (whole replies).reply (session_told input (whole replies).reply is (sym w.status ∙ done)),
             λ has. w.status ∙ laws.in_session input (whole replies).reply is has,
           );
       session_text = λ input piece workers content asks read done.
           let some = whole (done_replies run.ended done) in
           let w = some.wrote in
-          let is = session_reply_of piece workers command left some.reply asks.named (w.made.is_reply) input asks.told in
+          let is = session_reply_of piece workers command left some.reply asks.named (w.made.is_reply) input asks.known in
           writes_session input content some.reply run.before.written run.after.written (session_told input some.reply is (sym w.status ∙ done)) read w.written;
       proved = λ input workers kind asks case replies.
           let w = (whole replies).wrote in
-          w.status ∙ done_of Plain (Prove workers kind) HasCircuit (laws.provable kind) command input (whole replies).reply asks.named (w.made.is_reply input (input_of (Prove workers kind) command left input asks.named asks.told)) case;
+          w.status ∙ done_of Plain (Prove workers kind) HasCircuit (laws.provable kind) command input (whole replies).reply asks.named (w.made.is_reply input (input_of (Prove workers kind) command left input asks.named asks.known)) case;
       laid_out = λ input asks case replies.
           let w = (whole replies).wrote in
-          w.status ∙ done_of Plain Circuit HasCircuit laws.laid_out command input (whole replies).reply asks.named (w.made.is_reply input (input_of Circuit command left input asks.named asks.told)) case;
+          w.status ∙ done_of Plain Circuit HasCircuit laws.laid_out command input (whole replies).reply asks.named (w.made.is_reply input (input_of Circuit command left input asks.named asks.known)) case;
       done = λ input asks case replies.
           let w = (whole replies).wrote in
-          w.status ∙ done_of Plain Eval IsEvaluable laws.evaluable command input (whole replies).reply asks.named (w.made.is_reply input (input_of Eval command left input asks.named asks.told)) case;
+          w.status ∙ done_of Plain Eval IsEvaluable laws.evaluable command input (whole replies).reply asks.named (w.made.is_reply input (input_of Eval command left input asks.named asks.known)) case;
       demonstrated = λ number workers named replies.
           let w = (whole replies).wrote in
           w.status ∙ demo_done_of number workers (laws.demo number) command left (whole replies).reply named w.made.is_reply;
       served = λ input workers provers clients script asks read within replies.
           let w = (whole replies).wrote in
-          let is = script_reply_of workers provers clients command left (whole replies).reply asks.named (w.made.is_reply) input asks.told in
+          let is = script_reply_of workers provers clients command left (whole replies).reply asks.named (w.made.is_reply) input asks.known in
           let case = serves input (whole replies).reply is script read within in (
             w.status ∙ case.done,
             record {
@@ -200,14 +200,14 @@ headline_of laws run whole =
               written = subst (λ r. Grows run.before.written run.after.written (reply_text r)) case.reply_is w.written;
             },
           );
-      told = λ input workers provers clients script asks read within replies.
+      history = λ input workers provers clients script asks read within replies.
           let w = (whole replies).wrote in
-          let is = history_reply_of workers provers clients command left (whole replies).reply asks.named (w.made.is_reply) input asks.told in
+          let is = history_reply_of workers provers clients command left (whole replies).reply asks.named (w.made.is_reply) input asks.known in
           let case = tells input (whole replies).reply is script read within in (
             w.status ∙ case.done,
             record {
               history = case.history;
-              told = case.told;
+              reported = case.reported;
               written = subst (λ r. Grows run.before.written run.after.written (reply_text r)) case.reply_is w.written;
             },
           );
@@ -215,14 +215,14 @@ headline_of laws run whole =
 
 -- a prefix of the reply is written
 cut_front : (run : Run) (made : Result Reply ReplyError) → MakesOwn run made → (input : List ℕ) → IsInput (command_of run.words) run.before.left input → WritesSome made run.before.written run.after.written
-    → WritesReplyFront run.words input run.before.written run.after.written
-cut_front run made makes input is some = record { reply = some.reply; is_reply = (made_of run made some.reply makes some.made_is).is_reply input is; front = some.front }
+    → WritesReplyPrefix run.words input run.before.written run.after.written
+cut_front run made makes input is some = record { reply = some.reply; is_reply = (made_of run made some.reply makes some.made_is).is_reply input is; prefix = some.prefix }
 
-whole_front_of : (run : Run) (input : List ℕ) → IsInput (command_of run.words) run.before.left input → WroteSome run → WritesReplyFront run.words input run.before.written run.after.written
+whole_front_of : (run : Run) (input : List ℕ) → IsInput (command_of run.words) run.before.left input → WroteSome run → WritesReplyPrefix run.words input run.before.written run.after.written
 whole_front_of run input is some = record {
   reply = some.reply;
   is_reply = some.wrote.made.is_reply input is;
-  front = whole_front run.before.written run.after.written (reply_text some.reply) some.wrote.written;
+  prefix = whole_front run.before.written run.after.written (reply_text some.reply) some.wrote.written;
 }
 
 reply_of : (run : Run) (made : Result Reply ReplyError) → MakesOwn run made → EndsMade run made → (IsReplied run.ended → WroteSome run) → HasOneReply run
@@ -230,7 +230,7 @@ reply_of run made makes ends whole = record {
   answer = λ input is replies.
       let some = whole replies in
       record { reply = some.reply; is_reply = some.wrote.made.is_reply input is; status = some.wrote.status; written = some.wrote.written };
-  front = λ input is.
+  prefix = λ input is.
       no_more run.ended run.words input run.before.written run.after.written ends.read_fault_unwritten ends.memory_unwritten
       (λ cut. cut_front run made makes input is (ends.cut cut)) (λ replies. whole_front_of run input is (whole replies));
   usage = λ replies.

@@ -15,7 +15,7 @@ use Rattle.gkr_cmd.proofs.ScriptReplies.{long_or_not}
 -- the reply reports such a history
 pub record Tells (script : List MarkedJob) (reply : Reply) : Type 0 where
   pub history : History
-  pub told : IsServedHistory script history.jobs history.lines
+  pub reported : IsServedHistory script history.jobs history.lines
   pub reply_is : reply ≡ replies.History history
   pub done : status_of reply ≡ Done
 
@@ -29,7 +29,7 @@ pub tells : (input : List ℕ) (reply : Reply) → IsHistoryReply input reply �
 tells input (replies.TooLong limit) is script read within = absurd (long_or_not input limit is within)
 tells input (replies.Case bad) is script read within = absurd (script_or_not (history_script_reading input) script bad read is.read)
 tells input (replies.History history) is script read within =
-    record { history = history; told = subst (λ s. IsServedHistory s history.jobs history.lines) (same_script (history_script_reading input) is.script script is.read read) is.told; reply_is = refl; done = refl }
+    record { history = history; reported = subst (λ s. IsServedHistory s history.jobs history.lines) (same_script (history_script_reading input) is.script script is.read read) is.reported; reply_is = refl; done = refl }
 tells input (replies.Served jobs) is script read within = absurd is
 tells input replies.Usage is script read within = absurd is
 tells input (replies.Outputs values) is script read within = absurd is

@@ -19,7 +19,7 @@ use Rattle.case_text.specs.Forms.{Allows}
 use Rattle.gkr_layers.specs.declared.verdict.Verdict.{Verdict}
 use Rattle.case_text.specs.declared.verdict.AuditLines.{AuditLines}
 use Rattle.case_text.specs.declared.verdict.VerdictLine.{VerdictLine}
-use Rattle.case_text.specs.declared.verdict.VerdictLine.TheVariants as told
+use Rattle.case_text.specs.declared.verdict.VerdictLine.TheVariants as reported
 use Rattle.proof_two.specs.declared.kind.ProofKind.{ProofKind}
 use Rattle.case_text.specs.Content.{Content}
 use Rattle.case_text.specs.Reading.{reading}
@@ -35,12 +35,12 @@ use Rattle.gkr_words.specs.declared.words.Command.TheVariants.{OfCase, Demo, Ser
 use Rattle.gkr_words.specs.declared.words.CaseCommand.{CaseCommand}
 use Rattle.gkr_words.specs.declared.words.CaseCommand.TheVariants.{Eval, Circuit, Prove, Verify, Audit, Convert}
 use Rattle.io_edge.specs.Written.{Grows}
-use Rattle.gkr_cmd.specs.Reached.{ReadsUpTo, WritesFront}
+use Rattle.gkr_cmd.specs.Reached.{ReadsUpTo, WritesPrefix}
 use Rattle.gkr_cmd.specs.Replies.{IsWithinLimit, IsTooLong, IsCommandReply, IsHistoryReply, IsScriptReply, IsCaseReply, IsAnswer, IsAuditAnswer, IsCircuitAnswer, IsConvertAnswer, IsDemoAnswer, IsEvalAnswer, IsVerifyAnswer, IsOfCase, form_of, status_of}
-use Rattle.gkr_cmd.specs.Told.{audit_lines, refused_reply, sum_line, verdict_line}
+use Rattle.gkr_cmd.specs.Reported.{audit_lines, refused_reply, sum_line, verdict_line}
 use Rattle.gkr_words.specs.Commands.{IsService, case_limit, input_limit, script_limit}
 use Rattle.case_prove.specs.Answers.{IsProveAnswer}
-use Rattle.gkr_cmd.specs.Runs.{IsInput, IsReplied, WritesNoMore, WritesReplyFront}
+use Rattle.gkr_cmd.specs.Runs.{IsInput, IsReplied, WritesNoMore, WritesReplyPrefix}
 
 front_of : (most : ℕ) (left new : Option (List ℕ)) (bytes input : List ℕ) → ReadsUpTo most left new bytes → left ≡ Some input → bytes ≡ take most input
 front_of most None new bytes input h e = absurd cc
@@ -48,8 +48,8 @@ front_of most (Some told) new bytes input h e = let same : told ≡ input = cc i
 
 pub longer : (most : ℕ) (left new : Option (List ℕ)) (bytes : List ℕ) → ReadsUpTo (most + 1) left new bytes → most < length bytes → (input : List ℕ) → left ≡ Some input → IsTooLong most input most
 longer most left new bytes h long input e =
-    let front = front_of (most + 1) left new bytes input h e in
-    record { limit_is = refl; longer = omega (arith, ap length front, length-take (most + 1) input) }
+    let prefix = front_of (most + 1) left new bytes input h e in
+    record { limit_is = refl; longer = omega (arith, ap length prefix, length-take (most + 1) input) }
 
 pub too_long : (command : CaseCommand) (left new : Option (List ℕ)) (bytes : List ℕ) → ReadsUpTo (case_limit + 1) left new bytes → case_limit < length bytes → (input : List ℕ) → left ≡ Some input → IsCommandReply (Some (OfCase command)) input (replies.TooLong case_limit)
 too_long command left new bytes h long input e = longer case_limit left new bytes h long input e
@@ -73,9 +73,9 @@ service_too_long None left new bytes service h long input told = absurd service
 
 whole : (most : ℕ) (left new : Option (List ℕ)) (bytes : List ℕ) → ReadsUpTo (most + 1) left new bytes → length bytes ≤ most → (input : List ℕ) → left ≡ Some input → bytes ≡ input
 whole most left new bytes h short input e =
-    let front = front_of (most + 1) left new bytes input h e in
-    let within : length input ≤ most = omega (arith, ap length front, length-take (most + 1) input) in
-    front ∙ take_all (most + 1) input (omega arith)
+    let prefix = front_of (most + 1) left new bytes input h e in
+    let within : length input ≤ most = omega (arith, ap length prefix, length-take (most + 1) input) in
+    prefix ∙ take_all (most + 1) input (omega arith)
 
 -- the reply to what was read is the reply to the input
 pub replied_whole : (most : ℕ) (P : List ℕ → Reply → Type 0) (left new : Option (List ℕ)) (bytes : List ℕ) (result : Result Reply ReplyError) → ReadsUpTo (most + 1) left new bytes → length bytes ≤ most
@@ -206,10 +206,10 @@ replied (replies.Served jobs) = tt
 replied (replies.History history) = tt
 replied (replies.OutputCount have need) = tt
 replied (replies.Proof bad) = tt
-replied (replies.Verdict told.Accepted) = tt
-replied (replies.Verdict (told.Sum layer round had claim)) = tt
-replied (replies.Verdict (told.End layer had want)) = tt
-replied (replies.Verdict (told.Input had want)) = tt
+replied (replies.Verdict reported.Accepted) = tt
+replied (replies.Verdict (reported.Sum layer round had claim)) = tt
+replied (replies.Verdict (reported.End layer had want)) = tt
+replied (replies.Verdict (reported.Input had want)) = tt
 replied (replies.Audit lines) = tt
 replied (replies.WordCount have need) = tt
 replied (replies.Session sizes) = tt
@@ -231,10 +231,10 @@ named form answers input (replies.Served jobs) is = λ e. cc
 named form answers input (replies.History history) is = λ e. cc
 named form answers input (replies.OutputCount have need) is = λ e. cc
 named form answers input (replies.Proof bad) is = λ e. cc
-named form answers input (replies.Verdict told.Accepted) is = λ e. cc
-named form answers input (replies.Verdict (told.Sum layer round had claim)) is = λ e. cc
-named form answers input (replies.Verdict (told.End layer had want)) is = λ e. cc
-named form answers input (replies.Verdict (told.Input had want)) is = λ e. cc
+named form answers input (replies.Verdict reported.Accepted) is = λ e. cc
+named form answers input (replies.Verdict (reported.Sum layer round had claim)) is = λ e. cc
+named form answers input (replies.Verdict (reported.End layer had want)) is = λ e. cc
+named form answers input (replies.Verdict (reported.Input had want)) is = λ e. cc
 named form answers input (replies.Audit lines) is = λ e. cc
 named form answers input (replies.WordCount have need) is = λ e. cc
 named form answers input (replies.Session sizes) is = λ e. cc
@@ -411,7 +411,7 @@ full_has (Some x) is = refl
 
 -- what a run wrote is a prefix of its reply, or nothing
 pub no_more : (status : Status) (words : List (List ℕ)) (input : List ℕ) (before after : Option (List ℕ)) → (status ≡ statuses.ReadFault → Grows before after []) → (status ≡ statuses.Memory → Grows before after [])
-    → (status ≡ statuses.WriteFault → WritesReplyFront words input before after) → (IsReplied status → WritesReplyFront words input before after) → WritesNoMore status words input before after
+    → (status ≡ statuses.WriteFault → WritesReplyPrefix words input before after) → (IsReplied status → WritesReplyPrefix words input before after) → WritesNoMore status words input before after
 no_more statuses.Done words input before after fault memory cut whole = whole tt
 no_more statuses.Rejected words input before after fault memory cut whole = whole tt
 no_more statuses.Usage words input before after fault memory cut whole = whole tt
@@ -425,5 +425,5 @@ no_more statuses.Memory words input before after fault memory cut whole = memory
 no_more statuses.TooLong words input before after fault memory cut whole = whole tt
 
 -- a text that was written whole
-pub whole_front : (old new : Option (List ℕ)) (text : List ℕ) → Grows old new text → WritesFront old new text
-whole_front old new text grows = ([], record { front = text; parts = sym (append-nil text); written = grows })
+pub whole_front : (old new : Option (List ℕ)) (text : List ℕ) → Grows old new text → WritesPrefix old new text
+whole_front old new text grows = ([], record { prefix = text; parts = sym (append-nil text); written = grows })

@@ -61,7 +61,7 @@ one_reply : ((c : Content) (a b : Reply) → IsProveAnswer (ByLines One) c a →
 one_reply one job x y is is' =
     let same = one job.case is.answered.reply is'.answered.reply is.answered.is_answer is'.answered.is_answer in
     let client : x.client ≡ y.client = is.client ∙ sym is'.client in
-    let proved : x.proved ≡ y.proved = is.answered.tells ∙ ap is_proved_case same ∙ sym is'.answered.tells in
+    let proved : x.proved ≡ y.proved = is.answered.says ∙ ap is_proved_case same ∙ sym is'.answered.says in
     let text : x.text ≡ y.text = is.answered.is_text ∙ ap reply_text same ∙ sym is'.answered.is_text in
     λ k. record { client = client k; proved = proved k; text = text k }
 

@@ -17,7 +17,7 @@ use Rattle.gkr_words.specs.Commands.{case_limit}
 use Rattle.gkr_cmd.specs.Reached.{ReadsUpTo}
 use Rattle.gkr_cmd.specs.Replies.{IsCommandReply, IsOfSession, IsSessionAnswer, IsSessionReply, IsWithinLimit, status_of}
 use Rattle.gkr_cmd.specs.Runs.{IsInput}
-use Rattle.gkr_cmd.specs.Told.{refused_reply}
+use Rattle.gkr_cmd.specs.Reported.{refused_reply}
 use Rattle.gkr_cmd.proofs.Replied.{longer, replied_whole}
 
 pub session_too_long : (piece workers : ℕ) (left new : Option (List ℕ)) (bytes : List ℕ) → ReadsUpTo (case_limit + 1) left new bytes → case_limit < length bytes → (input : List ℕ) → left ≡ Some input → IsCommandReply (Some (Session piece workers)) input (replies.TooLong case_limit)

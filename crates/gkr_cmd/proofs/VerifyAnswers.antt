@@ -21,7 +21,7 @@ use Rattle.case_prove.specs.declared.refused.Refused.{Refused}
 use Rattle.case_prove.specs.declared.refused.Refused.TheVariants as refusals
 use Rattle.gkr_cmd.specs.declared.status.Status.TheVariants.{Done}
 use Rattle.gkr_cmd.specs.Replies.{IsVerdictLine, IsVerifyAnswer, status_of}
-use Rattle.gkr_cmd.specs.Told.{verdict_line}
+use Rattle.gkr_cmd.specs.Reported.{verdict_line}
 use Rattle.gkr_cmd.proofs.CircuitAnswers.{IsOne}
 use Rattle.gkr_cmd.proofs.OneReply.{OneAnswer}
 use Rattle.gkr_cmd.proofs.ProofRefusals.{IsOneProof, Refusal, refusal, one_refusal, not_both, read_or_memory, same_parts, same_outputs}

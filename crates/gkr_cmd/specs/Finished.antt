@@ -8,7 +8,7 @@ use Rattle.gkr_cmd.specs.declared.reply_error.ReplyError.{ReplyError}
 use Rattle.gkr_cmd.specs.declared.reply_error.ReplyError.TheVariants as errors
 use Rattle.gkr_cmd.specs.declared.status.Status.{Status}
 use Rattle.gkr_cmd.specs.declared.status.Status.TheVariants as statuses
-use Rattle.gkr_cmd.specs.Reached.{WritesFront}
+use Rattle.gkr_cmd.specs.Reached.{WritesPrefix}
 use Rattle.gkr_cmd.specs.Replies.{status_of}
 use Rattle.gkr_cmd.specs.Runs.{IsReplied}
 
@@ -25,7 +25,7 @@ pub record WritesSome (made : Result Reply ReplyError) (before after : Option (L
     : Type 0 where
   pub reply : Reply
   pub made_is : made ≡ Ok reply
-  pub front : WritesFront before after (reply_text reply)
+  pub prefix : WritesPrefix before after (reply_text reply)
 
 pub record Finishes (made : Result Reply ReplyError) (ended : Status)
     (before after : Option (List ℕ)) (faults_before faults_after : ℕ) : Type 0 where

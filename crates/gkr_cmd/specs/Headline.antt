@@ -20,7 +20,7 @@ use Rattle.script_text.specs.declared.script.MarkedJob.{MarkedJob}
 use Rattle.script_text.specs.declared.script.ScriptJob.{ScriptJob}
 use Rattle.script_text.specs.Scripts.{history_script_reading, script_reading}
 use Rattle.session_text.specs.Sessions.{SessionContent, session_reading}
-use Rattle.gkr_words.specs.Commands.{ReadsCase, command_of, input_limit, read_room, script_limit}
+use Rattle.gkr_words.specs.Commands.{ReadsCase, command_of, input_limit, read_buffer, script_limit}
 use Rattle.gkr_cmd.specs.Reached.{IsReadUpTo, ReadsWithin}
 use Rattle.gkr_cmd.specs.Replies.{IsOfCase, IsOfSession}
 use Rattle.case_prove.specs.Verified.{HasAcceptedProof}
@@ -48,7 +48,7 @@ pub record Run : Type 0 where
 -- The run's words name this command, and its source holds this input.
 pub record Asks (run : Run) (command : Command) (input : List ℕ) : Type 0 where
   pub named : command_of run.words ≡ Some command
-  pub told : run.before.left ≡ Some input
+  pub known : run.before.left ≡ Some input
 
 -- ---- the headline
 
@@ -123,7 +123,7 @@ pub record Headline (run : Run) : Type 0 where
       → (run.ended ≡ statuses.Done) × WritesReplies script run.before.written run.after.written
   -- `serve --history` answers every script with the replies of `prove` to the jobs that its clients
   -- don't withdraw, in the script's order, and with a legal history of a table with them.
-  pub told : (input : List ℕ) (workers provers clients : ℕ) (script : List MarkedJob)
+  pub history : (input : List ℕ) (workers provers clients : ℕ) (script : List MarkedJob)
       → Asks run (ServeHistory workers provers clients) input
       → history_script_reading input ≡ Ok script
       → length input ≤ script_limit → IsReplied run.ended
@@ -137,7 +137,7 @@ pub record HasOneReply (run : Run) : Type 0 where
       → IsReplied run.ended
       → EndsWithReply run.words input run.ended run.before.written run.after.written
   -- Whatever happens, no more than a prefix of that reply was written.
-  pub front : (input : List ℕ) → IsInput (command_of run.words) run.before.left input
+  pub prefix : (input : List ℕ) → IsInput (command_of run.words) run.before.left input
       → WritesNoMore run.ended run.words input run.before.written run.after.written
   -- The words are refused exactly where they are no command.
   pub usage : IsReplied run.ended
@@ -158,7 +158,7 @@ pub record HasCauses (run : Run) : Type 0 where
   -- However it ends, at most one byte more than the limit is read, in as many reads at most, none
   -- into a buffer of more than 4,096 bytes.
   pub read_within : ReadsCase (command_of run.words)
-      → ReadsWithin (input_limit (command_of run.words) + 1) read_room run.before.left
+      → ReadsWithin (input_limit (command_of run.words) + 1) read_buffer run.before.left
       run.after.left
       run.before.calls run.after.calls
   -- A failure of the source, only where it failed and always there; then nothing is written.

@@ -6,4 +6,4 @@ pub mod Reached
 pub mod Replies
 pub mod RunLaws
 pub mod Runs
-pub mod Told
+pub mod Reported

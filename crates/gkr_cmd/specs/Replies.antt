@@ -23,9 +23,9 @@ use Rattle.case_prove.specs.Converted.{FailsSum, IsConverted}
 use Rattle.case_prove.specs.Verified.{IsVerdictOn, IsOutputMiscounted, IsBadProof, proof_form}
 use Rattle.case_text.specs.declared.verdict.AuditLines.{AuditLines}
 use Rattle.case_text.specs.declared.verdict.VerdictLine.{VerdictLine}
-use Rattle.case_text.specs.declared.verdict.VerdictLine.TheVariants as told
+use Rattle.case_text.specs.declared.verdict.VerdictLine.TheVariants as reported
 use Rattle.gkr_layers.specs.declared.verdict.Verdict.{Verdict}
-use Rattle.gkr_cmd.specs.Told.{audit_lines, sum_line, verdict_line}
+use Rattle.gkr_cmd.specs.Reported.{audit_lines, sum_line, verdict_line}
 use Rattle.gkr_cmd.specs.declared.status.Status.{Status}
 use Rattle.gkr_cmd.specs.declared.status.Status.TheVariants as statuses
 use Rattle.gkr_words.specs.declared.words.CaseCommand.{CaseCommand}
@@ -210,7 +210,7 @@ pub record IsKnownScript (input : List ℕ) (history : History) : Type 0 where
   pub within : length input ≤ script_limit
   pub script : List MarkedJob
   pub read : history_script_reading input ≡ Ok script
-  pub told : IsServedHistory script history.jobs history.lines
+  pub reported : IsServedHistory script history.jobs history.lines
 
 -- when a reply is one of `serve --history`
 abbrev pub IsHistoryReply : List ℕ → Reply → Type 0
@@ -236,10 +236,10 @@ IsReply words input reply = IsCommandReply (command_of words) input reply
 
 -- the status that reports a verdict
 abbrev pub verdict_status : VerdictLine → Status
-verdict_status told.Accepted = statuses.Done
-verdict_status (told.Sum layer round had claim) = statuses.Rejected
-verdict_status (told.End layer had want) = statuses.Rejected
-verdict_status (told.Input had want) = statuses.Rejected
+verdict_status reported.Accepted = statuses.Done
+verdict_status (reported.Sum layer round had claim) = statuses.Rejected
+verdict_status (reported.End layer had want) = statuses.Rejected
+verdict_status (reported.Input had want) = statuses.Rejected
 
 abbrev pub status_of : Reply → Status
 status_of (replies.Outputs values) = statuses.Done

@@ -38,8 +38,8 @@ use Rattle.gkr_words.specs.declared.words.Command.TheVariants.{OfCase, Demo, Ser
 use Rattle.gkr_cmd.specs.declared.status.Status.{Status}
 use Rattle.gkr_cmd.specs.declared.status.Status.TheVariants as statuses
 use Rattle.gkr_cmd.specs.Replies.{IsOfCase, IsReply, IsVerifyAnswer, status_of}
-use Rattle.gkr_cmd.specs.Told.{audit_lines}
-use Rattle.gkr_cmd.specs.Reached.{WritesFront}
+use Rattle.gkr_cmd.specs.Reported.{audit_lines}
+use Rattle.gkr_cmd.specs.Reached.{WritesPrefix}
 
 -- What a command reads is known from the source. `demo`, and words that are no command, read nothing,
 -- so any input is theirs.
@@ -67,11 +67,11 @@ pub record EndsWithReply (words : List (List ℕ)) (input : List ℕ) (ended : S
   pub written : Grows before after (reply_text reply)
 
 -- The run wrote a prefix of the text of a reply to its words and input.
-pub record WritesReplyFront (words : List (List ℕ)) (input : List ℕ)
+pub record WritesReplyPrefix (words : List (List ℕ)) (input : List ℕ)
     (before after : Option (List ℕ)) : Type 0 where
   pub reply : Reply
   pub is_reply : IsReply words input reply
-  pub front : WritesFront before after (reply_text reply)
+  pub prefix : WritesPrefix before after (reply_text reply)
 
 -- What a run wrote: nothing where it has no reply, and else a prefix of the reply to its words and
 -- input.
@@ -79,7 +79,7 @@ abbrev pub WritesNoMore : Status → List (List ℕ) → List ℕ → Option (Li
     → Type 0
 WritesNoMore statuses.ReadFault words input before after = Grows before after []
 WritesNoMore statuses.Memory words input before after = Grows before after []
-WritesNoMore status words input before after = WritesReplyFront words input before after
+WritesNoMore status words input before after = WritesReplyPrefix words input before after
 
 -- A case whose program is accepted and which has as many inputs.
 pub record IsEvaluable (c : Content) : Type 0 where
@@ -159,5 +159,5 @@ pub record WritesReplies (script : List ScriptJob) (before after : Option (List 
 -- that their table had.
 pub record WritesHistory (script : List MarkedJob) (before after : Option (List ℕ)) : Type 0 where
   pub history : History
-  pub told : IsServedHistory script history.jobs history.lines
+  pub reported : IsServedHistory script history.jobs history.lines
   pub written : Grows before after (history_text history)

@@ -9,7 +9,7 @@ ghost use Rattle.gkr_cmd.specs.Replies.{form_of, IsAnswer, IsAuditAnswer, IsCase
 ghost use Rattle.case_prove.specs.Answers.{IsProveAnswer};
 
 use crate::reply_error::ReplyError;
-use crate::told::{audit_lines, refused_reply, sum_line, verdict_line};
+use crate::reported::{audit_lines, refused_reply, sum_line, verdict_line};
 use case_prove::{
     Converted, audit_case, circuit_case, convert_case, eval_case, prove_case, verify_case,
 };

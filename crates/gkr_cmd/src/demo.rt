@@ -45,7 +45,7 @@ pub fn demo<R: Threads + Sync, G: Gate>(
     let case = demo_case(alloc, number)?;
     let circuit = match circuit_of(alloc, &case) {
         Ok(circuit) => circuit,
-        Err(refused) => return Err(want_of_memory(number, refused)),
+        Err(refused) => return Err(out_of_memory(number, refused)),
     };
     let kind = ProofKind::ByLines(ProofVersion::One);
     let proved = prove_laid_out(rt, alloc, &case, &circuit, kind, workers, gate)?;
@@ -54,7 +54,7 @@ pub fn demo<R: Threads + Sync, G: Gate>(
 }
 
 /// Why the case of a number wasn't laid out: memory ran out, and nothing else.
-fn want_of_memory(number: u32, refused: Refused) -> ReplyError
+fn out_of_memory(number: u32, refused: Refused) -> ReplyError
     requires { RefusesCircuit (demo_case number) refused }
     ensures { result ≡ ReplyError.Memory }
 {

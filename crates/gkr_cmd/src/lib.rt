@@ -19,11 +19,11 @@ mod output;
 mod program;
 mod reply_error;
 mod replying;
+mod reported;
 mod run;
 mod serving;
 mod session;
 mod status;
-mod told;
 
 pub use program::{NoWords, run_program};
 pub use run::{gkr_run, run_alone};

@@ -2,7 +2,7 @@
 
 ghost use Rattle.std.specs.Prelude.{◌≡◌, ◌≢◌, ◌↔◌, ◌+◌, List, ℕ, IfOk, IfSome, OnOk, IsErrOf, None, Some, Ok, Err};
 ghost use Rattle.io_edge.specs.Causes.{Rose};
-ghost use Rattle.gkr_words.specs.Commands.{HasPiece, HasWorkers, IsService, ReadsCase, case_limit, input_limit, read_room};
+ghost use Rattle.gkr_words.specs.Commands.{HasPiece, HasWorkers, IsService, ReadsCase, case_limit, input_limit, read_buffer};
 ghost use Rattle.gkr_cmd.specs.Reached.{IsReadUpTo, ReadsWithin};
 ghost use Rattle.gkr_cmd.specs.Replies.{IsCommandReply, status_of};
 ghost use Rattle.gkr_cmd.specs.Runs.{IsInput};
@@ -37,8 +37,8 @@ fn run_command<R: Threads + Sync, S: Source, G: Gate>(
     ensures named { IfOk result (λ reply. status_of reply ≢ Status.Usage) }
     ensures read { OnOk result (IsReadUpTo (case_limit + 1) (S.left source.old)
         (S.left source.new)) }
-    ensures within { ReadsWithin (case_limit + 1) read_room (S.left source.old) (S.left source.new)
-        (S.calls source.old) (S.calls source.new) }
+    ensures within { ReadsWithin (case_limit + 1) read_buffer (S.left source.old)
+        (S.left source.new) (S.calls source.old) (S.calls source.new) }
     ensures fault { IsErrOf result ReplyError.ReadFault
         → Rose (S.faults source.old) (S.faults source.new) }
     ensures no_fault { result ≢ Err ReplyError.ReadFault
@@ -67,7 +67,7 @@ pub fn reply_alone<R: Threads + Sync, S: Source, G: Gate>(
     ensures usage { IfOk result (λ reply. (status_of reply ≡ Status.Usage) ↔ (command ≡ None)) }
     ensures read { ReadsCase command → OnOk result (IsReadUpTo (input_limit command + 1)
         (S.left source.old) (S.left source.new)) }
-    ensures within { ReadsCase command → ReadsWithin (input_limit command + 1) read_room
+    ensures within { ReadsCase command → ReadsWithin (input_limit command + 1) read_buffer
         (S.left source.old) (S.left source.new) (S.calls source.old) (S.calls source.new) }
     ensures unread { ¬ ReadsCase command → source.new ≡ source.old }
     ensures fault { IsErrOf result ReplyError.ReadFault

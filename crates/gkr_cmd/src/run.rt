@@ -14,7 +14,7 @@ use crate::replying::reply_alone;
 use crate::serving::reply_service;
 use crate::status::Status;
 use case_prove::laws::{
-    accepted_falsehood_is_named, audit_has_the_verdict, audit_is_one, audit_tells_the_meaning,
+    accepted_falsehood_is_named, audit_has_the_verdict, audit_is_one, audit_says_the_meaning,
     converted_is_full, converted_is_short, proved_is_accepted, proved_is_full, proved_is_short,
     proved_is_unnamed, sound,
 };
@@ -43,7 +43,7 @@ fn run_laws()
     converted_is_short();
     audit_is_one();
     audit_has_the_verdict();
-    audit_tells_the_meaning();
+    audit_says_the_meaning();
     accepted_falsehood_is_named();
     proved_is_unnamed();
     sound();

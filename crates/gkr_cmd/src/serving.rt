@@ -3,7 +3,7 @@
 ghost use Rattle.std.specs.Prelude.{◌≡◌, ◌≢◌, ◌≤◌, ◌+◌, length, List, ℕ, IfOk, IfSome, OnOk, IsErrOf, Err};
 ghost use Rattle.io_edge.specs.Causes.{Rose};
 ghost use Rattle.phase_run.specs.Work.{IsWorkerCount};
-ghost use Rattle.gkr_words.specs.Commands.{HasWorkers, IsService, read_room, script_limit};
+ghost use Rattle.gkr_words.specs.Commands.{HasWorkers, IsService, read_buffer, script_limit};
 ghost use Rattle.gkr_cmd.specs.Reached.{IsReadUpTo, ReadsWithin};
 ghost use Rattle.gkr_cmd.specs.Replies.{IsCommandReply, IsHistoryReply, IsScriptReply, status_of};
 ghost use Rattle.gkr_cmd.specs.Runs.{IsInput};
@@ -39,7 +39,7 @@ pub fn reply_service<R: Threads + Wait + Sync, S: Source, G: Gate>(
     ensures named { IfOk result (λ reply. status_of reply ≢ Status.Usage) }
     ensures read { OnOk result (IsReadUpTo (script_limit + 1) (S.left source.old)
         (S.left source.new)) }
-    ensures within { ReadsWithin (script_limit + 1) read_room (S.left source.old)
+    ensures within { ReadsWithin (script_limit + 1) read_buffer (S.left source.old)
         (S.left source.new) (S.calls source.old) (S.calls source.new) }
     ensures fault { IsErrOf result ReplyError.ReadFault
         → Rose (S.faults source.old) (S.faults source.new) }

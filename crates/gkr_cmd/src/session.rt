@@ -3,15 +3,15 @@
 ghost use Rattle.std.specs.Prelude.{◌≡◌, ◌≢◌, ◌+◌, List, ℕ, IfOk, OnOk, IsErrOf, Some, Err};
 ghost use Rattle.io_edge.specs.Causes.{Rose};
 ghost use Rattle.phase_run.specs.Work.{IsWorkerCount};
-ghost use Rattle.gkr_words.specs.Commands.{IsPieceSize, case_limit, read_room};
+ghost use Rattle.gkr_words.specs.Commands.{IsPieceSize, case_limit, read_buffer};
 ghost use Rattle.gkr_cmd.specs.Reached.{IsReadUpTo, ReadsWithin};
 ghost use Rattle.gkr_cmd.specs.Replies.{IsCommandReply, IsSessionAnswer, IsSessionReply, IsWithinLimit, status_of};
 
 use crate::input::read_input;
 use crate::reply_error::ReplyError;
 use crate::replying::CASE_LIMIT;
+use crate::reported::refused_reply;
 use crate::status::Status;
-use crate::told::refused_reply;
 use case_text::{CaseRefused, Reply};
 use gkr_words::Command;
 use io_edge::{Gate, Source};
@@ -37,8 +37,8 @@ pub fn run_session<R: Threads + Sync, S: Source, G: Gate>(
     ensures named { IfOk result (λ reply. status_of reply ≢ Status.Usage) }
     ensures read { OnOk result (IsReadUpTo (case_limit + 1) (S.left source.old)
         (S.left source.new)) }
-    ensures within { ReadsWithin (case_limit + 1) read_room (S.left source.old) (S.left source.new)
-        (S.calls source.old) (S.calls source.new) }
+    ensures within { ReadsWithin (case_limit + 1) read_buffer (S.left source.old)
+        (S.left source.new) (S.calls source.old) (S.calls source.new) }
     ensures fault { IsErrOf result ReplyError.ReadFault
         → Rose (S.faults source.old) (S.faults source.new) }
     ensures no_fault { result ≢ Err ReplyError.ReadFault

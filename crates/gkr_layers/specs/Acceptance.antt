@@ -67,6 +67,6 @@ verdict_of stated qs rs =
 abbrev pub answer_from : CircuitClaim → Source → List ℕ → List (List K) → Answered
 answer_from stated source s qs =
     let place = At (point_draws source s stated.k) in
-    let behind = state_after_point source s stated.k in
-    answer source behind (equations stated.form 0 stated.layers stated.input_table place
-    (value_over k_ops stated.claimed_table place) qs (draws source behind qs)) qs
+    let after = state_after_point source s stated.k in
+    answer source after (equations stated.form 0 stated.layers stated.input_table place
+    (value_over k_ops stated.claimed_table place) qs (draws source after qs)) qs

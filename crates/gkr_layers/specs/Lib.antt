@@ -1,5 +1,5 @@
 pub mod Places
-pub mod Standing
+pub mod ClaimPlace
 pub mod Forms
 pub mod Sumcheck
 pub mod Layers

@@ -12,12 +12,12 @@
 //! ```
 #![tactic(auto)]
 
+mod claim_place;
 mod counts;
 pub mod examples;
 pub mod laws;
-mod standing;
 mod verdict;
 
+pub use claim_place::ClaimPlace;
 pub use counts::{bound_sum, bound_sum_pair, challenge_count, width_below};
-pub use standing::Standing;
 pub use verdict::Verdict;

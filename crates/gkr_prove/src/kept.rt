@@ -4,12 +4,12 @@ ghost use Rattle.std.specs.Prelude.{◌≡◌, IfOk, length};
 ghost use Rattle.field_ext.specs.Field.{k_ops};
 ghost use Rattle.gkr_layers.specs.Forms.{place_between};
 ghost use Rattle.gkr_layers.specs.Places.Place.{At};
-ghost use Rattle.gkr_layers.specs.Standing.{place_of};
+ghost use Rattle.gkr_layers.specs.ClaimPlace.{place_of};
 ghost use Rattle.gkr_layers.specs.Sumcheck.{point_between};
 ghost use Rattle.gkr_prove.specs.Kept.{kept_place};
 
 use field_ext::Ext;
-use gkr_layers::Standing;
+use gkr_layers::ClaimPlace;
 use line_reduce::point_at;
 use proof_wire::ProofForm;
 use std::alloc::{AllocError, Global};
@@ -68,13 +68,13 @@ impl KeptPlace {
     }
 
     /// The same place, lent.
-    pub fn standing(&self) -> Standing<'_>
+    pub fn claim_place(&self) -> ClaimPlace<'_>
         ensures { place_of result ≡ kept_place self.now }
     {
         if self.both {
-            Standing::Both(self.first.as_slice(), self.second.as_slice(), self.weight)
+            ClaimPlace::Both(self.first.as_slice(), self.second.as_slice(), self.weight)
         } else {
-            Standing::One(self.first.as_slice())
+            ClaimPlace::One(self.first.as_slice())
         }
     }
 }

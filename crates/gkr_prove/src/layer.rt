@@ -7,7 +7,7 @@ ghost use Rattle.transcript_fs.specs.Source.{draws, state_after};
 ghost use Rattle.proof_wire.specs.Lists.{messages_of, HasShape};
 ghost use Rattle.gkr_layers.specs.Honest.{IsHonestLayer};
 ghost use Rattle.gkr_layers.specs.Layers.{next_place};
-ghost use Rattle.gkr_layers.specs.Standing.{place_of};
+ghost use Rattle.gkr_layers.specs.ClaimPlace.{place_of};
 ghost use Rattle.gkr_prove.specs.Kept.{kept_place};
 ghost use Rattle.phase_run.specs.Work.{IsWorkerCount};
 
@@ -15,11 +15,11 @@ use crate::kept::KeptPlace;
 use crate::last::last_message;
 use crate::rounds::{ProvedRounds, prove_rounds};
 use circuit_core::CircuitGate;
-use gkr_layers::Standing;
+use gkr_layers::ClaimPlace;
 use io_edge::Gate;
 use mle_table::Table;
 use proof_wire::{LayerMessages, Listed, ProofForm};
-use round_tables::{GateTables, Room};
+use round_tables::{Buffers, GateTables};
 use std::alloc::{AllocError, Global};
 use std::marker::Sync;
 use std::thread::Threads;
@@ -30,7 +30,7 @@ use transcript_fs::Challenges;
 pub(crate) struct ProvedLayer {
     pub(crate) messages: LayerMessages,
     pub(crate) place: KeptPlace,
-    pub(crate) room: Room,
+    pub(crate) buffers: Buffers,
 }
 
 /// Proves a layer of at most 65,536 gates over the values of the layer below, at the place of the claim on it.
@@ -38,10 +38,10 @@ pub(crate) fn prove_layer<R: Threads + Sync, C: Challenges, G: Gate>(
     rt: &R,
     alloc: Global,
     form: ProofForm,
-    room: Room,
+    buffers: Buffers,
     gates: &[CircuitGate],
     values: &Table,
-    place: &Standing<'_>,
+    place: &ClaimPlace<'_>,
     challenges: &mut C,
     workers: u32,
     gate: &G,
@@ -63,11 +63,11 @@ pub(crate) fn prove_layer<R: Threads + Sync, C: Challenges, G: Gate>(
         (messages_of proved.messages)) }
 {
     let k = values.k() as usize;
-    let tables = GateTables::start_at(room, gates, values, place)?;
+    let tables = GateTables::start_at(buffers, gates, values, place)?;
     let ProvedRounds {
         messages,
         drawn,
-        room,
+        buffers,
     } = prove_rounds(rt, alloc, tables, challenges, workers, gate)?;
     let (left, right) = drawn.as_slice().split_at(k);
     let last = last_message(alloc, form, values, left, right)?;
@@ -80,6 +80,6 @@ pub(crate) fn prove_layer<R: Threads + Sync, C: Challenges, G: Gate>(
             last: Listed::of(last),
         },
         place: next,
-        room,
+        buffers,
     })
 }

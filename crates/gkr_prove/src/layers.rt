@@ -19,7 +19,7 @@ use circuit_core::Circuit;
 use circuit_eval::Values;
 use io_edge::Gate;
 use proof_wire::{LayerMessages, ProofForm};
-use round_tables::Room;
+use round_tables::Buffers;
 use std::alloc::{AllocError, Global};
 use std::marker::Sync;
 use std::thread::Threads;
@@ -32,7 +32,7 @@ pub(crate) fn prove_layers<R: Threads + Sync, C: Challenges, G: Gate>(
     form: ProofForm,
     circuit: &Circuit,
     values: &Values,
-    mut room: Room,
+    mut buffers: Buffers,
     mut place: KeptPlace,
     challenges: &mut C,
     workers: u32,
@@ -60,10 +60,10 @@ pub(crate) fn prove_layers<R: Threads + Sync, C: Challenges, G: Gate>(
             rt,
             alloc,
             form,
-            room,
+            buffers,
             circuit.gates(layer),
             values.table(layer + 1),
-            &place.standing(),
+            &place.claim_place(),
             challenges,
             workers,
             gate,
@@ -71,11 +71,11 @@ pub(crate) fn prove_layers<R: Threads + Sync, C: Challenges, G: Gate>(
         let ProvedLayer {
             messages: layer_messages,
             place: next,
-            room: used,
+            buffers: used,
         } = proved;
         messages.push(layer_messages)?;
         place = next;
-        room = used;
+        buffers = used;
     }
     Ok(messages)
 }

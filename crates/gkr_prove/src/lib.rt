@@ -4,8 +4,8 @@
 //! sumcheck, and of the line between the two operands' points, at the challenges that the source gives after the
 //! messages before. They are the only honest messages, and the verifier accepts them. [`prove_pair`] is the same body for
 //! proofs that end each layer with the values at both points in place of the line. [`last_message`], [`KeptPlace`] and
-//! [`room_for`] are its steps from layer to layer, for a prover that is fed its challenges. Source: Thaler, "Proofs, Arguments,
-//! and Zero-Knowledge", 4.6; for pairs Xie and others, "Libra" (2019).
+//! [`buffers_for`] are its steps from layer to layer, for a prover that is fed its challenges. Source: Thaler, "Proofs,
+//! Arguments, and Zero-Knowledge", 4.6; for pairs Xie and others, "Libra" (2019).
 //!
 //! ```text
 //! let values = layer_values(&rt, alloc, &circuit, &inputs)?;
@@ -22,4 +22,4 @@ mod rounds;
 
 pub use kept::KeptPlace;
 pub use last::last_message;
-pub use prover::{prove, prove_as, prove_pair, room_for};
+pub use prover::{buffers_for, prove, prove_as, prove_pair};

@@ -18,7 +18,7 @@ use field_ext::Ext;
 use io_edge::Gate;
 use pair_reduce::PairMessages;
 use proof_wire::{Listed, Messages, ProofForm};
-use round_tables::Room;
+use round_tables::Buffers;
 use std::alloc::{AllocError, Global};
 use std::marker::Sync;
 use std::thread::Threads;
@@ -129,9 +129,9 @@ pub fn prove_as<R: Threads + Sync, C: Challenges, G: Gate>(
     let mut point = vec![in alloc; Ext::zero(); circuit.coordinates(0)]?;
     draw_point(&mut point, challenges);
     let place = KeptPlace::at(alloc, point);
-    let room = room_for(alloc, circuit)?;
+    let buffers = buffers_for(alloc, circuit)?;
     let layers = prove_layers(
-        rt, alloc, form, circuit, values, room, place, challenges, workers, gate,
+        rt, alloc, form, circuit, values, buffers, place, challenges, workers, gate,
     )?;
     Ok(Messages {
         layers: Listed::of(layers),
@@ -139,10 +139,10 @@ pub fn prove_as<R: Threads + Sync, C: Challenges, G: Gate>(
 }
 
 /// Buffers for the working tables of any layer of a circuit. Err only where no memory is found.
-pub fn room_for(alloc: Global, circuit: &Circuit) -> Result<Room, AllocError> {
+pub fn buffers_for(alloc: Global, circuit: &Circuit) -> Result<Buffers, AllocError> {
     let mut widest = 0;
     for layer in 0..circuit.height() + 1 {
         widest = widest.max(circuit.width(layer));
     }
-    Room::new(alloc, widest, widest)
+    Buffers::new(alloc, widest, widest)
 }

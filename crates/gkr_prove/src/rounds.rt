@@ -9,7 +9,7 @@ ghost use Rattle.phase_run.specs.Work.{IsWorkerCount};
 use field_ext::Ext;
 use io_edge::Gate;
 use proof_wire::Round;
-use round_tables::{GateTables, Room};
+use round_tables::{Buffers, GateTables};
 use std::alloc::{AllocError, Global};
 use std::marker::Sync;
 use std::thread::Threads;
@@ -21,7 +21,7 @@ use transcript_fs::Challenges;
 pub(crate) struct ProvedRounds {
     pub(crate) messages: Vec<Round>,
     pub(crate) drawn: Vec<Ext>,
-    pub(crate) room: Room,
+    pub(crate) buffers: Buffers,
 }
 
 /// Proves all rounds of a layer.
@@ -63,10 +63,10 @@ pub(crate) fn prove_rounds<R: Threads + Sync, C: Challenges, G: Gate>(
         messages.push(Round::of(message))?;
         drawn.push(challenge)?;
     }
-    let room = tables.into_room();
+    let buffers = tables.into_buffers();
     Ok(ProvedRounds {
         messages,
         drawn,
-        room,
+        buffers,
     })
 }

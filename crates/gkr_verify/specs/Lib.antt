@@ -1,4 +1,4 @@
 pub mod Rounds
 pub mod Blocks
 pub mod ShortProof
-pub mod Room
+pub mod Buffers

@@ -6,13 +6,13 @@ ghost use Rattle.circuit_core.specs.Parts.{height};
 ghost use Rattle.circuit_core.specs.Sound.{exponent_at};
 ghost use Rattle.gkr_layers.specs.Places.{IsOver, weighted_summand_from};
 ghost use Rattle.gkr_layers.specs.Forms.{said_left, said_right};
-ghost use Rattle.gkr_layers.specs.Standing.{place_of};
+ghost use Rattle.gkr_layers.specs.ClaimPlace.{place_of};
 ghost use Rattle.run_wiring.specs.CircuitRuns.{IsWiringOf};
 
-use crate::standing::wiring_there;
+use crate::claim_place::wiring_there;
 use circuit_core::Circuit;
 use field_ext::Ext;
-use gkr_layers::Standing;
+use gkr_layers::ClaimPlace;
 use poly_roots::value_at;
 use proof_wire::ProofForm;
 use run_wiring::LayerWiring;
@@ -31,7 +31,7 @@ pub(crate) fn end_value(
     circuit: &Circuit,
     layer: usize,
     wiring: &LayerWiring,
-    place: &Standing<'_>,
+    place: &ClaimPlace<'_>,
     left: &[Ext],
     right: &[Ext],
     last: &[Ext],

@@ -191,7 +191,7 @@ fn fill_layer<C: Challenges>(
 {
     let rounds = fill_rounds(alloc, layer.rounds.as_slice(), claim, drawn, challenges)?;
     let last = Vec::from_slice(alloc, layer.last.as_slice())?;
-    let challenge = draw_behind(&last, drawn, challenges)?;
+    let challenge = draw_after(&last, drawn, challenges)?;
     Ok(FilledLayer {
         claim: value_at(&last, challenge),
         messages: LayerMessages {
@@ -222,7 +222,7 @@ fn fill_rounds<C: Challenges>(
     for pair in pairs {
         let coefficients = fill_round(pair, &mut rounds);
         made.push(Round::of(coefficients))?;
-        let challenge = draw_behind(&coefficients, drawn, challenges)?;
+        let challenge = draw_after(&coefficients, drawn, challenges)?;
         rounds.bind(challenge);
     }
     Ok(made)
@@ -239,7 +239,7 @@ fn fill_round(pair: &RoundPair, rounds: &mut Rounds) -> [Ext; 3]
 }
 
 /// Takes a message in, and adds the challenge after it to those drawn before.
-fn draw_behind<C: Challenges>(
+fn draw_after<C: Challenges>(
     message: &[Ext],
     drawn: &mut Vec<Ext>,
     challenges: &mut C,

@@ -10,14 +10,14 @@ ghost use Rattle.gkr_layers.specs.Equations.{equations, answer};
 ghost use Rattle.proof_wire.specs.Lists.{messages_of, HasShape};
 ghost use Rattle.gkr_layers.specs.Places.{IsOver};
 ghost use Rattle.gkr_layers.specs.Forms.{place_between};
-ghost use Rattle.gkr_layers.specs.Standing.{place_of};
+ghost use Rattle.gkr_layers.specs.ClaimPlace.{place_of};
 ghost use Rattle.run_wiring.specs.CircuitRuns.{IsWiringOf};
 
 use crate::end::end_value;
 use crate::rounds::check_rounds;
 use circuit_core::Circuit;
 use field_ext::Ext;
-use gkr_layers::{Standing, Verdict};
+use gkr_layers::{ClaimPlace, Verdict};
 use poly_roots::value_at;
 use proof_wire::{LayerMessages, ProofForm};
 use run_wiring::LayerWiring;
@@ -39,7 +39,7 @@ pub(crate) fn check_layer<C: Challenges>(
     wiring: &LayerWiring,
     messages: &LayerMessages,
     claim: Ext,
-    place: &Standing<'_>,
+    place: &ClaimPlace<'_>,
     drawn: &mut [Ext],
     challenges: &mut C,
 ) -> Result<NextClaim, Verdict>

@@ -9,20 +9,20 @@ ghost use Rattle.transcript_fs.specs.Source.{draws};
 ghost use Rattle.gkr_layers.specs.Equations.{input_equation, equations, first_failure, answer};
 ghost use Rattle.proof_wire.specs.Lists.{all_messages, HaveShape};
 ghost use Rattle.gkr_layers.specs.Places.{IsOver, value_over};
-ghost use Rattle.gkr_layers.specs.Standing.{place_of};
+ghost use Rattle.gkr_layers.specs.ClaimPlace.{place_of};
 ghost use Rattle.run_wiring.specs.CircuitRuns.{AreWiringsOf};
 
+use crate::claim_place::{leaves_there, place_below, write_point};
 use crate::layer::check_layer;
-use crate::standing::{leaves_there, standing_below, write_point};
 use circuit_core::Circuit;
 use field_ext::{Ext, Fp};
-use gkr_layers::{Standing, Verdict};
+use gkr_layers::{ClaimPlace, Verdict};
 use proof_wire::{LayerMessages, ProofForm};
 use run_wiring::LayerWiring;
 use transcript_fs::Challenges;
 
 /// Checks the messages of the layers from `layer` on against the claim, and the last claim against the inputs. It keeps
-/// challenges and points in `room`.
+/// challenges and points in `buffers`.
 pub(crate) fn check_layers<C: Challenges>(
     form: ProofForm,
     messages: &[LayerMessages],
@@ -31,8 +31,8 @@ pub(crate) fn check_layers<C: Challenges>(
     inputs: &[Fp],
     layer: usize,
     claim: Ext,
-    place: &Standing<'_>,
-    room: &mut [Ext],
+    place: &ClaimPlace<'_>,
+    buffers: &mut [Ext],
     challenges: &mut C,
 ) -> Verdict
     requires wirings { AreWiringsOf circuit.now.parts wirings.now }
@@ -41,7 +41,8 @@ pub(crate) fn check_layers<C: Challenges>(
     requires place { IsOver (exponent_at circuit.now.parts layer) (place_of place.now) }
     requires shape { HaveShape form (lower_exponents (layers_below circuit.now.parts layer))
         messages.now }
-    requires room { length room.old ≡ 3 * total_exponent (layers_below circuit.now.parts layer) }
+    requires buffers { length buffers.old
+        ≡ 3 * total_exponent (layers_below circuit.now.parts layer) }
     requires has { IsTrue (C.source.has (C.state challenges.old)
         (message_count (layers_below circuit.now.parts layer))) }
     ensures { record { verdict = result; state = C.state challenges.new }
@@ -56,8 +57,8 @@ pub(crate) fn check_layers<C: Challenges>(
         return check_inputs(circuit, inputs, claim, place);
     };
     let k = circuit.coordinates(layer + 1);
-    let (drawn, room) = room.split_at_mut(2 * k);
-    let (point, room) = room.split_at_mut(k);
+    let (drawn, buffers) = buffers.split_at_mut(2 * k);
+    let (point, buffers) = buffers.split_at_mut(k);
     let wiring = &wirings[layer];
     match check_layer(
         form, circuit, layer, wiring, first, claim, place, drawn, challenges,
@@ -66,7 +67,7 @@ pub(crate) fn check_layers<C: Challenges>(
         Ok(next) => {
             let (left, right) = drawn.split_at(k);
             write_point(form, left, right, next.challenge, point);
-            let below = standing_below(form, left, right, next.challenge, point);
+            let below = place_below(form, left, right, next.challenge, point);
             check_layers(
                 form,
                 later,
@@ -76,7 +77,7 @@ pub(crate) fn check_layers<C: Challenges>(
                 layer + 1,
                 next.value,
                 &below,
-                room,
+                buffers,
                 challenges,
             )
         }
@@ -84,7 +85,7 @@ pub(crate) fn check_layers<C: Challenges>(
 }
 
 /// Checks the last claim against the extension of 0, the leaves and zeros.
-fn check_inputs(circuit: &Circuit, inputs: &[Fp], claim: Ext, place: &Standing<'_>) -> Verdict
+fn check_inputs(circuit: &Circuit, inputs: &[Fp], claim: Ext, place: &ClaimPlace<'_>) -> Verdict
     requires inputs { length inputs.now ≡ circuit.now.parts.inputs }
     requires place { IsOver (exponent_at circuit.now.parts (height circuit.now.parts))
         (place_of place.now) }

@@ -17,23 +17,23 @@
 
 mod blocks;
 mod both;
+mod buffers;
+mod claim_place;
 mod end;
 mod extension;
 mod filling;
 pub mod laws;
 mod layer;
 mod layers;
-mod room;
 mod rounds;
 mod short;
-mod standing;
 mod sums;
 mod tables;
 mod verifier;
 
+pub use buffers::CheckBuffers;
 pub use filling::fill;
 pub use gkr_layers::{Verdict, bound_sum, challenge_count};
-pub use room::CheckRoom;
 pub use short::check_two;
 pub use sums::{LayerSum, first_sum};
 pub use verifier::{check, check_as, check_pair};

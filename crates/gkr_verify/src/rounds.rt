@@ -21,7 +21,7 @@ pub(crate) fn check_rounds<C: Challenges>(
     challenges: &mut C,
 ) -> Result<Ext, SumFault>
     requires few { length messages.now ≤ 65536 }
-    requires room { length drawn.old ≡ length messages.now }
+    requires capacity { length drawn.old ≡ length messages.now }
     requires has { IsTrue (C.source.has (C.state challenges.old) (length messages.now)) }
     ensures holds { IfOk result (λ last. (number : ℕ) (rest : List Equation) (more : List (List K))
         →

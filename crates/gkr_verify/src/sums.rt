@@ -70,20 +70,20 @@ pub fn first_sum<C: Challenges>(
         (exponent_at circuit.now.parts 0)) (all_messages messages.now.layers))) }
 {
     let start = start(alloc, circuit, outputs, challenges)?;
-    let mut room = vec![in alloc; Ext::zero(); 32]?;
+    let mut buffers = vec![in alloc; Ext::zero(); 32]?;
     let layers = messages.layers.as_slice();
-    Ok(first_of_layers(layers, start.claim, &mut room, challenges))
+    Ok(first_of_layers(layers, start.claim, &mut buffers, challenges))
 }
 
 /// The first round that does not add to its claim, from the claim on the first layer on.
 fn first_of_layers<C: Challenges>(
     layers: &[LayerMessages],
     first: Ext,
-    room: &mut [Ext],
+    buffers: &mut [Ext],
     challenges: &mut C,
 ) -> Option<LayerSum>
     requires few { All (λ layer. length layer.rounds ≤ 32) layers.now }
-    requires room { length room.old ≡ 32 }
+    requires buffers { length buffers.old ≡ 32 }
     requires has { IsTrue
         (C.source.has (C.state challenges.old) (length (all_messages layers.now))) }
     ensures first { let sums = sums_from C.source 0 (C.state challenges.old) first layers.now in
@@ -94,7 +94,7 @@ fn first_of_layers<C: Challenges>(
 {
     let mut claim = first;
     for (layer, messages) in layers.iter().enumerate() {
-        match sums_of_layer(messages, claim, room, challenges) {
+        match sums_of_layer(messages, claim, buffers, challenges) {
             Ok(next) => claim = next,
             Err(fault) => return Some(LayerSum::of(layer, fault)),
         }
@@ -106,11 +106,11 @@ fn first_of_layers<C: Challenges>(
 fn sums_of_layer<C: Challenges>(
     messages: &LayerMessages,
     claim: Ext,
-    room: &mut [Ext],
+    buffers: &mut [Ext],
     challenges: &mut C,
 ) -> Result<Ext, SumFault>
     requires few { length messages.now.rounds ≤ 32 }
-    requires room { length room.old ≡ 32 }
+    requires buffers { length buffers.old ≡ 32 }
     requires has { IsTrue
         (C.source.has (C.state challenges.old) (length (messages_of messages.now))) }
     ensures holds { IfOk result (λ next. (number : ℕ) →
@@ -127,7 +127,7 @@ fn sums_of_layer<C: Challenges>(
         ≡ sum_failure number fault) }
 {
     let rounds = messages.rounds.as_slice();
-    let (drawn, _) = room.split_at_mut(rounds.len());
+    let (drawn, _) = buffers.split_at_mut(rounds.len());
     check_rounds(rounds, claim, drawn, challenges)?;
     let last = messages.last.as_slice();
     challenges.absorb(last);

@@ -7,7 +7,7 @@ ghost use Rattle.gkr_layers.specs.Acceptance.{claim_in, claim_of, verdict_of, an
 ghost use Rattle.proof_wire.specs.Lists.{all_messages, HaveShape};
 ghost use Rattle.gkr_layers.specs.Soundness.{LetsPass, IsFalse};
 
-use crate::room::CheckRoom;
+use crate::buffers::CheckBuffers;
 use circuit_core::Circuit;
 use field_ext::Fp;
 use gkr_layers::Verdict;
@@ -137,8 +137,8 @@ pub fn check_as<C: Challenges>(
         C.state challenges.new ≡ (answer_from stated C.source (C.state challenges.old) qs).state) }
     ensures memory { IfErr result (λ _. C.state challenges.new ≡ C.state challenges.old) }
 {
-    let mut room = CheckRoom::new(alloc, circuit)?;
-    let verdict = room.check(
+    let mut buffers = CheckBuffers::new(alloc, circuit)?;
+    let verdict = buffers.check(
         form,
         circuit,
         inputs,

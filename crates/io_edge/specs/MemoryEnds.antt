@@ -17,30 +17,30 @@ steady_unread s = drop s.taken s.bytes.items
 
 -- the calls that read from it
 abbrev pub calls_of : MemorySource → Calls
-calls_of s = record { count = s.schedule.calls; most_room = s.most_room }
+calls_of s = record { count = s.schedule.calls; largest_buffer = s.largest_buffer }
 
 abbrev pub steady_calls : SteadySource → Calls
-steady_calls s = record { count = s.calls; most_room = s.most_room }
+steady_calls s = record { count = s.calls; largest_buffer = s.largest_buffer }
 
 -- the bytes that a sink holds, and how many its buffer holds in all
 abbrev pub held : MemorySink → List ℕ
 held s = s.bytes.items
 
-abbrev pub room_of : MemorySink → ℕ
-room_of s = s.room
+abbrev pub capacity_of : MemorySink → ℕ
+capacity_of s = s.capacity
 
-abbrev pub room_left : MemorySink → ℕ
-room_left s = s.room - length s.bytes.items
+abbrev pub capacity_left : MemorySink → ℕ
+capacity_left s = s.capacity - length s.bytes.items
 
 abbrev pub steady_held : SteadySink → List ℕ
 steady_held s = s.bytes.items
 
-abbrev pub steady_room : SteadySink → ℕ
-steady_room s = s.room
+abbrev pub steady_capacity : SteadySink → ℕ
+steady_capacity s = s.capacity
 
 -- the bytes that were written, or None from the first that found no capacity
-abbrev pub told : SteadySink → Option (List ℕ)
-told s = if s.tells then Some s.bytes.items else None
+abbrev pub known : SteadySink → Option (List ℕ)
+known s = if s.is_known then Some s.bytes.items else None
 
 -- No call was made yet, and the calls of these numbers will fail.
 pub record IsFresh (schedule : Schedule) (numbers : List ℕ) : Type 0 where

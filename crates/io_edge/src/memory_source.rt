@@ -13,7 +13,7 @@ pub struct MemorySource {
     bytes: Vec<u8>,
     taken: usize,
     piece: usize,
-    most_room: usize,
+    largest_buffer: usize,
     schedule: Schedule,
     ghost within: { taken ≤ vec_len bytes },
     ghost some: { 0 < piece },
@@ -34,7 +34,7 @@ impl MemorySource {
             bytes: Vec::from_slice(alloc, bytes)?,
             taken: 0,
             piece,
-            most_room: 0,
+            largest_buffer: 0,
             schedule: Schedule::new(alloc, fails)?,
         })
     }
@@ -52,28 +52,32 @@ impl Source for MemorySource {
 
     ghost faults = { λ s. s.schedule.faults };
 
-    ghost calls = { λ s. Some (record { count = s.schedule.calls; most_room = s.most_room }) };
+    ghost calls = { λ s. Some (record {
+      count = s.schedule.calls;
+      largest_buffer = s.largest_buffer;
+    }) };
 
-    fn read(&mut self, room: &mut [u8]) -> Result<usize, Failed>
-        ensures bound { ReadsAtMost result room.new }
+    fn read(&mut self, buffer: &mut [u8]) -> Result<usize, Failed>
+        ensures bound { ReadsAtMost result buffer.new }
         ensures bytes { ReadConsumes (Some (unread self.old)) (Some (unread self.new)) result
-            room.new }
+            buffer.new }
         ensures cause { HasCause self.old.schedule.faults self.new.schedule.faults result }
-        ensures called { CallsAtMost 1 (length room.old) (Some (calls_of self.old))
+        ensures called { CallsAtMost 1 (length buffer.old) (Some (calls_of self.old))
             (Some (calls_of self.new)) }
-        ensures most_room { self.new.most_room ≡ max self.old.most_room (length room.old) }
+        ensures largest_buffer { self.new.largest_buffer
+            ≡ max self.old.largest_buffer (length buffer.old) }
         // It fails at the calls that it was given, and at no other.
         ensures fails { IsErr result ↔ FailsNow self.new.schedule }
         ensures next { IsNextCall self.old.schedule self.new.schedule }
         ensures count { IfOk result
-            (λ n. n ≡ min (min (length (unread self.old)) (length room.old)) self.old.piece) }
+            (λ n. n ≡ min (min (length (unread self.old)) (length buffer.old)) self.old.piece) }
         ensures piece { self.new.piece ≡ self.old.piece }
     {
-        self.most_room = self.most_room.max(room.len());
+        self.largest_buffer = self.largest_buffer.max(buffer.len());
         if self.schedule.next_fails() {
             return Err(self.schedule.fault());
         }
-        let count = copy_prefix(&self.bytes[self.taken..], room, self.piece);
+        let count = copy_prefix(&self.bytes[self.taken..], buffer, self.piece);
         self.taken += count;
         Ok(count)
     }

@@ -10,32 +10,32 @@ use std::alloc::{AllocError, Global};
 #[derive(Drop)]
 pub struct SteadySink {
     bytes: Vec<u8>,
-    room: usize,
-    tells: bool,
-    ghost within: { vec_len bytes ≤ room },
-    ghost ready: { room ≤ vec_capacity bytes },
+    capacity: usize,
+    is_known: bool,
+    ghost within: { vec_len bytes ≤ capacity },
+    ghost ready: { capacity ≤ vec_capacity bytes },
 }
 
 impl SteadySink {
-    ghost use Rattle.io_edge.specs.MemoryEnds.{steady_held, steady_room};
+    ghost use Rattle.io_edge.specs.MemoryEnds.{steady_held, steady_capacity};
 
-    /// A sink of which up to `room` bytes are known. An error where no memory is left.
-    pub fn new(alloc: Global, room: usize) -> Result<Self, AllocError>
-        ensures { IfOk result (λ made. (steady_held made ≡ []) × (steady_room made ≡ room)
-            × (made.tells ≡ true)) }
+    /// A sink of which up to `capacity` bytes are known. An error where no memory is left.
+    pub fn new(alloc: Global, capacity: usize) -> Result<Self, AllocError>
+        ensures { IfOk result (λ made. (steady_held made ≡ []) × (steady_capacity made ≡ capacity)
+            × (made.is_known ≡ true)) }
     {
         Ok(SteadySink {
-            bytes: Vec::with_capacity(alloc, room)?,
-            room,
-            tells: true,
+            bytes: Vec::with_capacity(alloc, capacity)?,
+            capacity,
+            is_known: true,
         })
     }
 
     /// Whether what was written is known.
-    pub fn tells(&self) -> bool
-        ensures { result ≡ self.now.tells }
+    pub fn is_known(&self) -> bool
+        ensures { result ≡ self.now.is_known }
     {
-        self.tells
+        self.is_known
     }
 
     /// The bytes that were written, while they are known.
@@ -50,25 +50,25 @@ impl Sink for SteadySink {
     ghost use Rattle.std.specs.Prelude.{◌↔◌, ◌+◌, length, Ok, IsTrue};
     ghost use Rattle.io_edge.specs.Causes.{HasCause};
     ghost use Rattle.io_edge.specs.Written.{TakesSome, WriteGrows};
-    ghost use Rattle.io_edge.specs.MemoryEnds.{steady_held, steady_room, told};
+    ghost use Rattle.io_edge.specs.MemoryEnds.{steady_held, steady_capacity, known};
 
-    ghost written = { λ s. told s };
+    ghost written = { λ s. known s };
 
     ghost faults = { λ _. 0 };
 
     fn write(&mut self, piece: &[u8]) -> Result<usize, Failed>
         ensures count { TakesSome result piece.now }
-        ensures bytes { WriteGrows (told self.old) (told self.new) result piece.now }
+        ensures bytes { WriteGrows (known self.old) (known self.new) result piece.now }
         ensures cause { HasCause 0 0 result }
         ensures whole { result ≡ Ok (length piece.now) }
         // The bytes stay known while the piece goes into the buffer that is left.
-        ensures tells { IsTrue self.new.tells
-            ↔ (IsTrue self.old.tells
-            × (length (steady_held self.old) + length piece.now ≤ steady_room self.old)) }
-        ensures room { steady_room self.new ≡ steady_room self.old }
+        ensures is_known { IsTrue self.new.is_known
+            ↔ (IsTrue self.old.is_known
+            × (length (steady_held self.old) + length piece.now ≤ steady_capacity self.old)) }
+        ensures capacity { steady_capacity self.new ≡ steady_capacity self.old }
     {
-        if piece.len() > self.room - self.bytes.len() {
-            self.tells = false;
+        if piece.len() > self.capacity - self.bytes.len() {
+            self.is_known = false;
         } else if self.bytes.extend_from_slice(piece).is_err() {
             unreachable!()
         }

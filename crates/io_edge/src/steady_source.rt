@@ -13,7 +13,7 @@ pub struct SteadySource {
     taken: usize,
     piece: usize,
     calls: u64,
-    most_room: usize,
+    largest_buffer: usize,
     ghost within: { taken ≤ vec_len bytes },
     ghost some: { 0 < piece },
 }
@@ -33,7 +33,7 @@ impl SteadySource {
             taken: 0,
             piece,
             calls: 0,
-            most_room: 0,
+            largest_buffer: 0,
         })
     }
 }
@@ -50,26 +50,26 @@ impl Source for SteadySource {
 
     ghost faults = { λ _. 0 };
 
-    ghost calls = { λ s. Some (record { count = s.calls; most_room = s.most_room }) };
+    ghost calls = { λ s. Some (record { count = s.calls; largest_buffer = s.largest_buffer }) };
 
-    fn read(&mut self, room: &mut [u8]) -> Result<usize, Failed>
-        ensures bound { ReadsAtMost result room.new }
+    fn read(&mut self, buffer: &mut [u8]) -> Result<usize, Failed>
+        ensures bound { ReadsAtMost result buffer.new }
         ensures bytes { ReadConsumes (Some (steady_unread self.old)) (Some (steady_unread self.new))
-            result room.new }
+            result buffer.new }
         ensures cause { HasCause 0 0 result }
-        ensures called { CallsAtMost 1 (length room.old) (Some (steady_calls self.old))
+        ensures called { CallsAtMost 1 (length buffer.old) (Some (steady_calls self.old))
             (Some (steady_calls self.new)) }
         ensures counted { steady_calls self.new ≡ record {
           count = min (self.old.calls + 1) (2 ^ 64 - 1);
-          most_room = max self.old.most_room (length room.old);
+          largest_buffer = max self.old.largest_buffer (length buffer.old);
         } }
         ensures count { result ≡ Ok
-            (min (min (length (steady_unread self.old)) (length room.old)) self.old.piece) }
+            (min (min (length (steady_unread self.old)) (length buffer.old)) self.old.piece) }
         ensures piece { self.new.piece ≡ self.old.piece }
     {
         self.calls = self.calls.saturating_add(1);
-        self.most_room = self.most_room.max(room.len());
-        let count = copy_prefix(&self.bytes[self.taken..], room, self.piece);
+        self.largest_buffer = self.largest_buffer.max(buffer.len());
+        let count = copy_prefix(&self.bytes[self.taken..], buffer, self.piece);
         self.taken += count;
         Ok(count)
     }

@@ -125,7 +125,7 @@ impl<C, A: Fits<C>> TableOver<State<C, A>, Event<C, A>> {
         ensures turn { turn.new ≡ record turn.old { seen = result.1; holds = true } }
     {
         let state = self.lock.turn(rt, turn);
-        state.front();
+        state.history_len();
         state
     }
 
@@ -138,7 +138,7 @@ impl<C, A: Fits<C>> TableOver<State<C, A>, Event<C, A>> {
     ) -> (Result<Receipt, Full<C>>, u64)
         requires of { IsPassOf self.now pass.old }
         ensures of { IsPassOf self.now pass.new × (pass.new.held ≡ pass.old.held) }
-        ensures front { result.1 ≡ length pass.new.seen }
+        ensures history_len { result.1 ≡ length pass.new.seen }
         ensures begins { IsPrefix pass.old.seen pass.new.seen }
         ensures answer { MatchResult result.0
             (λ receipt. Adds pass.old (λ before e. (receipt.job ≡ length (jobs_of before))
@@ -151,15 +151,15 @@ impl<C, A: Fits<C>> TableOver<State<C, A>, Event<C, A>> {
         let mut state = self.enter(rt, &mut pass.turn);
         match state.submit(case) {
             Ok(job) => {
-                let front = state.front();
+                let history_len = state.history_len();
                 self.lock.give_back(&mut pass.turn, state, 1);
-                (Ok(Receipt { job }), front)
+                (Ok(Receipt { job }), history_len)
             }
             Err(case) => {
-                let front = state.front();
+                let history_len = state.history_len();
                 self.lock.give_back(&mut pass.turn, state, 0);
                 let capacity = self.capacity;
-                (Err(Full { case, capacity }), front)
+                (Err(Full { case, capacity }), history_len)
             }
         }
     }
@@ -169,7 +169,7 @@ impl<C, A: Fits<C>> TableOver<State<C, A>, Event<C, A>> {
         requires of { IsPassOf self.now pass.old }
         ensures of { IsPassOf self.now pass.new }
         ensures begins { IsPrefix pass.old.seen pass.new.seen }
-        ensures front { result.1 ≡ length pass.new.seen }
+        ensures history_len { result.1 ≡ length pass.new.seen }
         ensures answer { MatchOption result.0
             (Looks pass.old pass.new × NoneQueued pass.new.seen)
             (λ ticket. Adds pass.old (λ before e. (ticket.job ≡ before_queued (jobs_of before))
@@ -181,15 +181,15 @@ impl<C, A: Fits<C>> TableOver<State<C, A>, Event<C, A>> {
         let mut state = self.enter(rt, &mut pass.turn);
         match state.take() {
             Some((job, case)) => {
-                let front = state.front();
+                let history_len = state.history_len();
                 self.lock.give_back(&mut pass.turn, state, 1);
                 pass.held += 1;
-                (Some(Ticket { job, case }), front)
+                (Some(Ticket { job, case }), history_len)
             }
             None => {
-                let front = state.front();
+                let history_len = state.history_len();
                 self.lock.give_back(&mut pass.turn, state, 0);
-                (None, front)
+                (None, history_len)
             }
         }
     }
@@ -211,16 +211,16 @@ impl<C, A: Fits<C>> TableOver<State<C, A>, Event<C, A>> {
         requires fits { OutcomeFits A.fits outcome ticket.case }
         ensures of { IsPassOf self.now pass.new × (pass.new.held + 1 ≡ pass.old.held) }
         ensures begins { IsPrefix pass.old.seen pass.new.seen }
-        ensures front { result ≡ length pass.new.seen }
+        ensures history_len { result ≡ length pass.new.seen }
         ensures adds { Adds pass.old (λ _ e. Finishes ticket.job outcome e) pass.new }
     {
         let mut state = self.enter(rt, &mut pass.turn);
         let Ticket { job, case } = ticket;
         state.finish(job, case, outcome);
-        let front = state.front();
+        let history_len = state.history_len();
         self.lock.give_back(&mut pass.turn, state, 1);
         pass.held -= 1;
-        front
+        history_len
     }
 
     /// The job as it is at this call's step. Memory runs out only for the copy of an answer.
@@ -238,15 +238,15 @@ impl<C, A: Fits<C>> TableOver<State<C, A>, Event<C, A>> {
         ensures of { IsPassOf self.now pass.new }
         ensures begins { IsPrefix pass.old.seen pass.new.seen }
         ensures looks { Looks pass.old pass.new }
-        ensures front { result.1 ≡ length pass.new.seen }
+        ensures history_len { result.1 ≡ length pass.new.seen }
         ensures answer { MatchResult result.0 (IsSeen A.fits pass.new.seen receipt.now.job)
             (λ _. (a : A) × Has pass.new.seen (Finishes receipt.now.job (Answer a))) }
     {
         let state = self.enter(rt, &mut pass.turn);
         let seen = state.fetch(alloc, receipt.job);
-        let front = state.front();
+        let history_len = state.history_len();
         self.lock.give_back(&mut pass.turn, state, 0);
-        (seen, front)
+        (seen, history_len)
     }
 
     /// Withdraws a job that is still queued.
@@ -260,7 +260,7 @@ impl<C, A: Fits<C>> TableOver<State<C, A>, Event<C, A>> {
         requires submitted { (c : C) × Has pass.old.seen (Submits receipt.now.job c) }
         ensures of { IsPassOf self.now pass.new × (pass.new.held ≡ pass.old.held) }
         ensures begins { IsPrefix pass.old.seen pass.new.seen }
-        ensures front { result.1 ≡ length pass.new.seen }
+        ensures history_len { result.1 ≡ length pass.new.seen }
         ensures answer { MatchResult result.0
             (λ _. Adds pass.old (λ before e.
             (slice_get (jobs_of before) receipt.now.job ≡ Some Queued)
@@ -272,14 +272,14 @@ impl<C, A: Fits<C>> TableOver<State<C, A>, Event<C, A>> {
         let mut state = self.enter(rt, &mut pass.turn);
         match state.withdraw(receipt.job) {
             Ok(()) => {
-                let front = state.front();
+                let history_len = state.history_len();
                 self.lock.give_back(&mut pass.turn, state, 1);
-                (Ok(()), front)
+                (Ok(()), history_len)
             }
             Err(found) => {
-                let front = state.front();
+                let history_len = state.history_len();
                 self.lock.give_back(&mut pass.turn, state, 0);
-                (Err(Late(found)), front)
+                (Err(Late(found)), history_len)
             }
         }
     }

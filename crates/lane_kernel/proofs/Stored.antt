@@ -12,11 +12,11 @@ one_more value old now j n x u is at = record {
       (λ (e : k ≡ j + n). ap (λ (i : ℕ). get_or (set now (j + n) x) i 0) e ∙ get_or-set_same now (j + n) x 0 u ∙ is ∙ ap value (sym e))
       (λ (ne : k ≢ j + n). get_or-set_other now (j + n) k x 0 ne ∙ at.within k a (omega arith));
   before = λ k a. let ne : k ≢ j + n = omega arith in get_or-set_other now (j + n) k x 0 ne ∙ at.before k a;
-  behind = λ k a. let ne : k ≢ j + n = omega arith in get_or-set_other now (j + n) k x 0 ne ∙ at.behind k (omega arith);
+  after = λ k a. let ne : k ≢ j + n = omega arith in get_or-set_other now (j + n) k x 0 ne ∙ at.after k (omega arith);
 }
 
 none_yet : (value : ℕ → ℕ) (old : List ℕ) (j : ℕ) → AreAt j 0 value old old
-none_yet value old j = record { within = λ k a b. absurd (omega arith); before = λ k a i. get_or old k 0; behind = λ k a i. get_or old k 0 }
+none_yet value old j = record { within = λ k a b. absurd (omega arith); before = λ k a i. get_or old k 0; after = λ k a i. get_or old k 0 }
 
 pub four_at : (value : ℕ → ℕ) (old : List ℕ) (j : ℕ) (x : Four) → j + 4 ≤ length old → x.a % prime ≡ value j → x.b % prime ≡ value (j + 1) → x.c % prime ≡ value (j + 2) → x.d % prime ≡ value (j + 3) → AreAt j 4 value old (stored old j x)
 four_at value old j x u a b c d =

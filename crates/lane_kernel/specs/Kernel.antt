@@ -36,4 +36,4 @@ im_at re im s t j = folded_im s t (slice_index_or re (2 * j) 0) (slice_index_or 
 pub record AreAt (j n : ℕ) (value : ℕ → ℕ) (old new : List ℕ) : Type 0 where
   pub within : (k : ℕ) → j ≤ k → k < j + n → slice_index_or new k 0 ≡ value k
   pub before : (k : ℕ) → k < j → slice_index_or new k 0 ≡ slice_index_or old k 0
-  pub behind : (k : ℕ) → j + n ≤ k → slice_index_or new k 0 ≡ slice_index_or old k 0
+  pub after : (k : ℕ) → j + n ≤ k → slice_index_or new k 0 ≡ slice_index_or old k 0

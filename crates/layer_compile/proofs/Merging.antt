@@ -6,7 +6,7 @@ use Rattle.std.proofs.lemmas.List.{length_push}
 use Rattle.node_core.specs.Nodes.{Nodes}
 use Rattle.layer_compile.specs.Levels.{level, levels, height_of, is_used_above}
 use Rattle.layer_compile.specs.Next.{IsNext, has_level}
-use Rattle.layer_compile.specs.Rows.{stands, row, IsMerged}
+use Rattle.layer_compile.specs.Rows.{is_at, row, IsMerged}
 use Rattle.layer_compile.proofs.UsedAbove.{used-lower}
 use Rattle.layer_compile.proofs.Places.{filter_range_more, filter_range_yes, filter_range_no}
 use Rattle.layer_compile.proofs.Next.{filter_gap, next_in_filter, next_past_filter}
@@ -18,22 +18,22 @@ not_true false h = refl
 
 module _ (n : Nodes) (h : ℕ) where
   -- a node that is at a height has at most its level
-  pub level_low : (h k : ℕ) → stands n h k ≡ true → level n k ≤ h
+  pub level_low : (h k : ℕ) → is_at n h k ≡ true → level n k ≤ h
   level_low zero k e = let same : level n k ≡ 0 = eqb-true (level n k) 0 e in omega arith
   level_low (suc h) k e = leb-true (level n k) (suc h) (and_parts _ _ e).0
 
   -- it is at the next height where it is used above
-  above_low : (k : ℕ) → level n k ≤ suc h → stands n (suc h) k ≡ is_used_above n (suc h) k
+  above_low : (k : ℕ) → level n k ≤ suc h → is_at n (suc h) k ≡ is_used_above n (suc h) k
   above_low k l = ap (λ b. b && is_used_above n (suc h) k) (le-leb (level n k) (suc h) l)
 
   -- a node of the next level isn't here
-  new_apart : (k : ℕ) → level n k ≡ suc h → stands n h k ≡ false
-  new_apart k e = not_true (stands n h k) (λ s. omega (arith, e, level_low h k s))
+  new_apart : (k : ℕ) → level n k ≡ suc h → is_at n h k ≡ false
+  new_apart k e = not_true (is_at n h k) (λ s. omega (arith, e, level_low h k s))
 
   -- what is neither here nor is of the next level isn't there
-  nor_above : (k : ℕ) → stands n h k ≡ false → has_level (levels n) (suc h) k ≡ false → stands n (suc h) k ≡ false
+  nor_above : (k : ℕ) → is_at n h k ≡ false → has_level (levels n) (suc h) k ≡ false → is_at n (suc h) k ≡ false
   nor_above k old new =
-      not_true (stands n (suc h) k) (λ s.
+      not_true (is_at n (suc h) k) (λ s.
       let parts = and_parts _ _ s in
       let low : level n k ≤ suc h = leb-true (level n k) (suc h) parts.0 in
       let other : level n k ≢ suc h = λ e. false≢true (sym new ∙ eq-eqb (level n k) (suc h) e) in
@@ -44,43 +44,43 @@ module _ (n : Nodes) (h : ℕ) where
   merged_start = record { counted = refl; kept = refl }
 
   -- past numbers that are at neither height
-  pub merged_gap : (from to taken : ℕ) (above : List ℕ) → IsMerged n h from taken above → from ≤ to → ((k : ℕ) → from ≤ k → k < to → stands n h k ≡ false) → ((k : ℕ) → from ≤ k → k < to → has_level (levels n) (suc h) k ≡ false) → IsMerged n h to taken above
+  pub merged_gap : (from to taken : ℕ) (above : List ℕ) → IsMerged n h from taken above → from ≤ to → ((k : ℕ) → from ≤ k → k < to → is_at n h k ≡ false) → ((k : ℕ) → from ≤ k → k < to → has_level (levels n) (suc h) k ≡ false) → IsMerged n h to taken above
   merged_gap from to taken above is l old new = record {
-    counted = is.counted ∙ ap length (sym (filter_gap (stands n h) from to l old));
-    kept = is.kept ∙ sym (filter_gap (stands n (suc h)) from to l (λ k u v. nor_above k (old k u v) (new k u v)));
+    counted = is.counted ∙ ap length (sym (filter_gap (is_at n h) from to l old));
+    kept = is.kept ∙ sym (filter_gap (is_at n (suc h)) from to l (λ k u v. nor_above k (old k u v) (new k u v)));
   }
 
   -- with a node of the row below
-  pub merged_old : (up k taken : ℕ) (above added : List ℕ) → up ≡ suc h → IsMerged n h k taken above → stands n h k ≡ true → added ≡ above ++ cond (is_used_above n up k) (k ∷ []) [] → IsMerged n h (k + 1) (taken + 1) added
+  pub merged_old : (up k taken : ℕ) (above added : List ℕ) → up ≡ suc h → IsMerged n h k taken above → is_at n h k ≡ true → added ≡ above ++ cond (is_used_above n up k) (k ∷ []) [] → IsMerged n h (k + 1) (taken + 1) added
   merged_old up k taken above added next is here e = record {
-    counted = omega (arith, is.counted, ap length (filter_range_yes (stands n h) k here), length_push (filter (stands n h) (range_with_len 0 k)) k);
-    kept = e ∙ ap₂ (λ xs b. xs ++ cond b (k ∷ []) []) is.kept (ap (λ i. is_used_above n i k) next ∙ sym (above_low k (let low = level_low h k here in omega (arith, low)))) ∙ sym (filter_range_more (stands n (suc h)) k);
+    counted = omega (arith, is.counted, ap length (filter_range_yes (is_at n h) k here), length_push (filter (is_at n h) (range_with_len 0 k)) k);
+    kept = e ∙ ap₂ (λ xs b. xs ++ cond b (k ∷ []) []) is.kept (ap (λ i. is_used_above n i k) next ∙ sym (above_low k (let low = level_low h k here in omega (arith, low)))) ∙ sym (filter_range_more (is_at n (suc h)) k);
   }
 
   -- with a node of the next level
   pub merged_new : (up k taken : ℕ) (above added : List ℕ) → up ≡ suc h → IsMerged n h k taken above → level n k ≡ suc h → added ≡ above ++ cond (is_used_above n up k) (k ∷ []) [] → IsMerged n h (k + 1) taken added
   merged_new up k taken above added next is here e = record {
-    counted = is.counted ∙ ap length (sym (filter_range_no (stands n h) k (new_apart k here)));
-    kept = e ∙ ap₂ (λ xs b. xs ++ cond b (k ∷ []) []) is.kept (ap (λ i. is_used_above n i k) next ∙ sym (above_low k (omega (arith, here)))) ∙ sym (filter_range_more (stands n (suc h)) k);
+    counted = is.counted ∙ ap length (sym (filter_range_no (is_at n h) k (new_apart k here)));
+    kept = e ∙ ap₂ (λ xs b. xs ++ cond b (k ∷ []) []) is.kept (ap (λ i. is_used_above n i k) next ∙ sym (above_low k (omega (arith, here)))) ∙ sym (filter_range_more (is_at n (suc h)) k);
   }
 
   -- the next of the row below
-  pub next_below : (from taken : ℕ) (above below : List ℕ) → h < height_of n → from ≤ length n.nodes → IsMerged n h from taken above → below ≡ row n h → taken < length below → IsNext (stands n h) (length n.nodes) from (get_or below taken 0) × (get_or below taken 0 < length n.nodes)
+  pub next_below : (from taken : ℕ) (above below : List ℕ) → h < height_of n → from ≤ length n.nodes → IsMerged n h from taken above → below ≡ row n h → taken < length below → IsNext (is_at n h) (length n.nodes) from (get_or below taken 0) × (get_or below taken 0 < length n.nodes)
   next_below from taken above below l within is e more =
-      let rows = filter (stands n h) (range_with_len 0 (length n.nodes)) in
+      let rows = filter (is_at n h) (range_with_len 0 (length n.nodes)) in
       let same : below ≡ rows = e ∙ row_below n h l in
-      let next = next_in_filter (stands n h) (length n.nodes) from taken within is.counted (subst (λ xs. taken < length xs) same more) in
-      subst (λ xs. IsNext (stands n h) (length n.nodes) from (get_or xs taken 0) × (get_or xs taken 0 < length n.nodes)) (sym same) next
+      let next = next_in_filter (is_at n h) (length n.nodes) from taken within is.counted (subst (λ xs. taken < length xs) same more) in
+      subst (λ xs. IsNext (is_at n h) (length n.nodes) from (get_or xs taken 0) × (get_or xs taken 0 < length n.nodes)) (sym same) next
 
   -- where the row below is at its end, none is left
-  pub none_below : (from taken : ℕ) (above below : List ℕ) → h < height_of n → from ≤ length n.nodes → IsMerged n h from taken above → below ≡ row n h → length below ≤ taken → IsNext (stands n h) (length n.nodes) from (length n.nodes) × (taken ≡ length below)
+  pub none_below : (from taken : ℕ) (above below : List ℕ) → h < height_of n → from ≤ length n.nodes → IsMerged n h from taken above → below ≡ row n h → length below ≤ taken → IsNext (is_at n h) (length n.nodes) from (length n.nodes) × (taken ≡ length below)
   none_below from taken above below l within is e ended =
-      let same : below ≡ filter (stands n h) (range_with_len 0 (length n.nodes)) = e ∙ row_below n h l in
-      let none = next_past_filter (stands n h) (length n.nodes) from taken within is.counted (subst (λ xs. length xs ≤ taken) same ended) in
-      (none, is.counted ∙ ap length (sym (filter_gap (stands n h) from (length n.nodes) within none.none)) ∙ ap length (sym same))
+      let same : below ≡ filter (is_at n h) (range_with_len 0 (length n.nodes)) = e ∙ row_below n h l in
+      let none = next_past_filter (is_at n h) (length n.nodes) from taken within is.counted (subst (λ xs. length xs ≤ taken) same ended) in
+      (none, is.counted ∙ ap length (sym (filter_gap (is_at n h) from (length n.nodes) within none.none)) ∙ ap length (sym same))
 
   -- the next of the row below is there after as many as were taken
-  pub at_hand : (from taken : ℕ) (above below : List ℕ) → h < height_of n → from ≤ length n.nodes → IsMerged n h from taken above → below ≡ row n h → taken < length below → (stands n h (get_or below taken 0) ≡ true) × (taken ≡ length (filter (stands n h) (range_with_len 0 (get_or below taken 0))))
+  pub at_hand : (from taken : ℕ) (above below : List ℕ) → h < height_of n → from ≤ length n.nodes → IsMerged n h from taken above → below ≡ row n h → taken < length below → (is_at n h (get_or below taken 0) ≡ true) × (taken ≡ length (filter (is_at n h) (range_with_len 0 (get_or below taken 0))))
   at_hand from taken above below l within is e more =
       let next = next_below from taken above below l within is e more in
-      (next.0.here next.1, is.counted ∙ ap length (sym (filter_gap (stands n h) from (get_or below taken 0) next.0.past next.0.none)))
+      (next.0.here next.1, is.counted ∙ ap length (sym (filter_gap (is_at n h) from (get_or below taken 0) next.0.past next.0.none)))

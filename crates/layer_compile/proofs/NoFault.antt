@@ -20,7 +20,7 @@ use Rattle.node_core.specs.declared.node.Node.{Node}
 use Rattle.node_core.specs.declared.node.Node.TheVariants.{Input, Constant, Operation}
 use Rattle.node_core.specs.Nodes.{Nodes, IsNodeList, IsFineAt, node_at}
 use Rattle.layer_compile.specs.Levels.{level, height_of}
-use Rattle.layer_compile.specs.Rows.{stands, row, place, IsAbove}
+use Rattle.layer_compile.specs.Rows.{is_at, row, place, IsAbove}
 use Rattle.layer_compile.specs.Circuits.{size_for, padded, placed, gate_above, layers_from, leaf_of, circuit_of, too_wide, refusal_of, AreKept}
 use Rattle.layer_compile.proofs.Places.{filter_place, filter_within}
 use Rattle.layer_compile.proofs.Standing.{row_above, row_below, row_top, carried_stands, operands_stand, not_leaf}
@@ -39,7 +39,7 @@ pub record IsSize (m : ℕ) : Type 0 where
   pub power : size_for m ≡ 2 ^ k
   pub least : 1 ≤ k
   pub most : k ≤ 16
-  pub room : m ≤ size_for m
+  pub capacity : m ≤ size_for m
 
 pub sized : (m : ℕ) → m ≤ 65536 → IsSize m
 sized m l =
@@ -54,7 +54,7 @@ sized m l =
       power = power;
       least = omega (arith, here.1);
       most = omega (arith, here.1, at.1);
-      room = subst (λ s. m ≤ s) (sym (power ∙ ap (λ (k : ℕ). 2 ^ k) (sym here.1))) enough;
+      capacity = subst (λ s. m ≤ s) (sym (power ∙ ap (λ (k : ℕ). 2 ^ k) (sym here.1))) enough;
     }
 
 -- no size is greater than the greatest
@@ -125,8 +125,8 @@ module _ (limits : Limits) (kept : AreKept limits) (n : Nodes) (is : IsNodeList 
   narrow : (h : ℕ) → h ≤ height_of n → 1 + length (row n h) ≤ 65536
   narrow h l =
       let fits : 1 + length (row n h) ≤ 2 ^ limits.exponent = leb-true _ _ (unless-none _ _ (none_below (too_wide limits n) (height_of n + 1) h (or_none _ _ none).1 (omega arith))) in
-      let room : 2 ^ limits.exponent ≤ 65536 = pow-le-pow_right {n = 2} (omega arith) kept.exponent in
-      omega (arith, fits, room)
+      let capacity : 2 ^ limits.exponent ≤ 65536 = pow-le-pow_right {n = 2} (omega arith) kept.exponent in
+      omega (arith, fits, capacity)
 
   size : (h : ℕ) → h ≤ height_of n → IsSize (1 + length (row n h))
   size h l = sized (1 + length (row n h)) (narrow h l)
@@ -140,10 +140,10 @@ module _ (limits : Limits) (kept : AreKept limits) (n : Nodes) (is : IsNodeList 
   width_at i (suc h) e =
       let gates = map (gate_above n h) (row n (suc h)) in
       let many = length-map (row n (suc h)) (gate_above n h) in
-      let room = (size (suc h) (omega arith)).room in
+      let capacity = (size (suc h) (omega arith)).capacity in
       cond-true _ _ _ (lt-ltb i (height (circuit_of n)) (omega (arith, tall)))
       ∙ ap length (layer_at n (height_of n) i h e)
-      ∙ length-padded gates (subst (λ m. 1 + m ≤ size_for (1 + m)) (sym many) room)
+      ∙ length-padded gates (subst (λ m. 1 + m ≤ size_for (1 + m)) (sym many) capacity)
       ∙ ap (λ m. size_for (1 + m)) many
 
   gate_at : (i h g : ℕ) → i + suc h ≡ height_of n → gate_of (circuit_of n) i g ≡ get_or (padded (map (gate_above n h) (row n (suc h)))) g zero_gate
@@ -183,8 +183,8 @@ module _ (limits : Limits) (kept : AreKept limits) (n : Nodes) (is : IsNodeList 
       let h = height_of n - i in
       let e : i + h ≡ height_of n = omega (arith, tall) in
       let width = width_at i h e in
-      let room = (size h (omega arith)).room in
-      let holds : held_by (circuit_of n) i ≤ width_of (circuit_of n) i = omega (arith, held i h e, width, room) in
+      let capacity = (size h (omega arith)).capacity in
+      let holds : held_by (circuit_of n) i ≤ width_of (circuit_of n) i = omega (arith, held i h e, width, capacity) in
       unless_true (is_some (exponent_of greatest (width_of (circuit_of n) i)) && nat_le (held_by (circuit_of n) i) (width_of (circuit_of n) i)) _
       (and_from _ _ (ap (λ w. is_some (exponent_of greatest w)) width ∙ size_is_width (1 + length (row n h)) (narrow h (omega arith))) (le-leb (held_by (circuit_of n) i) (width_of (circuit_of n) i) holds))
 
@@ -213,8 +213,8 @@ module _ (limits : Limits) (kept : AreKept limits) (n : Nodes) (is : IsNodeList 
         | inr gate ↦ or_left _ _ (ap not gate)
       ])
 
-  place_below : (h k : ℕ) → h < height_of n → (k < length n.nodes) × (stands n h k ≡ true) → place n h k < 1 + length (row n h)
-  place_below h k l s = omega (arith, filter_place (stands n h) (length n.nodes) k s.0 s.1, ap length (row_below n h l))
+  place_below : (h k : ℕ) → h < height_of n → (k < length n.nodes) × (is_at n h k ≡ true) → place n h k < 1 + length (row n h)
+  place_below h k l s = omega (arith, filter_place (is_at n h) (length n.nodes) k s.0 s.1, ap length (row_below n h l))
 
   own_below : (h k : ℕ) (node : Node) → h < height_of n → IsAbove n h k → level n k ≡ suc h → node_at n k ≡ node → IsOver (1 + length (row n h)) (placed n h node)
   own_below h k (Input j) l above at e = absurd (not_leaf n is h k (Input j) above at e refl)
@@ -250,9 +250,9 @@ module _ (limits : Limits) (kept : AreKept limits) (n : Nodes) (is : IsNodeList 
       let h = height_of n - suc i in
       let below = operands_below i h g (omega (arith, tall)) in
       let width = width_at (i + 1) h (omega (arith, tall)) in
-      let room = (size h (omega arith)).room in
-      let left : (gate_of p i g).left < width_of p (i + 1) = omega (arith, below.left, width, room) in
-      let right : (gate_of p i g).right < width_of p (i + 1) = omega (arith, below.right, width, room) in
+      let capacity = (size h (omega arith)).capacity in
+      let left : (gate_of p i g).left < width_of p (i + 1) = omega (arith, below.left, width, capacity) in
+      let right : (gate_of p i g).right < width_of p (i + 1) = omega (arith, below.right, width, capacity) in
       ap₂ option_or (unless_true (nat_lt (gate_of p i g).left (width_of p (i + 1))) _ (lt-ltb _ _ left)) (unless_true (nat_lt (gate_of p i g).right (width_of p (i + 1))) _ (lt-ltb _ _ right))
 
   leaf_there : (k : ℕ) (node : Node) → IsFineAt n.inputs k node → is_there n.inputs (leaf_of node) ≡ true
@@ -264,9 +264,9 @@ module _ (limits : Limits) (kept : AreKept limits) (n : Nodes) (is : IsNodeList 
   no_leaf_fault k l =
       let there = λ (leaf : core.Leaf). is_there n.inputs leaf ≡ true in
       let leaf_at = λ (k : ℕ). leaf_of (node_at n k) in
-      let rows = filter (stands n 0) (range_with_len 0 (length n.nodes)) in
-      let each = λ (k : ℕ) (s : (k < length n.nodes) × (stands n 0 k ≡ true)). leaf_there k (node_at n k) (is.fine k s.0) in
-      let all = All-map there leaf_at (row n 0) (All-same (λ k. there (leaf_at k)) (row n 0) rows (row_below n 0 (omega arith)) (All-weaker _ (λ k. there (leaf_at k)) each rows (filter_within (stands n 0) (length n.nodes)))) in
+      let rows = filter (is_at n 0) (range_with_len 0 (length n.nodes)) in
+      let each = λ (k : ℕ) (s : (k < length n.nodes) × (is_at n 0 k ≡ true)). leaf_there k (node_at n k) (is.fine k s.0) in
+      let all = All-map there leaf_at (row n 0) (All-same (λ k. there (leaf_at k)) (row n 0) rows (row_below n 0 (omega arith)) (All-weaker _ (λ k. there (leaf_at k)) each rows (filter_within (is_at n 0) (length n.nodes)))) in
       unless_true _ _ (All-get_or there (circuit_of n).leaves k (leaf.Input 0) l all)
 
   pub faultless : fault_of greatest (circuit_of n) ≡ None

@@ -51,12 +51,12 @@ module _ (p : ℕ → Bool) where
     pub each : (k : ℕ) → k < many → p k ≡ true → length (those_below k) < i → get_or places k 0 ≡ 1 + length (those_below k)
 
   pub written_more : (many i x : ℕ) (places : List ℕ) → many ≤ length places → AreWritten many i places → i < length (those_below many) → x ≡ get_or (those_below many) i 0 → AreWritten many (i + 1) (set places x (i + 1))
-  written_more many i x places room so_far l read = record {
+  written_more many i x places capacity so_far l read = record {
     each = λ k u passes before.
         elim (cases_eq k x) [
           | inl here ↦
               let rank : length (those_below k) ≡ i = ap (λ (j : ℕ). length (those_below j)) (here ∙ read) ∙ filter_rank many i 0 l in
-              ap (λ (j : ℕ). get_or (set places x (i + 1)) j 0) here ∙ get_or-set_same places x (i + 1) 0 (omega (arith, here, u, room)) ∙ (let e : i + 1 ≡ 1 + length (those_below k) = omega (arith, rank) in e)
+              ap (λ (j : ℕ). get_or (set places x (i + 1)) j 0) here ∙ get_or-set_same places x (i + 1) 0 (omega (arith, here, u, capacity)) ∙ (let e : i + 1 ≡ 1 + length (those_below k) = omega (arith, rank) in e)
           | inr other ↦
               let apart : k ≢ x = other in
               let earlier : length (those_below k) ≢ i = λ e. other (sym (filter_at p many k 0 u passes) ∙ ap (λ (j : ℕ). get_or (those_below many) j 0) e ∙ sym read) in

@@ -13,7 +13,7 @@ use Rattle.node_core.specs.declared.node.Node.TheVariants.{Input, Constant, Oper
 use Rattle.node_core.specs.Nodes.{Nodes, IsNodeList, node_at, node_value, values}
 use Rattle.node_core.proofs.NodeValues.{value_at}
 use Rattle.layer_compile.specs.Levels.{level, levels, level_of, height_of}
-use Rattle.layer_compile.specs.Rows.{stands, row, place, IsAbove}
+use Rattle.layer_compile.specs.Rows.{is_at, row, place, IsAbove}
 use Rattle.layer_compile.specs.Circuits.{size_for, padded, placed, gate_above, layers_from, leaf_of, circuit_of, output_values}
 use Rattle.layer_compile.proofs.LevelsOf.{level_at}
 use Rattle.layer_compile.proofs.Places.{filter_at, filter_place, filter_within}
@@ -34,16 +34,16 @@ module _ (n : Nodes) (is : IsNodeList n) (inputs : List F) where
   row_values h = padded_values (size_for (1 + length (row n h))) (map value (row n h))
 
   -- a node that is at a height has its value at its place
-  pub read_place : (h k : ℕ) → h < height_of n → k < length n.nodes → stands n h k ≡ true → get_or (row_values h) (place n h k) zero_f ≡ value k
+  pub read_place : (h k : ℕ) → h < height_of n → k < length n.nodes → is_at n h k ≡ true → get_or (row_values h) (place n h k) zero_f ≡ value k
   read_place h k l m s =
       let count = length n.nodes in
-      let rows = filter (stands n h) (range_with_len 0 count) in
-      let j = length (filter (stands n h) (range_with_len 0 k)) in
-      let there : j < length rows = filter_place (stands n h) count k m s in
+      let rows = filter (is_at n h) (range_with_len 0 count) in
+      let j = length (filter (is_at n h) (range_with_len 0 k)) in
+      let there : j < length rows = filter_place (is_at n h) count k m s in
       ap (λ r. get_or (padded_values (size_for (1 + length r)) (map value r)) (1 + j) zero_f) (row_below n h l)
       ∙ get_or_behind zero_f (map value rows) (replicate (size_for (1 + length rows) - (1 + length (map value rows))) zero_f) j zero_f (omega (arith, length-map rows value))
       ∙ get_or-map value rows j 0 zero_f there
-      ∙ ap value (filter_at (stands n h) count k 0 m s)
+      ∙ ap value (filter_at (is_at n h) count k 0 m s)
 
   -- the gate of a node at its own level
   own_gate : (h k : ℕ) (node : Node) → h < height_of n → IsAbove n h k → level n k ≡ suc h → node_at n k ≡ node → gate_value (row_values h) (placed n h node) ≡ node_value inputs (values n inputs) node
@@ -85,11 +85,11 @@ module _ (n : Nodes) (is : IsNodeList n) (inputs : List F) where
 
   leaves_right : map (leaf_value inputs) (map (λ k. leaf_of (node_at n k)) (row n 0)) ≡ map value (row n 0)
   leaves_right =
-      let rows = filter (stands n 0) (range_with_len 0 (length n.nodes)) in
-      let each = λ (k : ℕ) (s : (k < length n.nodes) × (stands n 0 k ≡ true)). leaf_right k (node_at n k) (sym (level_at n k is s.0) ∙ eqb-true _ _ s.1) ∙ sym (value_at n inputs k is s.0) in
+      let rows = filter (is_at n 0) (range_with_len 0 (length n.nodes)) in
+      let each = λ (k : ℕ) (s : (k < length n.nodes) × (is_at n 0 k ≡ true)). leaf_right k (node_at n k) (sym (level_at n k is s.0) ∙ eqb-true _ _ s.1) ∙ sym (value_at n inputs k is s.0) in
       let leaf = λ (k : ℕ). leaf_value inputs (leaf_of (node_at n k)) in
       map-map (leaf_value inputs) (λ k. leaf_of (node_at n k)) (row n 0)
-      ∙ map_agree leaf value (row n 0) (All-same (λ k. leaf k ≡ value k) (row n 0) rows (row_below n 0 (omega arith)) (All-weaker _ (λ k. leaf k ≡ value k) each rows (filter_within (stands n 0) (length n.nodes))))
+      ∙ map_agree leaf value (row n 0) (All-same (λ k. leaf k ≡ value k) (row n 0) rows (row_below n 0 (omega arith)) (All-weaker _ (λ k. leaf k ≡ value k) each rows (filter_within (is_at n 0) (length n.nodes))))
 
   abbrev pub input_values : List F
   input_values = padded_values (size_for (1 + length (row n 0))) (map (leaf_value inputs) (map (λ k. leaf_of (node_at n k)) (row n 0)))

@@ -32,7 +32,7 @@ pub fn linked(alloc: Global, levels: &[usize]) -> Result<Chains, AllocError>
 fn link(first: &mut [u32], next: &mut [u32], levels: &[usize])
     requires few { length levels.now < 2 ^ 32 }
     requires low { (k : ℕ) → k < length levels.now → slice_index levels.now k ≤ k }
-    requires room { length first.old ≡ length levels.now + 1 }
+    requires capacity { length first.old ≡ length levels.now + 1 }
     requires places { length next.old ≡ length levels.now }
     requires none { (h : ℕ) → h ≤ length levels.now → slice_index first.old h ≡ length levels.now }
     ensures { AreChains levels.now first.new next.new }

@@ -33,7 +33,7 @@ impl<'a> Plan<'a> {
         nodes: &[u32],
     ) -> Result<Vec<CircuitGate>, AllocError>
         requires places { ArePlaces self.now.list.now height places.now }
-        requires room { length places.now ≡ length self.now.list.now.nodes }
+        requires capacity { length places.now ≡ length self.now.list.now.nodes }
         requires under { height < height_of self.now.list.now }
         requires nodes { All (IsAbove self.now.list.now height) nodes.now }
         ensures { IfOk result (λ v. AreGatesAbove self.now.list.now height nodes.now v.items) }
@@ -49,7 +49,7 @@ impl<'a> Plan<'a> {
     /// The gate at the next height of a node that is there.
     fn gate_above(&self, places: &[u32], height: usize, k: u32) -> CircuitGate
         requires places { ArePlaces self.now.list.now height places.now }
-        requires room { length places.now ≡ length self.now.list.now.nodes }
+        requires capacity { length places.now ≡ length self.now.list.now.nodes }
         requires under { height < height_of self.now.list.now }
         requires node { IsAbove self.now.list.now height k }
         ensures { result ≡ gate_above self.now.list.now height k }
@@ -64,7 +64,7 @@ impl<'a> Plan<'a> {
     /// An operation on the places of its operands.
     pub fn placed(&self, places: &[u32], height: usize, k: usize) -> CircuitGate
         requires places { ArePlaces self.now.list.now height places.now }
-        requires room { length places.now ≡ length self.now.list.now.nodes }
+        requires capacity { length places.now ≡ length self.now.list.now.nodes }
         requires node { IsAbove self.now.list.now height k }
         requires own { level self.now.list.now k ≡ suc height }
         ensures { result ≡ placed self.now.list.now height (node_at self.now.list.now k) }

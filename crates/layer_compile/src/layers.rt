@@ -27,7 +27,7 @@ impl<'a> Plan<'a> {
         requires low { height_of self.now.list.now ≤ limits.now.height }
         requires leaves { leaves.items ≡ row self.now.list.now 0 }
         requires narrow { too_wide limits.now self.now.list.now 0 ≡ None }
-        requires room { length places.old ≡ length self.now.list.now.nodes }
+        requires capacity { length places.old ≡ length self.now.list.now.nodes }
         ensures made { IfOk result
             (λ v. v.items ≡ layers_from self.now.list.now (height_of self.now.list.now)) }
         ensures accepted { OnOk result (refusal_of limits.now self.now.list.now ≡ None) }

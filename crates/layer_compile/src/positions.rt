@@ -12,7 +12,7 @@ impl<'a> Plan<'a> {
         requires few { length self.now.list.now.nodes < 2 ^ 32 }
         requires under { height < height_of self.now.list.now }
         requires nodes { nodes.now ≡ row self.now.list.now height }
-        requires room { length places.old ≡ length self.now.list.now.nodes }
+        requires capacity { length places.old ≡ length self.now.list.now.nodes }
         ensures { ArePlaces self.now.list.now height places.new }
     {
         for (i, k) in nodes.iter().enumerate() {

@@ -45,7 +45,7 @@ impl<'a> Plan<'a> {
     ) -> Result<Row, AllocError>
         requires fine { IsNodeList self.now.list.now }
         requires places { ArePlaces self.now.list.now height places.now }
-        requires room { length places.now ≡ length self.now.list.now.nodes }
+        requires capacity { length places.now ≡ length self.now.list.now.nodes }
         requires under { height < height_of self.now.list.now }
         requires below { below.now ≡ row self.now.list.now height }
         ensures nodes { IfOk result (λ r. r.nodes.items ≡ row self.now.list.now (suc height)) }
@@ -71,7 +71,7 @@ impl<'a> Plan<'a> {
         below: &[u32],
     ) -> Result<Row, AllocError>
         requires places { ArePlaces self.now.list.now height places.now }
-        requires room { length places.now ≡ length self.now.list.now.nodes }
+        requires capacity { length places.now ≡ length self.now.list.now.nodes }
         requires under { height + 1 < height_of self.now.list.now }
         requires below { below.now ≡ row self.now.list.now height }
         ensures nodes { IfOk result (λ r. r.nodes.items ≡ row self.now.list.now (suc height)) }
@@ -102,7 +102,7 @@ impl<'a> Plan<'a> {
         requires inside { k < length self.now.list.now.nodes }
         requires own { level self.now.list.now k ≡ suc height }
         requires places { ArePlaces self.now.list.now height places.now }
-        requires room { length places.now ≡ length self.now.list.now.nodes }
+        requires capacity { length places.now ≡ length self.now.list.now.nodes }
         requires under { height + 1 < height_of self.now.list.now }
         requires gates { AreGatesAbove self.now.list.now height above.old.nodes.items
             above.old.gates.items }

@@ -8,7 +8,7 @@ use circuit_eval::laws::tables_fit;
 use circuit_eval::{Values, layer_values};
 use field_ext::{Ext, Fp};
 use mle_table::Table;
-use round_tables::{GateTables, Room};
+use round_tables::{Buffers, GateTables};
 use std::alloc::Global;
 use std::marker::Sync;
 use std::process::Abort;
@@ -85,8 +85,8 @@ fn copies_a_value_outside_the_base_field(rt: HostRuntime) -> Result<(), Fail> {
     if values.k() != 1 {
         return Err(Fail::new("another size"));
     }
-    let room = Room::new(rt.alloc(), 2, 2)?;
-    let Ok(mut sum) = GateTables::start_in(room, &gates, &values, &point) else {
+    let buffers = Buffers::new(rt.alloc(), 2, 2)?;
+    let Ok(mut sum) = GateTables::start_in(buffers, &gates, &values, &point) else {
         return Err(Fail::new("too little room"));
     };
     let rounds = [([0, -5, 15], 3), ([120, -80, -40], 4)];

@@ -28,7 +28,7 @@ module _ {A : Type 0} (o : Ops A) (l : Laws A o) where
       row_value o new (to + j) (done + 1) e ≡ between o (row_value o old (at + j) done e) (row_value o old (at' + j) done e) (o.add start (o.mul e step)) →
       row_value o (set (set new (to + i + 1) next) (to + i) first) (to + i) (done + 1 + 1) e
       ≡ between o (row_value o old (at + i) (done + 1) e) (row_value o old (at' + i) (done + 1) e) (o.add start (o.mul e step))
-  row_more new old to at at' i j done start step low high next first d e is room hl hh hd hn hf before =
+  row_more new old to at at' i j done start step low high next first d e is capacity hl hh hd hn hf before =
       let new' : List A = set (set new (to + i + 1) next) (to + i) first in
       let m : done + 1 ≡ suc done = add-one done in
       let mm : done + 1 + 1 ≡ suc (suc done) = omega arith in
@@ -37,7 +37,7 @@ module _ {A : Type 0} (o : Ops A) (l : Laws A o) where
       let bj : at' + j ≡ at' + i + 1 = omega arith in
       let apart : to + i + 1 ≢ to + i = omega arith in
       let here : get_or new' (to + i) o.zero ≡ first = get_or-set_same (set new (to + i + 1) next) (to + i) first o.zero (omega (arith, length-set new (to + i + 1) next)) in
-      let then : get_or new' (to + i + 1) o.zero ≡ next = get_or-set_other (set new (to + i + 1) next) (to + i) (to + i + 1) first o.zero apart ∙ get_or-set_same new (to + i + 1) next o.zero room in
+      let then : get_or new' (to + i + 1) o.zero ≡ next = get_or-set_other (set new (to + i + 1) next) (to + i) (to + i + 1) first o.zero apart ∙ get_or-set_same new (to + i + 1) next o.zero capacity in
       let rest : row_value o new' (to + i + 1 + 1) done e ≡ row_value o new (to + i + 1 + 1) done e =
       row-same new' new (to + i + 1 + 1) done e (λ x u v. untouched x (omega arith) (omega arith)) in
       let inner : o.add (get_or new (to + i + 1) o.zero) (o.mul e (row_value o new (to + i + 1 + 1) done e))

@@ -9,7 +9,7 @@ use field_ext::Ext;
 /// Writes the point at `t` of the line from `b`, at 0, to `c`, at 1: `b + t (c - b)`.
 pub fn point_at(b: &[Ext], c: &[Ext], t: Ext, point: &mut [Ext])
     requires end { length c.now ≡ length b.now }
-    requires room { length point.old ≡ length b.now }
+    requires capacity { length point.old ≡ length b.now }
     ensures { point.new ≡ point_between k_ops b.now c.now t }
 {
     for j in 0..b.len() {

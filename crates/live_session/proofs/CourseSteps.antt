@@ -22,7 +22,7 @@ use Rattle.proof_wire.specs.Forms.{last_degree}
 use Rattle.proof_wire.specs.declared.form.ProofForm.TheVariants.{Line}
 use Rattle.round_tables.specs.LayerSum.{LayerSum, next_poly}
 use Rattle.live_session.specs.Begun.{HasTables, IsIn, message_due}
-use Rattle.live_session.specs.ProverState.{IsAfter, IsStage, IsWithin, StandsAt, tables_at, values_below}
+use Rattle.live_session.specs.ProverState.{IsAfter, IsStage, IsWithin, IsAt, tables_at, values_below}
 use Rattle.live_session.specs.Proving.{honest_for, honest_messages, layer_messages, message_bytes, prover_sent}
 use Rattle.live_session.specs.declared.course.Course.{Course}
 use Rattle.live_session.specs.declared.course.Stage.{Stage}
@@ -106,22 +106,22 @@ module _ (p : Parts) (inputs : List F) (words : List K) (u i base : ℕ) (sent :
       let bound : List K = tables.bound in
       let bound' : List K = tables.bound ++ r ∷ [] in
       let size : length (tables.bound ++ r ∷ []) ≡ length tables.bound + 1 = length-append tables.bound (r ∷ []) in
-      let room : length tables.bound < exponent_at p (i + 1) + exponent_at p (i + 1) = omega (arith, left, same_k) in
+      let capacity : length tables.bound < exponent_at p (i + 1) + exponent_at p (i + 1) = omega (arith, left, same_k) in
       let same : record tables { bound = bound' } ≡ tables_at p inputs i is.place bound' = λ j. record (is.tables_are j) { bound = bound' } in
       let due : message_due new ≡ get_or (layer_messages layer values is.place bound') (length bound + 1) [] =
-      ap message_due (is-new ∙ same) ∙ due_is p inputs i is.place bound' (omega (arith, size, room))
+      ap message_due (is-new ∙ same) ∙ due_is p inputs i is.place bound' (omega (arith, size, capacity))
       ∙ ap (λ (n : ℕ). get_or (layer_messages layer values is.place bound') n []) size in
-      let front : List (List K) = is.front ++ take (length bound + 1) (layer_messages layer values is.place bound) in
-      let messages : message_bytes (is.front ++ take (length (tables.bound ++ r ∷ []) + 1) (layer_messages layer values is.place bound')) ≡ sent' =
-      ap (λ (n : ℕ). message_bytes (is.front ++ take (n + 1) (layer_messages layer values is.place bound'))) size
-      ∙ ap (λ (qs : List (List K)). message_bytes (is.front ++ qs)) (next_message layer values is.place bound r room)
-      ∙ ap message_bytes (sym (append_assoc is.front (take (length bound + 1) (layer_messages layer values is.place bound)) (get_or (layer_messages layer values is.place bound') (length bound + 1) [] ∷ [])))
-      ∙ message_more front (get_or (layer_messages layer values is.place bound') (length bound + 1) [])
+      let prefix : List (List K) = is.prefix ++ take (length bound + 1) (layer_messages layer values is.place bound) in
+      let messages : message_bytes (is.prefix ++ take (length (tables.bound ++ r ∷ []) + 1) (layer_messages layer values is.place bound')) ≡ sent' =
+      ap (λ (n : ℕ). message_bytes (is.prefix ++ take (n + 1) (layer_messages layer values is.place bound'))) size
+      ∙ ap (λ (qs : List (List K)). message_bytes (is.prefix ++ qs)) (next_message layer values is.place bound r capacity)
+      ∙ ap message_bytes (sym (append_assoc is.prefix (take (length bound + 1) (layer_messages layer values is.place bound)) (get_or (layer_messages layer values is.place bound') (length bound + 1) [] ∷ [])))
+      ∙ message_more prefix (get_or (layer_messages layer values is.place bound') (length bound + 1) [])
       ∙ ap₂ (λ (xs : List ℕ) (q : List K). xs ++ flat_map bytes_of q) (sym is.sent_is) (sym due)
       ∙ sym is-sent in
       subst (IsWithin p inputs (take (u + 1) words) i base sent') (sym is-new) (record {
         done = is.done;
-        front = is.front;
+        prefix = is.prefix;
         place = is.place;
         above = is.above;
         drawn = drawn_more;
@@ -131,7 +131,7 @@ module _ (p : Parts) (inputs : List F) (words : List K) (u i base : ℕ) (sent :
         position = is.position;
         tables_are = same;
         few = omega (arith, size, left);
-        whole = subst (λ (z : List K). (more : List K) → honest_messages (layers_of p) (input_table p inputs) (At z) (is.done ++ more) ≡ is.front ++ honest_messages (layers_below p i) (input_table p inputs) is.place more) same_point is.whole;
+        whole = subst (λ (z : List K). (more : List K) → honest_messages (layers_of p) (input_table p inputs) (At z) (is.done ++ more) ≡ is.prefix ++ honest_messages (layers_below p i) (input_table p inputs) is.place more) same_point is.whole;
         sent_is = sym messages;
       })
 
@@ -187,25 +187,25 @@ module _ (p : Parts) (inputs : List F) (words : List K) (u i base : ℕ) (sent :
     rest_here more = drop_at all more (k + k + 1) (omega (arith, length-append tables.bound (r ∷ []), all_bound))
 
     whole_below : (more : List K) → honest_messages (layers_of p) (input_table p inputs) (At (take k₀ (take (u + 1) words))) ((is.done ++ all) ++ more)
-        ≡ (is.front ++ mine) ++ honest_messages (layers_below p (i + 1)) (input_table p inputs) below_place more
+        ≡ (is.prefix ++ mine) ++ honest_messages (layers_below p (i + 1)) (input_table p inputs) below_place more
     whole_below more =
         let input = input_table p inputs in
         let below = layers_below p (i + 1) in
         ap (λ (rs : List K). honest_messages (layers_of p) input (At (take k₀ (take (u + 1) words))) rs) (append_assoc is.done all more)
         ∙ ap (λ (z : List K). honest_messages (layers_of p) input (At z) (is.done ++ (all ++ more))) (sym same_point)
         ∙ is.whole (all ++ more)
-        ∙ ap (λ (layers : List GateLayer). is.front ++ honest_messages layers input is.place (all ++ more)) (below_more p i is.above)
-        ∙ (λ j. is.front ++ (whole_here more j ++ honest_messages below input (next_here more j) (rest_here more j)))
-        ∙ sym (append_assoc is.front mine (honest_messages below input below_place more))
+        ∙ ap (λ (layers : List GateLayer). is.prefix ++ honest_messages layers input is.place (all ++ more)) (below_more p i is.above)
+        ∙ (λ j. is.prefix ++ (whole_here more j ++ honest_messages below input (next_here more j) (rest_here more j)))
+        ∙ sym (append_assoc is.prefix mine (honest_messages below input below_place more))
 
-    done_all : length (is.done ++ all) ≡ length (is.front ++ mine)
-    done_all = omega (arith, length-append is.done all, length-append tables.bound (r ∷ []), all_bound, length-append is.front mine, mine_all, is.each)
+    done_all : length (is.done ++ all) ≡ length (is.prefix ++ mine)
+    done_all = omega (arith, length-append is.done all, length-append tables.bound (r ∷ []), all_bound, length-append is.prefix mine, mine_all, is.each)
 
     words_all : u + 1 ≡ k₀ + length (is.done ++ all)
     words_all = omega (arith, length-append is.done all, length-append tables.bound (r ∷ []), first, count, ap length is.split, length-drop k₀ (take u words), length-append is.done tables.bound)
 
-    sent_all : sent ≡ message_bytes (is.front ++ mine)
-    sent_all = is.sent_is ∙ ap (λ (qs : List (List K)). message_bytes (is.front ++ qs)) (take_all (length tables.bound + 1) mine (omega (arith, mine_all, all_bound)))
+    sent_all : sent ≡ message_bytes (is.prefix ++ mine)
+    sent_all = is.sent_is ∙ ap (λ (qs : List (List K)). message_bytes (is.prefix ++ qs)) (take_all (length tables.bound + 1) mine (omega (arith, mine_all, all_bound)))
 
     -- the line's challenge, where there is a layer below
     pub go_down : (place : Place K) (sent' : List ℕ) → place ≡ below_place → i + 1 < height p → sent' ≡ sent ++ flat_map bytes_of (message_due (tables_at p inputs (i + 1) place [])) →
@@ -217,7 +217,7 @@ module _ (p : Parts) (inputs : List F) (words : List K) (u i base : ℕ) (sent :
         let some : 0 < length (layer_messages (layer_at p (i + 1)) (values_below p inputs (i + 1)) place []) = omega (arith, length-layer (layer_at p (i + 1)) (values_below p inputs (i + 1)) place []) in
         record {
           done = is.done ++ all;
-          front = is.front ++ mine;
+          prefix = is.prefix ++ mine;
           place = place;
           above = above;
           drawn = drawn_more;
@@ -227,11 +227,11 @@ module _ (p : Parts) (inputs : List F) (words : List K) (u i base : ℕ) (sent :
           position = over_below place h;
           tables_are = refl;
           few = omega arith;
-          whole = λ more. whole_below more ∙ ap (λ (z : Place K). (is.front ++ mine) ++ honest_messages (layers_below p (i + 1)) (input_table p inputs) z more) (sym h);
+          whole = λ more. whole_below more ∙ ap (λ (z : Place K). (is.prefix ++ mine) ++ honest_messages (layers_below p (i + 1)) (input_table p inputs) z more) (sym h);
           sent_is =
               is-sent ∙ ap₂ (λ (xs : List ℕ) (q : List K). xs ++ flat_map bytes_of q) sent_all (due_is p inputs (i + 1) place [] (omega arith))
-              ∙ sym (message_more (is.front ++ mine) (get_or messages 0 []))
-              ∙ ap (λ (qs : List (List K)). message_bytes ((is.front ++ mine) ++ qs)) (sym (take_more messages 0 [] some));
+              ∙ sym (message_more (is.prefix ++ mine) (get_or messages 0 []))
+              ∙ ap (λ (qs : List (List K)). message_bytes ((is.prefix ++ mine) ++ qs)) (sym (take_more messages 0 [] some));
         }
 
     -- and where there is none
@@ -239,8 +239,8 @@ module _ (p : Parts) (inputs : List F) (words : List K) (u i base : ℕ) (sent :
     ended last =
         let input = input_table p inputs in
         let none : honest_messages (layers_below p (i + 1)) input below_place [] ≡ [] = ap (λ (layers : List GateLayer). honest_messages layers input below_place []) (below_none p (i + 1) (omega (arith, last))) in
-        let honest : honest_messages (layers_of p) (input_table p inputs) (At (take k₀ (take (u + 1) words))) (is.done ++ all) ≡ is.front ++ mine =
-        ap (honest_messages (layers_of p) input (At (take k₀ (take (u + 1) words)))) (sym (append-nil (is.done ++ all))) ∙ whole_below [] ∙ ap (λ (qs : List (List K)). (is.front ++ mine) ++ qs) none ∙ append-nil (is.front ++ mine) in
+        let honest : honest_messages (layers_of p) (input_table p inputs) (At (take k₀ (take (u + 1) words))) (is.done ++ all) ≡ is.prefix ++ mine =
+        ap (honest_messages (layers_of p) input (At (take k₀ (take (u + 1) words)))) (sym (append-nil (is.done ++ all))) ∙ whole_below [] ∙ ap (λ (qs : List (List K)). (is.prefix ++ mine) ++ qs) none ∙ append-nil (is.prefix ++ mine) in
         record {
           all = omega (arith, ap length honest, length-honest (layers_of p) (input_table p inputs) (At (take k₀ (take (u + 1) words))) (is.done ++ all), done_all, words_all, length-take (u + 1) words, v);
           sent_is = sent_all ∙ ap message_bytes (sym honest ∙ ap (honest_messages (layers_of p) input (At (take k₀ (take (u + 1) words)))) (sym split_more));
@@ -248,11 +248,11 @@ module _ (p : Parts) (inputs : List F) (words : List K) (u i base : ℕ) (sent :
 
 -- a stage with tables
 stage_with : (p : Parts) (inputs : List F) (words : List K) (i base : ℕ) (sent : List ℕ) (tables : LayerSum) (stage : Stage) → HasTables tables stage → IsWithin p inputs words i base sent tables → IsStage p inputs words i base sent stage
-stage_with p inputs words i base sent tables (Before room) h is = absurd h
+stage_with p inputs words i base sent tables (Before buffers) h is = absurd h
 stage_with p inputs words i base sent tables (Within t) h is = subst (IsWithin p inputs words i base sent) (sym h) is
 stage_with p inputs words i base sent tables After h is = absurd h
 
-pub stands_in : (p : Parts) (inputs : List F) (words : List K) (course : Course) (i base : ℕ) (sent : List ℕ) (tables : LayerSum) → IsIn i base tables sent course → IsWithin p inputs words i base sent tables → StandsAt p inputs words course
+pub stands_in : (p : Parts) (inputs : List F) (words : List K) (course : Course) (i base : ℕ) (sent : List ℕ) (tables : LayerSum) → IsIn i base tables sent course → IsWithin p inputs words i base sent tables → IsAt p inputs words course
 stands_in p inputs words course i base sent tables into is =
     coe 0 1 (j. IsStage p inputs words (sym into.layer_is j) (sym into.base_is j) (sym into.sent_is j) course.stage) (stage_with p inputs words i base sent tables course.stage into.stage_is is)
 
@@ -271,7 +271,7 @@ begun p inputs words u place sent sent' v e above nothing is-place is-sent =
     let over : length (take (exponent_at p 0) words) ≡ exponent_at p 0 = omega (arith, v, e, length-take (exponent_at p 0) words) in
     record {
       done = [];
-      front = [];
+      prefix = [];
       place = place;
       above = above;
       drawn = omega (arith, count);
@@ -290,7 +290,7 @@ begun p inputs words u place sent sent' v e above nothing is-place is-sent =
 
 -- what was sent
 pub sent_stage : (p : Parts) (inputs : List F) (words : List K) (i base : ℕ) (sent : List ℕ) (stage : Stage) → IsStage p inputs words i base sent stage → sent ≡ prover_sent p inputs words
-sent_stage p inputs words i base sent (Before room) is =
+sent_stage p inputs words i base sent (Before buffers) is =
     let none : length words + 1 - exponent_at p 0 ≡ 0 = omega (arith, is.few) in
     is.nothing ∙ ap (λ (n : ℕ). message_bytes (take n (honest_for p inputs words))) (sym none)
 sent_stage p inputs words i base sent (Within tables) is =
@@ -300,16 +300,16 @@ sent_stage p inputs words i base sent (Within tables) is =
     let under : List K = values_below p inputs i in
     let mine : List (List K) = layer_messages layer under is.place bound in
     let rest = honest_messages (layers_below p (i + 1)) (input_table p inputs) (next_place k_ops Line layer.k bound) (drop (layer.k + layer.k + 1) bound) in
-    let all : honest_for p inputs words ≡ is.front ++ (mine ++ rest) =
+    let all : honest_for p inputs words ≡ is.prefix ++ (mine ++ rest) =
     ap (honest_messages (layers_of p) (input_table p inputs) (At (take k₀ words))) is.split ∙ is.whole bound
-    ∙ ap (λ (layers : List GateLayer). is.front ++ honest_messages layers (input_table p inputs) is.place bound) (below_more p i is.above) in
-    let n : length words + 1 - exponent_at p 0 ≡ length is.front + (length tables.bound + 1) =
+    ∙ ap (λ (layers : List GateLayer). is.prefix ++ honest_messages layers (input_table p inputs) is.place bound) (below_more p i is.above) in
+    let n : length words + 1 - exponent_at p 0 ≡ length is.prefix + (length tables.bound + 1) =
     omega (arith, is.drawn, is.each, ap length is.split, length-drop (exponent_at p 0) words, length-append is.done tables.bound) in
     let few : length tables.bound + 1 ≤ length (layer_messages (layer_at p i) (values_below p inputs i) is.place tables.bound) =
     omega (arith, is.few, ap (λ (t : LayerSum). t.k) is.tables_are, length-layer (layer_at p i) (values_below p inputs i) is.place tables.bound) in
     is.sent_is
-    ∙ ap (λ (qs : List (List K)). message_bytes (is.front ++ qs)) (sym (take-append-le (length bound + 1) mine rest few))
-    ∙ ap message_bytes (sym (take-append-add is.front (mine ++ rest) (length bound + 1)) ∙ (λ j. take (sym n j) (sym all j)))
+    ∙ ap (λ (qs : List (List K)). message_bytes (is.prefix ++ qs)) (sym (take-append-le (length bound + 1) mine rest few))
+    ∙ ap message_bytes (sym (take-append-add is.prefix (mine ++ rest) (length bound + 1)) ∙ (λ j. take (sym n j) (sym all j)))
 sent_stage p inputs words i base sent After is =
     let k₀ = exponent_at p 0 in
     is.sent_is

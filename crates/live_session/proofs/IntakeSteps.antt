@@ -8,11 +8,11 @@ use Rattle.live_session.specs.Intake.{IsIntake}
 use Rattle.live_session.proofs.ElementSteps.{leading-more}
 
 -- what is kept of more bytes
-pub kept_more : (bytes more : List ℕ) (count room : ℕ) → count ≤ room → length bytes ≡ count → bytes ++ take (min (room - count) (length more)) more ≡ take room (bytes ++ more)
-kept_more bytes more count room u e =
-    ap (λ (xs : List ℕ). bytes ++ xs) (take_min (room - count) more)
-    ∙ sym (take-append-add bytes more (room - count))
-    ∙ ap (λ (n : ℕ). take n (bytes ++ more)) (let f : length bytes + (room - count) ≡ room = omega (arith, e, u) in f)
+pub kept_more : (bytes more : List ℕ) (count capacity : ℕ) → count ≤ capacity → length bytes ≡ count → bytes ++ take (min (capacity - count) (length more)) more ≡ take capacity (bytes ++ more)
+kept_more bytes more count capacity u e =
+    ap (λ (xs : List ℕ). bytes ++ xs) (take_min (capacity - count) more)
+    ∙ sym (take-append-add bytes more (capacity - count))
+    ∙ ap (λ (n : ℕ). take n (bytes ++ more)) (let f : length bytes + (capacity - count) ≡ capacity = omega (arith, e, u) in f)
 
 -- the elements of the bytes before, and those that follow
 pub read_before : (count good : ℕ) (bytes : List ℕ) (elements : List K) (more : List ℕ) → IsIntake count good bytes elements →

@@ -17,7 +17,7 @@ use Rattle.live_session.specs.Ending.{EndsWith, IsReadyFor}
 use Rattle.live_session.specs.Intake.{Fed}
 use Rattle.live_session.specs.Layout.{messages_in}
 use Rattle.live_session.specs.Verifying.{Session, element_count, elements_in, is_done, joined, kept, last_byte, lower, progress_in, verdict_in}
-use Rattle.live_session.specs.VerifierState.{IsKept, room_of}
+use Rattle.live_session.specs.VerifierState.{IsKept, intake_of}
 use Rattle.live_session.specs.declared.ending.Ending.{Ending}
 use Rattle.live_session.specs.declared.progress.LiveFault.{LiveFault}
 use Rattle.live_session.specs.declared.progress.LiveFault.TheVariants.{Range, Extra}
@@ -180,12 +180,12 @@ sound_session c s result p outputs words is =
 
 -- with more bytes
 pub kept_on : (s : Session) (more : List ℕ) (ending ending' : Ending) (reply reply' : List ℕ) (verdict verdict' : Option Verdict) →
-    IsKept s (room_of s.parts s.bytes) ending reply verdict → IsReadyFor s.parts ending' → length reply' ≡ length reply →
+    IsKept s (intake_of s.parts s.bytes) ending reply verdict → IsReadyFor s.parts ending' → length reply' ≡ length reply →
     (verdict ≢ None → (verdict' ≡ verdict) × (reply' ≡ reply)) →
     (verdict ≡ None → length (elements_in (kept (joined s more))) < element_count s.parts → (verdict' ≡ None) × (reply' ≡ reply) × (ending'.challenges ≡ ending.challenges)) →
     (verdict ≡ None → length (elements_in (kept (joined s more))) ≡ element_count s.parts →
     EndsWith (verdict_of (claim_of s.parts s.inputs s.outputs) (messages_in (lower s.parts) (elements_in (kept (joined s more)))) ending.challenges) (8 * challenges_of s.parts) reply reply' verdict') →
-    IsKept (kept (joined s more)) (room_of s.parts (take (8 * element_count s.parts + 1) (s.bytes ++ more))) ending' reply' verdict'
+    IsKept (kept (joined s more)) (intake_of s.parts (take (8 * element_count s.parts + 1) (s.bytes ++ more))) ending' reply' verdict'
 kept_on s more ending ending' reply reply' (Some v) verdict' is ready size stays waits ends =
     let s' = kept (joined s more) in
     let stay = stays (λ e. apart e) in

@@ -19,7 +19,7 @@ message_due s =
 
 -- the prover is within a layer, with these tables
 abbrev pub HasTables : LayerSum → Stage → Type 0
-HasTables s (Before room) = ⊥
+HasTables s (Before buffers) = ⊥
 HasTables s (Within tables) = tables ≡ s
 HasTables s After = ⊥
 

@@ -3,10 +3,10 @@ use Rattle.std.specs.Prelude.{◌≡◌, ℕ, ◌*◌, ◌≤◌, List, length, 
 use Rattle.field_ext.specs.Field.{K}
 use Rattle.live_session.specs.Elements.{leading}
 
--- bytes, of which at most `room` are kept, and at most `most` elements read
+-- bytes, of which at most `capacity` are kept, and at most `most` elements read
 pub record Fed : Type 0 where
   pub most : ℕ
-  pub room : ℕ
+  pub capacity : ℕ
   pub bytes : List ℕ
 
 -- the first `count` of the bytes were fed, and the first `good` elements are those that they begin with

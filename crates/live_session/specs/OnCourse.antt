@@ -7,7 +7,7 @@ use Rattle.gkr_layers.specs.Layers.{challenges_of}
 use Rattle.live_session.specs.Elements.{leading}
 use Rattle.live_session.specs.Intake.{Fed}
 use Rattle.live_session.specs.Proving.{stop_of}
-use Rattle.live_session.specs.ProverState.{StandsAt}
+use Rattle.live_session.specs.ProverState.{IsAt}
 use Rattle.live_session.specs.declared.course.Course.{Course}
 
 -- the values are the circuit's for some inputs, no fault was fed, and all challenges that were fed are gone through
@@ -16,7 +16,7 @@ pub record IsOnCourse (p : Parts) (values : List (List K)) (intake : Fed) (cours
   pub inputs : List F
   pub tables : AreTables p inputs values
   pub most : intake.most ≡ challenges_of p
-  pub room : intake.room ≡ 8 * challenges_of p + 2
+  pub capacity : intake.capacity ≡ 8 * challenges_of p + 2
   pub faultless : stop_of (challenges_of p) intake.bytes ≡ None
-  pub stands : (inputs : List F) → AreTables p inputs values
-      → StandsAt p inputs (leading (challenges_of p) intake.bytes) course
+  pub at_stage : (inputs : List F) → AreTables p inputs values
+      → IsAt p inputs (leading (challenges_of p) intake.bytes) course

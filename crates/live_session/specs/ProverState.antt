@@ -27,24 +27,25 @@ tables_at p inputs i place bound = record {
   lent = [];
 }
 
--- after these words the prover is within layer i: those in `done` were for the layers before it, whose messages are in `front`
+-- after these words the prover is within layer i: those in `done` were for the layers before it, whose messages are in `prefix`
 pub record IsWithin (p : Parts) (inputs : List F) (words : List K) (i base : ℕ) (sent : List ℕ)
     (tables : LayerSum) : Type 0 where
   pub done : List K
-  pub front : List (List K)
+  pub prefix : List (List K)
   pub place : Place K
   pub above : i < height p
   pub drawn : exponent_at p 0 ≤ length words
   pub split : drop (exponent_at p 0) words ≡ done ++ tables.bound
   pub begins : base ≡ exponent_at p 0 + length done
-  pub each : length front ≡ length done
+  pub each : length prefix ≡ length done
   pub position : IsOver (exponent_at p i) place
   pub tables_are : tables ≡ tables_at p inputs i place tables.bound
   pub few : length tables.bound ≤ tables.k + tables.k
   pub whole : (more : List K)
       → honest_messages (layers_of p) (input_table p inputs) (At (take (exponent_at p 0) words))
-      (done ++ more) ≡ front ++ honest_messages (layers_below p i) (input_table p inputs) place more
-  pub sent_is : sent ≡ message_bytes (front ++ take (length tables.bound + 1)
+      (done ++ more)
+      ≡ prefix ++ honest_messages (layers_below p i) (input_table p inputs) place more
+  pub sent_is : sent ≡ message_bytes (prefix ++ take (length tables.bound + 1)
       (layer_messages (layer_at p i) (values_below p inputs i) place tables.bound))
 
 -- all messages are sent
@@ -58,11 +59,11 @@ pub record IsBefore (p : Parts) (words : List K) (sent : List ℕ) : Type 0 wher
   pub nothing : sent ≡ []
 
 abbrev pub IsStage : Parts → List F → List K → ℕ → ℕ → List ℕ → Stage → Type 0
-IsStage p inputs words i base sent (Before room) = IsBefore p words sent
+IsStage p inputs words i base sent (Before buffers) = IsBefore p words sent
 IsStage p inputs words i base sent (Within tables) = IsWithin p inputs words i base sent tables
 IsStage p inputs words i base sent After = IsAfter p inputs words sent
 
 -- these words were gone through
-abbrev pub StandsAt : Parts → List F → List K → Course → Type 0
-StandsAt p inputs words course =
+abbrev pub IsAt : Parts → List F → List K → Course → Type 0
+IsAt p inputs words course =
     IsStage p inputs words course.layer course.base course.sent.items course.stage

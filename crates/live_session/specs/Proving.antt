@@ -76,8 +76,8 @@ stop_of due bytes =
     else (if nat_le (8 * words + 8) (length bytes) then Some (Range (8 * words)) else None)
 
 -- whether the last byte says that the verifier accepts, once it was fed
-abbrev pub told_of : ℕ → List ℕ → Option Bool
-told_of due bytes =
+abbrev pub verdict_known : ℕ → List ℕ → Option Bool
+verdict_known due bytes =
     if nat_le (8 * due + 1) (length bytes) then Some (slice_index_or bytes (8 * due) 0 == 1)
     else None
 

@@ -11,10 +11,10 @@ use Rattle.live_session.specs.Verifying.{Session, element_count, is_done, last_b
 use Rattle.live_session.specs.declared.ending.Ending.{Ending}
 
 -- the buffer of the bytes that are fed, of all elements and one byte more
-abbrev pub room_of : Parts → List ℕ → Fed
-room_of p bytes = record {
+abbrev pub intake_of : Parts → List ℕ → Fed
+intake_of p bytes = record {
   most = element_count p;
-  room = 8 * element_count p + 1;
+  capacity = 8 * element_count p + 1;
   bytes = bytes;
 }
 
@@ -30,7 +30,7 @@ pub record IsKept (s : Session) (intake : Fed) (ending : Ending) (reply : List �
   pub inputs : length s.inputs ≡ s.parts.inputs
   pub outputs : length s.outputs ≡ s.parts.outputs
   pub words : length s.words ≡ challenges_of s.parts
-  pub taken : intake ≡ room_of s.parts s.bytes
+  pub taken : intake ≡ intake_of s.parts s.bytes
   pub ready : IsReadyFor s.parts ending
   pub unused : verdict ≡ None → ending.challenges ≡ s.words
   pub reply_length : length reply ≡ 8 * challenges_of s.parts + 1

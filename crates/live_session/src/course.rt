@@ -9,20 +9,20 @@ ghost use Rattle.circuit_core.specs.Sound.{exponent_at};
 ghost use Rattle.circuit_eval.specs.Tables.{AreTables};
 ghost use Rattle.gkr_layers.specs.Layers.{challenges_of};
 ghost use Rattle.gkr_layers.specs.Places.{IsOver};
-ghost use Rattle.gkr_layers.specs.Standing.{place_of};
+ghost use Rattle.gkr_layers.specs.ClaimPlace.{place_of};
 ghost use Rattle.phase_run.specs.Work.{IsWorkerCount};
 ghost use Rattle.live_session.specs.Begun.{IsIn, message_due};
-ghost use Rattle.live_session.specs.ProverState.{IsWithin, StandsAt, tables_at};
+ghost use Rattle.live_session.specs.ProverState.{IsWithin, IsAt, tables_at};
 
 use circuit_core::Circuit;
 use circuit_eval::Values;
 use field_ext::Ext;
-use gkr_layers::Standing;
+use gkr_layers::ClaimPlace;
 use gkr_prove::{KeptPlace, last_message};
 use io_edge::Gate;
 use mle_table::Table;
 use proof_wire::ProofForm;
-use round_tables::{GateTables, Room};
+use round_tables::{Buffers, GateTables};
 use std::alloc::{AllocError, Global};
 use std::marker::Sync;
 use std::thread::Threads;
@@ -31,7 +31,7 @@ use sumcheck_prove::round;
 /// Where the challenges lead: the output point isn't drawn yet, they bind a layer's tables, or all messages are sent.
 #[derive(Drop)]
 pub(crate) enum Stage<'a> {
-    Before(Room),
+    Before(Buffers),
     Within(GateTables<'a>),
     After,
 }
@@ -61,10 +61,10 @@ pub(crate) fn go_on<'a, R: Threads + Sync, G: Gate>(
     requires values { (inputs : List F) × AreTables circuit.now.parts inputs values.now }
     requires there { u < length words.now }
     requires few { length words.now ≤ challenges_of circuit.now.parts }
-    requires stands { (inputs : List F) → AreTables circuit.now.parts inputs values.now
-        → StandsAt circuit.now.parts inputs (take u words.now) course }
+    requires at_stage { (inputs : List F) → AreTables circuit.now.parts inputs values.now
+        → IsAt circuit.now.parts inputs (take u words.now) course }
     ensures { IfOk result (λ next. (inputs : List F) → AreTables circuit.now.parts inputs values.now
-        → StandsAt circuit.now.parts inputs (take (u + 1) words.now) next) }
+        → IsAt circuit.now.parts inputs (take (u + 1) words.now) next) }
 {
     let Course {
         layer,
@@ -73,19 +73,19 @@ pub(crate) fn go_on<'a, R: Threads + Sync, G: Gate>(
         sent,
     } = course;
     match stage {
-        Stage::Before(room) => {
+        Stage::Before(buffers) => {
             let k = circuit.coordinates(0);
             if u + 1 < k {
                 return Ok(Course {
                     layer,
                     base,
-                    stage: Stage::Before(room),
+                    stage: Stage::Before(buffers),
                     sent,
                 });
             }
-            let place = Standing::One(&words[..k]);
+            let place = ClaimPlace::One(&words[..k]);
             begin(
-                rt, alloc, circuit, values, 0, k, room, &place, sent, workers, gate,
+                rt, alloc, circuit, values, 0, k, buffers, &place, sent, workers, gate,
             )
         }
         Stage::Within(tables) => {
@@ -116,8 +116,8 @@ fn begin<'a, R: Threads + Sync, G: Gate>(
     values: &'a Values,
     layer: usize,
     base: usize,
-    room: Room,
-    place: &Standing<'_>,
+    buffers: Buffers,
+    place: &ClaimPlace<'_>,
     mut sent: Vec<u8>,
     workers: u32,
     gate: &G,
@@ -132,7 +132,7 @@ fn begin<'a, R: Threads + Sync, G: Gate>(
         (message_due (tables_at circuit.now.parts inputs layer (place_of place.now) []))) next) }
 {
     let table = values.table(layer + 1);
-    let tables = GateTables::start_at(room, circuit.gates(layer), table, place)?;
+    let tables = GateTables::start_at(buffers, circuit.gates(layer), table, place)?;
     send(rt, alloc, table, &tables, &[], &mut sent, workers, gate)?;
     Ok(Course {
         layer,
@@ -164,10 +164,10 @@ fn bind<'a, R: Threads + Sync, G: Gate>(
     requires at { u ≡ base + length tables.bound }
     requires here { tables.lent ≡ [] }
     requires left { length tables.bound < tables.k + tables.k }
-    requires stands { (inputs : List F) → AreTables circuit.now.parts inputs values.now
+    requires at_stage { (inputs : List F) → AreTables circuit.now.parts inputs values.now
         → IsWithin circuit.now.parts inputs (take u words.now) layer base sent.items tables }
     ensures { IfOk result (λ next. (inputs : List F) → AreTables circuit.now.parts inputs values.now
-        → StandsAt circuit.now.parts inputs (take (u + 1) words.now) next) }
+        → IsAt circuit.now.parts inputs (take (u + 1) words.now) next) }
 {
     tables.bind(words[u]);
     send(
@@ -211,10 +211,10 @@ fn descend<'a, R: Threads + Sync, G: Gate>(
     requires here { tables.lent ≡ [] }
     requires k { tables.k ≡ exponent_at circuit.now.parts (layer + 1) }
     requires bound { length tables.bound ≡ tables.k + tables.k }
-    requires stands { (inputs : List F) → AreTables circuit.now.parts inputs values.now
+    requires at_stage { (inputs : List F) → AreTables circuit.now.parts inputs values.now
         → IsWithin circuit.now.parts inputs (take u words.now) layer base sent.items tables }
     ensures { IfOk result (λ next. (inputs : List F) → AreTables circuit.now.parts inputs values.now
-        → StandsAt circuit.now.parts inputs (take (u + 1) words.now) next) }
+        → IsAt circuit.now.parts inputs (take (u + 1) words.now) next) }
 {
     let (left, right) = words[base..u].split_at(circuit.coordinates(layer + 1));
     let place = KeptPlace::between(alloc, ProofForm::Line, left, right, words[u])?;
@@ -233,8 +233,8 @@ fn descend<'a, R: Threads + Sync, G: Gate>(
         values,
         layer + 1,
         u + 1,
-        tables.into_room(),
-        &place.standing(),
+        tables.into_buffers(),
+        &place.claim_place(),
         sent,
         workers,
         gate,

@@ -7,11 +7,11 @@ ghost use Rattle.live_session.specs.Ending.{IsReadyFor};
 ghost use Rattle.live_session.specs.Layout.{messages_in};
 ghost use Rattle.live_session.specs.Verifying.{element_count, lower};
 
-use crate::layout::{fill, message_room};
+use crate::layout::{fill, message_buffers};
 use circuit_core::Circuit;
 use field_ext::{Ext, Fp};
 use gkr_layers::Verdict;
-use gkr_verify::CheckRoom;
+use gkr_verify::CheckBuffers;
 use proof_wire::{LayerMessages, ProofForm};
 use std::alloc::{AllocError, Global};
 use transcript_fs::Given;
@@ -20,7 +20,7 @@ use transcript_fs::Given;
 #[derive(Drop)]
 pub(crate) struct Ending {
     alloc: Global,
-    room: CheckRoom,
+    buffers: CheckBuffers,
     layers: Vec<LayerMessages>,
     challenges: Given,
 }
@@ -33,8 +33,8 @@ impl Ending {
     {
         Ok(Ending {
             alloc,
-            room: CheckRoom::new(alloc, circuit)?,
-            layers: message_room(alloc, circuit)?,
+            buffers: CheckBuffers::new(alloc, circuit)?,
+            layers: message_buffers(alloc, circuit)?,
             challenges: Given::of(Vec::from_slice(alloc, words)?),
         })
     }
@@ -57,7 +57,7 @@ impl Ending {
         ensures ready { IsReadyFor circuit.now.parts self.new }
     {
         fill(self.alloc, &mut self.layers, elements);
-        self.room.check(
+        self.buffers.check(
             ProofForm::Line,
             circuit,
             inputs,

@@ -24,7 +24,7 @@ impl Model for Intake {
 
     ghost view = { λ a. record {
       most = length a.elements.items;
-      room = length a.bytes.items;
+      capacity = length a.bytes.items;
       bytes = take a.count a.bytes.items;
     } };
 
@@ -38,7 +38,7 @@ impl Intake {
         requires elements { elements < 2 ^ 32 }
         requires more { more < 2 ^ 32 }
         ensures { IfOk result (λ fed. fed
-            ≡ record { most = elements; room = 8 * elements + more; bytes = [] }) }
+            ≡ record { most = elements; capacity = 8 * elements + more; bytes = [] }) }
     {
         let bytes = vec![in alloc; 0u8; 8 * elements + more]?;
         let elements = vec![in alloc; Ext::zero(); elements]?;
@@ -53,7 +53,7 @@ impl Intake {
     /// Takes more bytes, as far as the buffer goes.
     pub(crate) fn feed(&mut self, more: &[u8])
         ensures { self.new
-            ≡ record self.old { bytes = take self.old.room (self.old.bytes ++ more.now) } }
+            ≡ record self.old { bytes = take self.old.capacity (self.old.bytes ++ more.now) } }
     {
         let left = self.bytes.len() - self.count;
         let (kept, _) = more.split_at(left.min(more.len()));

@@ -42,7 +42,7 @@ pub(crate) fn whole_messages(circuit: &Circuit, n: usize) -> usize
 }
 
 /// Buffers for all messages of a proof by lines.
-pub(crate) fn message_room(
+pub(crate) fn message_buffers(
     alloc: Global,
     circuit: &Circuit,
 ) -> Result<Vec<LayerMessages>, AllocError>
@@ -50,13 +50,13 @@ pub(crate) fn message_room(
 {
     let mut layers = Vec::new(alloc);
     for layer in 0..circuit.height() {
-        layers.push(layer_room(alloc, circuit.coordinates(layer + 1))?)?;
+        layers.push(layer_buffers(alloc, circuit.coordinates(layer + 1))?)?;
     }
     Ok(layers)
 }
 
 /// Buffers for the messages of a layer, where the layer below has `k` coordinates.
-fn layer_room(alloc: Global, k: usize) -> Result<LayerMessages, AllocError>
+fn layer_buffers(alloc: Global, k: usize) -> Result<LayerMessages, AllocError>
     requires { k ≤ 16 }
     ensures { IfOk result (λ layer. HasShape Line k layer) }
 {
@@ -79,15 +79,15 @@ pub(crate) fn fill(alloc: Global, layers: &mut [LayerMessages], elements: &[Ext]
             rounds: Listed::of(Vec::new(alloc)),
             last: Listed::of(Vec::new(alloc)),
         };
-        let room = mem::replace(layer, none);
-        let next = from + room_len(&room);
-        *layer = filled(room, &elements[from..next]);
+        let buffer = mem::replace(layer, none);
+        let next = from + buffer_len(&buffer);
+        *layer = filled(buffer, &elements[from..next]);
         from = next;
     }
 }
 
 /// How many elements a layer's messages have.
-fn room_len(layer: &LayerMessages) -> usize
+fn buffer_len(layer: &LayerMessages) -> usize
     requires { length (layer_coefficients layer.now) < 2 ^ 64 }
     ensures { result ≡ length (layer_coefficients layer.now) }
 {
@@ -95,12 +95,12 @@ fn room_len(layer: &LayerMessages) -> usize
 }
 
 /// The same layer's messages with these elements.
-fn filled(room: LayerMessages, elements: &[Ext]) -> LayerMessages
-    requires { length elements.now ≡ length (layer_coefficients room) }
+fn filled(buffer: LayerMessages, elements: &[Ext]) -> LayerMessages
+    requires { length elements.now ≡ length (layer_coefficients buffer) }
     ensures filled { layer_coefficients result ≡ elements.now }
-    ensures shape { (k : ℕ) → HasShape Line k room → HasShape Line k result }
+    ensures shape { (k : ℕ) → HasShape Line k buffer → HasShape Line k result }
 {
-    let LayerMessages { rounds, last } = room;
+    let LayerMessages { rounds, last } = buffer;
     let mut rounds = rounds.into_vec();
     let mut last = last.into_vec();
     let (of_rounds, of_last) = elements.split_at(3 * rounds.len());

@@ -5,8 +5,8 @@ ghost use Rattle.field_ext.specs.Field.{F};
 ghost use Rattle.circuit_eval.specs.Tables.{AreTables};
 ghost use Rattle.gkr_layers.specs.Layers.{challenges_of};
 ghost use Rattle.phase_run.specs.Work.{IsWorkerCount};
-ghost use Rattle.live_session.specs.ProverState.{StandsAt};
-ghost use Rattle.live_session.specs.Proving.{fed_more, prover_sent, stop_of, told_of, words_in};
+ghost use Rattle.live_session.specs.ProverState.{IsAt};
+ghost use Rattle.live_session.specs.Proving.{fed_more, prover_sent, stop_of, verdict_known, words_in};
 ghost use Rattle.live_session.specs.Stops.{IsStopFor};
 
 use crate::course::{Course, Stage, go_on};
@@ -15,7 +15,7 @@ use crate::progress::{LiveFault, ProverStop};
 use circuit_core::Circuit;
 use circuit_eval::Values;
 use field_ext::Ext;
-use gkr_prove::room_for;
+use gkr_prove::buffers_for;
 use gkr_verify::challenge_count;
 use io_edge::Gate;
 use std::alloc::{AllocError, Global};
@@ -63,7 +63,7 @@ impl<'a> LiveProver<'a> {
             ≡ record { parts = circuit.now.parts; values = values.now; bytes = [] }) }
     {
         let intake = Intake::new(alloc, challenge_count(circuit), 2)?;
-        let room = room_for(alloc, circuit)?;
+        let buffers = buffers_for(alloc, circuit)?;
         Ok(LiveProver {
             circuit,
             values,
@@ -71,7 +71,7 @@ impl<'a> LiveProver<'a> {
             course: Course {
                 layer: 0,
                 base: 0,
-                stage: Stage::Before(room),
+                stage: Stage::Before(buffers),
                 sent: Vec::new(alloc),
             },
         })
@@ -135,7 +135,7 @@ impl<'a> LiveProver<'a> {
 
     /// Whether the last byte says that the verifier accepts, once it was fed.
     pub fn verdict(&self) -> Option<bool>
-        ensures { result ≡ told_of (challenges_of self.now.parts) self.now.bytes }
+        ensures { result ≡ verdict_known (challenges_of self.now.parts) self.now.bytes }
     {
         let due = challenge_count(self.circuit);
         if self.intake.len() > 8 * due {
@@ -162,10 +162,10 @@ fn run<'a, R: Threads + Sync, G: Gate>(
     requires values { (inputs : List F) × AreTables circuit.now.parts inputs values.now }
     requires used { used ≤ length words.now }
     requires few { length words.now ≤ challenges_of circuit.now.parts }
-    requires stands { (inputs : List F) → AreTables circuit.now.parts inputs values.now
-        → StandsAt circuit.now.parts inputs (take used words.now) course }
+    requires at_stage { (inputs : List F) → AreTables circuit.now.parts inputs values.now
+        → IsAt circuit.now.parts inputs (take used words.now) course }
     ensures { IfOk result (λ next. (inputs : List F) → AreTables circuit.now.parts inputs values.now
-        → StandsAt circuit.now.parts inputs words.now next) }
+        → IsAt circuit.now.parts inputs words.now next) }
 {
     for u in used..words.len() {
         course = go_on(rt, alloc, circuit, values, course, words, u, workers, gate)?;

@@ -84,7 +84,7 @@ impl<'a> LiveVerifier<'a> {
     {
         let intake = Intake::new(alloc, elements_due(circuit), 1)?;
         let ending = Ending::new(alloc, circuit, words)?;
-        let reply = reply_room(alloc, words)?;
+        let reply = reply_buffer(alloc, words)?;
         Ok(LiveVerifier {
             circuit,
             inputs,
@@ -150,7 +150,7 @@ impl<'a> LiveVerifier<'a> {
 }
 
 /// The bytes of the words, and one more.
-fn reply_room(alloc: Global, words: &[Ext]) -> Result<Vec<u8>, AllocError>
+fn reply_buffer(alloc: Global, words: &[Ext]) -> Result<Vec<u8>, AllocError>
     ensures size { IfOk result (λ reply. length reply.items ≡ 8 * length words.now + 1) }
     ensures words { IfOk result
         (λ reply. take (8 * length words.now) reply.items ≡ flat_map bytes_of words.now) }

@@ -123,11 +123,11 @@ impl Table {
     }
 
     /// Writes the table with its first coordinate bound to `r` into a buffer for half of the values.
-    pub fn fold_into(&self, r: Ext, room: &mut [Ext])
-        requires { length room.old * 2 ≡ 2 ^ self.now.k }
-        ensures { room.new ≡ folded k_ops self.now.items r }
+    pub fn fold_into(&self, r: Ext, buffer: &mut [Ext])
+        requires { length buffer.old * 2 ≡ 2 ^ self.now.k }
+        ensures { buffer.new ≡ folded k_ops self.now.items r }
     {
-        values::fold_slice(self.values.as_slice(), r, room);
+        values::fold_slice(self.values.as_slice(), r, buffer);
     }
 
     /// The value of the multilinear extension at a point of k coordinates. Err only where no memory is found.

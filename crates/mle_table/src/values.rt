@@ -41,14 +41,14 @@ pub(crate) fn fold_values(values: &mut Vec<Ext>, r: Ext)
 }
 
 /// Writes the table with its first coordinate bound to r.
-pub(crate) fn fold_slice(values: &[Ext], r: Ext, room: &mut [Ext])
-    requires { length values.now ≡ length room.old * 2 }
-    ensures { room.new ≡ folded k_ops values.now r }
+pub(crate) fn fold_slice(values: &[Ext], r: Ext, buffer: &mut [Ext])
+    requires { length values.now ≡ length buffer.old * 2 }
+    ensures { buffer.new ≡ folded k_ops values.now r }
 {
-    for j in 0..room.len() {
+    for j in 0..buffer.len() {
         let low = values[2 * j];
         let high = values[2 * j + 1];
-        room[j] = low + r * (high - low);
+        buffer[j] = low + r * (high - low);
     }
 }
 

@@ -49,7 +49,7 @@ impl NodeListBuilder {
     /// Adds a node, and answers its number. It may only name inputs that there are, and nodes that were added before.
     pub fn push(&mut self, node: Node) -> Result<u32, AllocError>
         requires fine { IsFineAt self.old.inputs (length self.old.nodes) node }
-        requires room { length self.old.nodes + 1 < 2 ^ 32 }
+        requires capacity { length self.old.nodes + 1 < 2 ^ 32 }
         ensures ok { OnOk result (self.new ≡ record self.old {
           nodes = self.old.nodes ++ node ∷ [];
         }) }
@@ -64,7 +64,7 @@ impl NodeListBuilder {
     /// Makes a node the next output.
     pub fn output(&mut self, node: u32) -> Result<(), AllocError>
         requires there { node < length self.old.nodes }
-        requires room { length self.old.outputs + 1 < 2 ^ 32 }
+        requires capacity { length self.old.outputs + 1 < 2 ^ 32 }
         ensures ok { OnOk result (self.new ≡ record self.old {
           outputs = self.old.outputs ++ node ∷ [];
         }) }

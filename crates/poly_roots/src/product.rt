@@ -39,29 +39,29 @@ pub(crate) fn product(alloc: Global, left: &[Ext], right: &[Ext]) -> Result<Vec<
 }
 
 /// Adds the multiples of the right factor to zeros, that of the left factor's last coefficient first.
-fn add_rows(room: &mut [Ext], left: &[Ext], right: &[Ext])
+fn add_rows(buffer: &mut [Ext], left: &[Ext], right: &[Ext])
     requires factors { (0 < length left.now) × (0 < length right.now) }
-    requires size { length room.old + 1 ≡ length left.now + length right.now }
-    requires zeros { (k : ℕ) → slice_index_or room.old k zero_k ≡ zero_k }
-    ensures { room.new ≡ product_of k_ops left.now right.now }
+    requires size { length buffer.old + 1 ≡ length left.now + length right.now }
+    requires zeros { (k : ℕ) → slice_index_or buffer.old k zero_k ≡ zero_k }
+    ensures { buffer.new ≡ product_of k_ops left.now right.now }
 {
     for done in 0..left.len() {
         let row = left.len() - 1 - done;
-        add_row(room, row, left[row], right);
+        add_row(buffer, row, left[row], right);
     }
 }
 
 /// Adds `c` times the coefficients to the buffer from `row` on.
-fn add_row(room: &mut [Ext], row: usize, c: Ext, coefficients: &[Ext])
-    requires { row + length coefficients.now ≤ length room.old }
+fn add_row(buffer: &mut [Ext], row: usize, c: Ext, coefficients: &[Ext])
+    requires { row + length coefficients.now ≤ length buffer.old }
     ensures before { (k : ℕ) → k < row
-        → slice_index_or room.new k zero_k ≡ slice_index_or room.old k zero_k }
-    ensures from { (k : ℕ) → slice_index_or room.new (row + k) zero_k
-        ≡ add_k (slice_index_or room.old (row + k) zero_k)
+        → slice_index_or buffer.new k zero_k ≡ slice_index_or buffer.old k zero_k }
+    ensures from { (k : ℕ) → slice_index_or buffer.new (row + k) zero_k
+        ≡ add_k (slice_index_or buffer.old (row + k) zero_k)
         (mul_k c (slice_index_or coefficients.now k zero_k)) }
 {
     for i in 0..coefficients.len() {
-        let sum = room[row + i] + c * coefficients[i];
-        room[row + i] = sum;
+        let sum = buffer[row + i] + c * coefficients[i];
+        buffer[row + i] = sum;
     }
 }

@@ -11,13 +11,13 @@ use Rattle.proof_wire.specs.Forms.{magic}
 use Rattle.proof_wire.specs.Trouble.{InRange, element_at}
 use Rattle.proof_wire.proofs.Reading.{spelled_in_range}
 use Rattle.proof_two.specs.Spelling.{magic_two}
-use Rattle.proof_two.specs.Trouble.{IsFrontTwo, OpensTwo}
+use Rattle.proof_two.specs.Trouble.{BeginWithTwo, OpensTwo}
 use Rattle.proof_wire.proofs.Reading.{last_or_before}
 
-pub front_none : (bytes : List ℕ) → 4 ≤ length bytes → OpensTwo bytes → IsFrontTwo [] bytes
+pub front_none : (bytes : List ℕ) → 4 ≤ length bytes → OpensTwo bytes → BeginWithTwo [] bytes
 front_none bytes h o = record { spelled = o ∙ take_all (length bytes) magic_two h; good = λ i u. absurd (omega (arith, u)) }
 
-pub front_more : (es : List K) (x : K) (bytes : List ℕ) → InRange bytes (length es) → bytes_of x ≡ element_at bytes (length es) → IsFrontTwo es bytes → IsFrontTwo (es ++ x ∷ []) bytes
+pub front_more : (es : List K) (x : K) (bytes : List ℕ) → InRange bytes (length es) → bytes_of x ≡ element_at bytes (length es) → BeginWithTwo es bytes → BeginWithTwo (es ++ x ∷ []) bytes
 front_more es x bytes r e f = record {
   spelled = ap (λ n. take n bytes) (ap (λ n. 4 + 8 * n) (length-append es (x ∷ [])) ∙ omega arith)
       ∙ take-add (4 + 8 * length es) 8 bytes

@@ -21,7 +21,7 @@ pub faultless : (ks : List ℕ) (m : Pairs) (trouble : BadProof) → HavePairs (
 faultless ks m (Magic at) a t = t.differs (begins (flat_map bytes_of (all_elements m.layers)) at t.early)
 faultless ks m (Short at need) a t = omega (arith, t.at_end, t.whole, t.early, spelling_length ks m a)
 faultless ks m (Range at) a t = t.bad (spelled_in_range_two (all_elements m.layers) t.index (subst (λ n. t.index < n) (sym (count_is (drop 1 ks) m.layers a)) t.among))
-faultless ks m (Long extra) a t = omega (arith, t.some, t.behind, spelling_length ks m a)
+faultless ks m (Long extra) a t = omega (arith, t.some, t.after, spelling_length ks m a)
 
 pub only_memory : (ks : List ℕ) (m : Pairs) (bytes : List ℕ) (e : ProofRefused) → HavePairs (drop 1 ks) m.layers → bytes ≡ spelling_two m → RefusedForTwo ks bytes e → e ≡ Memory
 only_memory ks m bytes (Bad trouble) a s t = absurd (faultless ks m trouble a (subst (λ ys. TroubleIsTwo ks ys trouble) s t))

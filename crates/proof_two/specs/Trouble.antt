@@ -42,12 +42,12 @@ pub record OutOfRangeTwo (ks bytes : List ℕ) (at : ℕ) : Type 0 where
 -- all coefficients are there and good, and more bytes follow
 pub record GoesOnTwo (ks bytes : List ℕ) (extra : ℕ) : Type 0 where
   pub some : 0 < extra
-  pub behind : length bytes ≡ length_two ks + extra
+  pub after : length bytes ≡ length_two ks + extra
   pub opens : OpensTwo bytes
   pub good : (i : ℕ) → i < element_count (drop 1 ks) → InRange bytes i
 
 -- the bytes begin with these coefficients after the first four bytes
-pub record IsFrontTwo (elements : List K) (bytes : List ℕ) : Type 0 where
+pub record BeginWithTwo (elements : List K) (bytes : List ℕ) : Type 0 where
   pub spelled : take (4 + 8 * length elements) bytes ≡ magic_two ++ flat_map bytes_of elements
   pub good : (i : ℕ) → i < length elements → InRange bytes i
 

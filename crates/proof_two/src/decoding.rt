@@ -8,7 +8,7 @@ ghost use Rattle.proof_wire.specs.Trouble.{InRange, element_at};
 ghost use Rattle.proof_two.specs.declared.pairs.Pairs.{Pairs as Listed};
 ghost use Rattle.proof_two.specs.Spelling.{element_count, magic_two, spelling_two};
 ghost use Rattle.proof_two.specs.Lists.{HavePairs};
-ghost use Rattle.proof_two.specs.Trouble.{ForeignTwo, IsFrontTwo, OpensTwo, RefusedForTwo};
+ghost use Rattle.proof_two.specs.Trouble.{ForeignTwo, BeginWithTwo, OpensTwo, RefusedForTwo};
 
 use crate::cutting::cut;
 use crate::length::{elements, proof_len_two};
@@ -77,14 +77,14 @@ fn foreign_byte(bytes: &[u8]) -> Option<usize>
 
 /// The coefficients that are there, at most as many as a proof of the shape has.
 fn read_elements(alloc: Global, bytes: &[u8], shape: &Shape) -> Result<Vec<Ext>, ProofRefused>
-    requires room { 4 ≤ length bytes.now }
+    requires capacity { 4 ≤ length bytes.now }
     requires opens { OpensTwo bytes.now }
     ensures few { IfOk result
         (λ elements. length elements.items ≤ element_count (drop 1 shape.now.ks)) }
     ensures whole { IfOk result
         (λ elements. (length elements.items < element_count (drop 1 shape.now.ks))
         → length bytes.now < 12 + 8 * length elements.items) }
-    ensures front { IfOk result (λ elements. IsFrontTwo elements.items bytes.now) }
+    ensures prefix { IfOk result (λ elements. BeginWithTwo elements.items bytes.now) }
     ensures exact { IfErr result (λ e. RefusedForTwo shape.now.ks bytes.now e) }
 {
     let there = (bytes.len() - 4) / 8;

@@ -21,7 +21,7 @@ pub fn one_length()
 {}
 
 /// No proof of a shape, of either version, is a prefix of a longer one.
-pub fn no_front()
+pub fn no_prefix()
     ensures { (ks : List ℕ) (some others : AnyProof) (more : List ℕ) → HasAnyShape ks some
         → HasAnyShape ks others → any_spelling some ++ more ≡ any_spelling others → more ≡ [] }
 {}

@@ -29,7 +29,7 @@ use Rattle.prove_serve.specs.declared.outcome.HistoryOutcome.TheVariants.{Answer
 use Rattle.prove_serve.specs.Script.{IsOf, AreNumbered}
 use Rattle.prove_serve.specs.Sound.{IsMarked, IsServed}
 use Rattle.prove_serve.specs.History.{AnswerFits, EndsSo, IsHistoryOf}
-use Rattle.prove_serve.specs.Told.{AreTold, told, place_of}
+use Rattle.prove_serve.specs.Reported.{AreReported, reported, place_of}
 use Rattle.tallies.proofs.Once.{one_at_most as below_once}
 
 -- ---- lists of numbers
@@ -106,14 +106,14 @@ module _ {C A : Type 0} (fits : A → C → Type 0) where
   FitsJob = λ (reply : Reply A) (job : Job C). fits reply.answer job.case
 
   -- how a job ended, by what is reported of it
-  suits_of : (h : List (Event (Job C) (Reply A))) (n : ℕ) (s : Seen (Reply A)) (job : Job C) → IsSeen FitsJob h n s → Has h (Submits n job) → AnswerFits fits (told s) job.case
+  suits_of : (h : List (Event (Job C) (Reply A))) (n : ℕ) (s : Seen (Reply A)) (job : Job C) → IsSeen FitsJob h n s → Has h (Submits n job) → AnswerFits fits (reported s) job.case
   suits_of h n seen.Queued job is has = tt
   suits_of h n seen.Running job is has = tt
   suits_of h n seen.Withdrawn job is has = tt
   suits_of h n (seen.Done outcomes.Memory) job is has = tt
   suits_of h n (seen.Done (outcomes.Answer r)) job is has = is.suits job has
 
-  withdrawn_seen : (h : List (Event (Job C) (Reply A))) (n : ℕ) (s : Seen (Reply A)) → IsSeen FitsJob h n s → told s ≡ Withdrawn → slice_get (jobs_of h) n ≡ Some state.Withdrawn
+  withdrawn_seen : (h : List (Event (Job C) (Reply A))) (n : ℕ) (s : Seen (Reply A)) → IsSeen FitsJob h n s → reported s ≡ Withdrawn → slice_get (jobs_of h) n ≡ Some state.Withdrawn
   withdrawn_seen h n seen.Queued is e = absurd (not e) where
     not : ◌≡◌ {A = HistoryOutcome A} Memory Withdrawn → ⊥
     not e = cc
@@ -131,7 +131,7 @@ module _ {C A : Type 0} (fits : A → C → Type 0) where
   other_state : (h : List (Event (Job C) (Reply A))) (n : ℕ) (s t : JobState) → slice_get (jobs_of h) n ≡ Some s → slice_get (jobs_of h) n ≡ Some t → s ≡ t
   other_state h n s t a b = some_eq s t (sym a ∙ b)
 
-  seen_withdrawn : (h : List (Event (Job C) (Reply A))) (n : ℕ) (s : Seen (Reply A)) → IsSeen FitsJob h n s → slice_get (jobs_of h) n ≡ Some state.Withdrawn → told s ≡ Withdrawn
+  seen_withdrawn : (h : List (Event (Job C) (Reply A))) (n : ℕ) (s : Seen (Reply A)) → IsSeen FitsJob h n s → slice_get (jobs_of h) n ≡ Some state.Withdrawn → reported s ≡ Withdrawn
   seen_withdrawn h n seen.Queued is at = absurd (let e = other_state h n state.Queued state.Withdrawn is at in cc)
   seen_withdrawn h n seen.Running is at = absurd (let e = other_state h n state.Running state.Withdrawn is at in cc)
   seen_withdrawn h n seen.Withdrawn is at = refl
@@ -209,14 +209,14 @@ module _ {C A : Type 0} (fits : A → C → Type 0) where
         ap (λ (j : Job C). j.marked) (one_case FitsJob s.steps.0 h n e.0 right.0 s.steps.1 (s.ends.each n e at).0 right.2) ∙ right.1
 
     -- the outcome at a place is that of its job
-    outcome_is : (outcomes : List (HistoryOutcome A)) → AreTold ended outcomes → (n k : ℕ) (e : Job C × Seen (Reply A)) (o : HistoryOutcome A) → slice_get places n ≡ Some k → slice_get ended n ≡ Some e → e.0.place ≡ k → slice_get outcomes k ≡ Some o → o ≡ told e.1
+    outcome_is : (outcomes : List (HistoryOutcome A)) → AreReported ended outcomes → (n k : ℕ) (e : Job C × Seen (Reply A)) (o : HistoryOutcome A) → slice_get places n ≡ Some k → slice_get ended n ≡ Some e → e.0.place ≡ k → slice_get outcomes k ≡ Some o → o ≡ reported e.1
     outcome_is outcomes are n k e o at here place out = ⊎_elim
-        (λ (x : (m : ℕ) × (job : Job C × Seen (Reply A)) × (slice_get ended m ≡ Some job) × (job.0.place ≡ k) × (o ≡ told job.1)).
+        (λ (x : (m : ℕ) × (job : Job C × Seen (Reply A)) × (slice_get ended m ≡ Some job) × (job.0.place ≡ k) × (o ≡ reported job.1)).
         let m = same_number x.0 n k (get_map place_of ended x.0 x.1 x.2 ∙ ap (λ (p : ℕ). Some p) x.3) at in
-        x.4 ∙ ap (λ (z : Job C × Seen (Reply A)). told z.1) (some_eq x.1 e (sym x.2 ∙ ap (slice_get ended) m ∙ here)))
+        x.4 ∙ ap (λ (z : Job C × Seen (Reply A)). reported z.1) (some_eq x.1 e (sym x.2 ∙ ap (slice_get ended) m ∙ here)))
         (λ (none : (m : ℕ) (job : Job C × Seen (Reply A)) → slice_get ended m ≡ Some job → job.0.place ≢ k). absurd (none n e here place)) (are k o out)
 
-    ends_so : (outcomes : List (HistoryOutcome A)) → AreTold ended outcomes → (n k : ℕ) (job : ℕ × C × Bool) (o : HistoryOutcome A) → slice_get places n ≡ Some k → slice_get jobs k ≡ Some job → slice_get outcomes k ≡ Some o → EndsSo fits (entries_of h) n job o
+    ends_so : (outcomes : List (HistoryOutcome A)) → AreReported ended outcomes → (n k : ℕ) (job : ℕ × C × Bool) (o : HistoryOutcome A) → slice_get places n ≡ Some k → slice_get jobs k ≡ Some job → slice_get outcomes k ≡ Some o → EndsSo fits (entries_of h) n job o
     ends_so outcomes are n k job o at here out =
         let e = job_at n k at in
         let is = outcome_is outcomes are n k e.0 o at e.1 e.2 out in
@@ -245,7 +245,7 @@ module _ {C A : Type 0} (fits : A → C → Type 0) where
     history_fits = let a = three_less s.steps.0 (entries_of h) s.steps.1 s.drained s.ended in let b = as_many in let l = length-map h entry_of in let c = s.ends.as_many in (omega arith, omega arith)
 
     -- The history of the table is one of the script.
-    pub history_of : (outcomes : List (HistoryOutcome A)) (history : List Entry) (numbers : List ℕ) → AreTold ended outcomes → length outcomes ≡ length jobs → history ≡ entries_of h → numbers ≡ places → IsHistoryOf fits jobs outcomes history numbers
+    pub history_of : (outcomes : List (HistoryOutcome A)) (history : List Entry) (numbers : List ℕ) → AreReported ended outcomes → length outcomes ≡ length jobs → history ≡ entries_of h → numbers ≡ places → IsHistoryOf fits jobs outcomes history numbers
     history_of outcomes history numbers are many is is' = subst (λ (z : List Entry × List ℕ). IsHistoryOf fits jobs outcomes z.0 z.1) (λ k. (sym is k, sym is' k)) record {
       steps = s.steps;
       ended = state_of;

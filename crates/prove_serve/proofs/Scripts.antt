@@ -13,7 +13,7 @@ use Rattle.std.specs.Prelude.{vec_len, vec_capacity}
 use Rattle.prove_serve.specs.declared.script.Duty.{Duty}
 use Rattle.prove_serve.specs.declared.outcome.HistoryOutcome.{HistoryOutcome}
 use Rattle.prove_serve.specs.Script.{IsOf, AreOf, AreNumbered, IsDuty, AreDuties, AreDealt, IsIn, AreInOrder, jobs_in, thread_of, ArePlaced, IsPut, plain}
-use Rattle.prove_serve.specs.Told.{AreTold, told}
+use Rattle.prove_serve.specs.Reported.{AreReported, reported}
 
 module _ {C : Type 0} where
   pub numbered_more : (jobs : List (ℕ × C × Bool)) (script : List (Job C)) (x : ℕ × C × Bool) (job : Job C) → AreNumbered jobs script → job.place ≡ length jobs → x ≡ (job.client, job.case, job.marked) → AreNumbered (jobs ++ x ∷ []) (script ++ job ∷ [])
@@ -36,7 +36,7 @@ module _ {C : Type 0} where
 
   -- a thread without jobs
   pub idle_duty : (script : List (Job C)) (duty : Duty C) → duty.jobs.items ≡ [] → vec_len duty.receipts ≡ 0 → IsDuty script duty
-  idle_duty script duty none empty = record { of = subst (AreOf script) (sym none) (λ k job at. absurd (no_job k job at)); room = (empty, let l = ap length none in omega arith) } where
+  idle_duty script duty none empty = record { of = subst (AreOf script) (sym none) (λ k job at. absurd (no_job k job at)); capacity = (empty, let l = ap length none in omega arith) } where
     no_job : (k : ℕ) (job : Job C) → slice_get [] k ≡ Some job → ⊥
     no_job k job at = let low = get_within [] job k at in omega arith
 
@@ -47,9 +47,9 @@ module _ {C : Type 0} where
 
   pub duties_set : (script : List (Job C)) (clients : ℕ) (duties : List (Duty C)) (t : ℕ) (old new : Duty C) (job : Job C) → t < clients → slice_get duties t ≡ Some old → AreDuties script clients duties → IsOf script job → new.jobs.items ≡ old.jobs.items ++ job ∷ []
       → (vec_len new.receipts ≡ 0) × (length new.jobs.items ≤ vec_capacity new.receipts) → AreDuties script clients (set duties t new)
-  duties_set script clients duties t old new job low at f of more room k d e = dite (ℕ_discrete k t)
+  duties_set script clients duties t old new job low at f of more capacity k d e = dite (ℕ_discrete k t)
       (λ (here : k ≡ t). subst (λ (x : Duty C). IsDuty script x × (clients ≤ k → x.jobs.items ≡ [])) (some_eq new d (sym (get_set_same duties t new (get_within duties old t at)) ∙ ap (slice_get (set duties t new)) (sym here) ∙ e))
-      (record { of = subst (AreOf script) (sym more) (of_more script old.jobs.items job (f t old at).0.of of); room = room }, λ far. absurd (omega arith)))
+      (record { of = subst (AreOf script) (sym more) (of_more script old.jobs.items job (f t old at).0.of of); capacity = capacity }, λ far. absurd (omega arith)))
       (λ (no : k ≢ t). f k d (sym (get_set_else duties t k new no) ∙ e))
 
   pub jobs_in_more : (duties : List (Duty C)) (duty : Duty C) → duty.jobs.items ≡ [] → jobs_in duties ≡ 0 → jobs_in (duties ++ duty ∷ []) ≡ 0
@@ -137,19 +137,19 @@ module _ {A : Type 0} where
 
 module _ {C A : Type 0} where
   -- one outcome more, at its job's place
-  pub told_more : (jobs : List (Job C × Seen (Reply A))) (job : Job C × Seen (Reply A)) (mid new : List (HistoryOutcome A)) → AreTold jobs mid → ((slice_get new job.0.place ≡ Some (told job.1)) ⊎ (length mid ≤ job.0.place)) → length new ≡ length mid
-      → ((k : ℕ) → k ≢ job.0.place → slice_get new k ≡ slice_get mid k) → AreTold (jobs ++ job ∷ []) new
+  pub told_more : (jobs : List (Job C × Seen (Reply A))) (job : Job C × Seen (Reply A)) (mid new : List (HistoryOutcome A)) → AreReported jobs mid → ((slice_get new job.0.place ≡ Some (reported job.1)) ⊎ (length mid ≤ job.0.place)) → length new ≡ length mid
+      → ((k : ℕ) → k ≢ job.0.place → slice_get new k ≡ slice_get mid k) → AreReported (jobs ++ job ∷ []) new
   told_more jobs job mid new f at long others k o e = dite (ℕ_discrete k job.0.place)
       (λ (here : k ≡ job.0.place). ⊎_elim
-      (λ (a : slice_get new job.0.place ≡ Some (told job.1)). inl (length jobs, job, get_last jobs job, sym here, some_eq o (told job.1) (sym e ∙ ap (slice_get new) here ∙ a)))
+      (λ (a : slice_get new job.0.place ≡ Some (reported job.1)). inl (length jobs, job, get_last jobs job, sym here, some_eq o (reported job.1) (sym e ∙ ap (slice_get new) here ∙ a)))
       (λ (far : length mid ≤ job.0.place). let low = get_within new o k e in absurd (omega arith)) at)
       (λ (no : k ≢ job.0.place). ⊎_elim
-      (λ (x : (n : ℕ) × (j : Job C × Seen (Reply A)) × (slice_get jobs n ≡ Some j) × (j.0.place ≡ k) × (o ≡ told j.1)). inl (x.0, x.1, get_longer jobs (job ∷ []) x.0 x.1 x.2, x.3, x.4))
+      (λ (x : (n : ℕ) × (j : Job C × Seen (Reply A)) × (slice_get jobs n ≡ Some j) × (j.0.place ≡ k) × (o ≡ reported j.1)). inl (x.0, x.1, get_longer jobs (job ∷ []) x.0 x.1 x.2, x.3, x.4))
       (λ (none : (n : ℕ) (j : Job C × Seen (Reply A)) → slice_get jobs n ≡ Some j → j.0.place ≢ k). inr (λ n j at' is. dite (ℕ_discrete n (length jobs))
       (λ (last : n ≡ length jobs). no (sym is ∙ ap (λ (z : Job C × Seen (Reply A)). z.0.place) (sym (some_eq job j (sym (get_last jobs job) ∙ ap (slice_get (jobs ++ job ∷ [])) (sym last) ∙ at')))))
       (λ (front : n ≢ length jobs). none n j (sym (get_snoc_else jobs n job front) ∙ at') is))) (f k o (sym (others k no) ∙ e)))
 
-  pub none_told : (outcomes : List (HistoryOutcome A)) → AreTold {C = C} {A = A} [] outcomes
+  pub none_told : (outcomes : List (HistoryOutcome A)) → AreReported {C = C} {A = A} [] outcomes
   none_told outcomes k o e = inr (λ n j at. absurd (no_job n j at)) where
     no_job : (n : ℕ) (j : Job C × Seen (Reply A)) → slice_get [] n ≡ Some j → ⊥
     no_job n j at = let low = get_within [] j n at in omega arith

@@ -7,7 +7,7 @@ ghost use Rattle.job_table.specs.Passes.{IsPassOf, NoneQueued};
 ghost use Rattle.prove_serve.specs.Script.{AreInPlace, AreDuties, IsDuty, AreOutcomes, AreVacant, ArePlaced, IsPut, plain};
 ghost use Rattle.prove_serve.specs.Sound.{ActsFor, HasDone, HasSubmitted, IsServed, submitted_by};
 ghost use Rattle.prove_serve.specs.History.{IsHistoryOf};
-ghost use Rattle.prove_serve.specs.Told.{AreTold, place_of, told};
+ghost use Rattle.prove_serve.specs.Reported.{AreReported, place_of, reported};
 
 use crate::job::{Job, Reply};
 use crate::outcome::{HistoryOutcome, Run};
@@ -138,9 +138,9 @@ fn spread<
 }
 
 /// How many jobs a table needs capacity for, which is one at least.
-fn room_for<C>(jobs: &Vec<Job<C>>) -> u32
+fn capacity_for<C>(jobs: &Vec<Job<C>>) -> u32
     requires { vec_len jobs.now ≤ 256 }
-    ensures room { vec_len jobs.now ≤ result }
+    ensures capacity { vec_len jobs.now ≤ result }
     ensures offered { (0 < result) × (result ≤ 256) }
 {
     if jobs.is_empty() {
@@ -171,7 +171,7 @@ where
         jobs.items closed.history.items closed.jobs.items) }
 {
     let script = Snapshot::of(&jobs);
-    let capacity = room_for(&jobs);
+    let capacity = capacity_for(&jobs);
     let duties = dealt(alloc, jobs, provers, clients)?;
     let (table, pass) = JobTable::new(alloc, capacity, clients + provers)?;
     let submitting = AtomicU64::new(u64::from(clients));
@@ -249,7 +249,7 @@ where
     } = closed;
     copy_entries(events, &mut history);
     copy_places(&jobs, &mut places);
-    tell_all(jobs, &mut outcomes);
+    report_all(jobs, &mut outcomes);
     Ok(Run {
         outcomes,
         history,
@@ -270,7 +270,8 @@ fn unended<A: Drop>(alloc: Global, count: usize) -> Result<Vec<HistoryOutcome<A>
 
 /// The steps of the table, without cases and outcomes.
 fn copy_entries<C: Drop, A: Drop>(events: Vec<Event<C, A>>, entries: &mut Vec<Entry>)
-    requires room { (vec_len entries.old ≡ 0) × (length events.items ≤ vec_capacity entries.old) }
+    requires capacity { (vec_len entries.old ≡ 0)
+        × (length events.items ≤ vec_capacity entries.old) }
     ensures { entries.new.items ≡ entries_of events.items }
 {
     for event in events {
@@ -280,7 +281,7 @@ fn copy_entries<C: Drop, A: Drop>(events: Vec<Event<C, A>>, entries: &mut Vec<En
 
 /// The place of each job.
 fn copy_places<C, A>(jobs: &[(Job<C>, Seen<A>)], places: &mut Vec<u32>)
-    requires room { (vec_len places.old ≡ 0) × (length jobs.now ≤ vec_capacity places.old) }
+    requires capacity { (vec_len places.old ≡ 0) × (length jobs.now ≤ vec_capacity places.old) }
     ensures { places.new.items ≡ map place_of jobs.now }
 {
     for job in jobs {
@@ -289,20 +290,20 @@ fn copy_places<C, A>(jobs: &[(Job<C>, Seen<A>)], places: &mut Vec<u32>)
 }
 
 /// Puts each outcome at its job's place.
-fn tell_all<C: Drop, A: Fits<C> + Drop>(
+fn report_all<C: Drop, A: Fits<C> + Drop>(
     jobs: Vec<(Job<C>, Seen<Reply<A>>)>,
     outcomes: &mut Vec<HistoryOutcome<A>>,
 )
     ensures long { vec_len outcomes.new ≡ vec_len outcomes.old }
-    ensures each { AreTold jobs.items outcomes.new.items }
+    ensures each { AreReported jobs.items outcomes.new.items }
 {
     for (job, seen) in jobs {
-        put_at(outcomes, job.place, told(seen));
+        put_at(outcomes, job.place, reported(seen));
     }
 }
 
-fn told<A>(seen: Seen<Reply<A>>) -> HistoryOutcome<A>
-    ensures { result ≡ told seen }
+fn reported<A>(seen: Seen<Reply<A>>) -> HistoryOutcome<A>
+    ensures { result ≡ reported seen }
 {
     match seen {
         Seen::Queued | Seen::Running => HistoryOutcome::Memory,

@@ -138,11 +138,11 @@ fn keep<C: Drop>(
     submitted: Result<Receipt, Full<Job<C>>>,
     marked: bool,
 )
-    requires room { vec_len receipts.old < vec_capacity receipts.old }
+    requires capacity { vec_len receipts.old < vec_capacity receipts.old }
     ensures kept { (k : ℕ) (r : Receipt) → slice_get receipts.new.items k ≡ Some r
         → (slice_get receipts.old.items k ≡ Some r) ⊎ ((marked ≡ true) × (submitted ≡ Ok r)) }
     ensures few { vec_len receipts.new ≤ vec_len receipts.old + 1 }
-    ensures room { vec_capacity receipts.old ≤ vec_capacity receipts.new }
+    ensures capacity { vec_capacity receipts.old ≤ vec_capacity receipts.new }
 {
     let Ok(receipt) = submitted else {
         return;
@@ -165,7 +165,7 @@ fn submit_one<R: Wait, C: Drop, A: Fits<C> + Drop>(
     requires job { IsOf script.now.value.items job }
     requires acts { ActsFor script.now.value.items pass.old }
     requires marked { AreMarked pass.old.seen receipts.old.items }
-    requires room { vec_len receipts.old < vec_capacity receipts.old }
+    requires capacity { vec_len receipts.old < vec_capacity receipts.old }
     ensures of { IsPassOf table.now pass.new }
     ensures held { pass.new.held ≡ pass.old.held }
     ensures shares { pass.new.shares ≡ pass.old.shares }
@@ -173,7 +173,7 @@ fn submit_one<R: Wait, C: Drop, A: Fits<C> + Drop>(
     ensures offers { Offers job pass.old pass.new }
     ensures marked { AreMarked pass.new.seen receipts.new.items }
     ensures few { vec_len receipts.new ≤ vec_len receipts.old + 1 }
-    ensures room { vec_capacity receipts.old ≤ vec_capacity receipts.new }
+    ensures capacity { vec_capacity receipts.old ≤ vec_capacity receipts.new }
 {
     let marked = job.marked;
     let (submitted, _) = table.submit(rt, pass, job);
@@ -193,7 +193,8 @@ fn submit_all<R: Wait, C: Drop, A: Fits<C> + Drop>(
     requires jobs { AreOf script.now.value.items jobs.items }
     requires acts { ActsFor script.now.value.items pass.old }
     requires none { submitted_by pass.old ≡ 0 }
-    requires room { (vec_len receipts.old ≡ 0) × (length jobs.items ≤ vec_capacity receipts.old) }
+    requires capacity { (vec_len receipts.old ≡ 0)
+        × (length jobs.items ≤ vec_capacity receipts.old) }
     ensures of { IsPassOf table.now pass.new }
     ensures held { pass.new.held ≡ pass.old.held }
     ensures shares { pass.new.shares ≡ pass.old.shares }

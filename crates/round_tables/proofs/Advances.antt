@@ -5,9 +5,9 @@ use Rattle.std.proofs.lemmas.List.{length-map, take_more_set}
 use Rattle.std.proofs.lemmas.List.Elements.{All-map}
 use Rattle.std.proofs.lemmas.Nat.{pow-add}
 use Rattle.field_ext.specs.Field.{K}
-use Rattle.round_tables.specs.PartTables.{PartTables, HasRoom, folded_part, cuts}
+use Rattle.round_tables.specs.PartTables.{PartTables, HasCapacity, folded_part, cuts}
 use Rattle.round_tables.specs.declared.working.Working.{Working}
-use Rattle.round_tables.specs.Working.{bound_of, parts_of, HasRooms, AreSameRooms, AreFolded}
+use Rattle.round_tables.specs.Working.{bound_of, parts_of, HasCapacities, AreSameCapacities, AreFolded}
 
 pub is-true : (b : Bool) → b ≡ true → IsTrue b
 is-true b e = e
@@ -19,52 +19,52 @@ pub in-many-parts : (w : Working) → w.merged ≡ false → parts_of w ≡ w.ma
 in-many-parts w e = ap (λ (b : Bool). if b then w.one.items else w.many.items) e
 
 -- several parts in use aren't the one
-pub spread-many : (k : ℕ) (w : Working) → HasRooms k w → 1 < length (parts_of w) → w.merged ≡ false
-spread-many k w rooms more = on w.merged refl where
+pub spread-many : (k : ℕ) (w : Working) → HasCapacities k w → 1 < length (parts_of w) → w.merged ≡ false
+spread-many k w capacities more = on w.merged refl where
   on : (b : Bool) → w.merged ≡ b → w.merged ≡ false
   on false e = e
-  on true e = absurd (omega (arith, ap length (in-one-part w e), rooms.one))
+  on true e = absurd (omega (arith, ap length (in-one-part w e), capacities.one))
 
 -- all values are in parts
 pub whole-parts : (k : ℕ) → 2 ^ cuts k * 2 ^ (k - cuts k) ≡ 2 ^ k
 whole-parts k = let e : cuts k + (k - cuts k) ≡ k = omega arith in sym (pow-add 2 (cuts k) (k - cuts k)) ∙ ap (λ (x : ℕ). 2 ^ x) e
 
 -- folded parts have the capacities that they had
-pub rooms-folded : (k : ℕ) (old new : Working) (r : K) → HasRooms k old → AreFolded old r new → HasRooms k new
-rooms-folded k old new r rooms is = let o = is.others in on old.merged refl where
-  room-kept : (n : ℕ) (ps : List PartTables) → All (HasRoom n) ps → All (HasRoom n) (map (folded_part r) ps)
-  room-kept n ps h = All-map (HasRoom n) (folded_part r) ps (λ i d u. h i d u)
+pub capacities-folded : (k : ℕ) (old new : Working) (r : K) → HasCapacities k old → AreFolded old r new → HasCapacities k new
+capacities-folded k old new r capacities is = let o = is.others in on old.merged refl where
+  capacity-kept : (n : ℕ) (ps : List PartTables) → All (HasCapacity n) ps → All (HasCapacity n) (map (folded_part r) ps)
+  capacity-kept n ps h = All-map (HasCapacity n) (folded_part r) ps (λ i d u. h i d u)
 
-  on : (b : Bool) → old.merged ≡ b → HasRooms k new
+  on : (b : Bool) → old.merged ≡ b → HasCapacities k new
   on true e =
       let now : new.one.items ≡ map (folded_part r) old.one.items = sym (in-one-part new (is.others.merged ∙ e)) ∙ is.parts ∙ ap (map (folded_part r)) (in-one-part old e) in
       let same : new.many.items ≡ old.many.items = ap (λ v. v.items) (is.others.many e) in record {
-        challenges = ap vec_len is.others.challenges ∙ rooms.challenges;
-        left_equality = ap vec_len is.others.left_equality ∙ rooms.left_equality;
-        scales = ap vec_len is.others.scales ∙ rooms.scales;
-        shifts = ap vec_len is.others.shifts ∙ rooms.shifts;
-        many = ap length same ∙ rooms.many;
-        many_room = subst (All (HasRoom (2 ^ (k - cuts k)))) (sym same) rooms.many_room;
-        one = ap length now ∙ length-map old.one.items (folded_part r) ∙ rooms.one;
-        one_room = subst (All (HasRoom (2 ^ cuts k))) (sym now) (room-kept (2 ^ cuts k) old.one.items rooms.one_room);
+        challenges = ap vec_len is.others.challenges ∙ capacities.challenges;
+        left_equality = ap vec_len is.others.left_equality ∙ capacities.left_equality;
+        scales = ap vec_len is.others.scales ∙ capacities.scales;
+        shifts = ap vec_len is.others.shifts ∙ capacities.shifts;
+        many = ap length same ∙ capacities.many;
+        many_capacity = subst (All (HasCapacity (2 ^ (k - cuts k)))) (sym same) capacities.many_capacity;
+        one = ap length now ∙ length-map old.one.items (folded_part r) ∙ capacities.one;
+        one_capacity = subst (All (HasCapacity (2 ^ cuts k))) (sym now) (capacity-kept (2 ^ cuts k) old.one.items capacities.one_capacity);
       }
   on false e =
       let now : new.many.items ≡ map (folded_part r) old.many.items = sym (in-many-parts new (is.others.merged ∙ e)) ∙ is.parts ∙ ap (map (folded_part r)) (in-many-parts old e) in
       let same : new.one.items ≡ old.one.items = ap (λ v. v.items) (is.others.one e) in record {
-        challenges = ap vec_len is.others.challenges ∙ rooms.challenges;
-        left_equality = ap vec_len is.others.left_equality ∙ rooms.left_equality;
-        scales = ap vec_len is.others.scales ∙ rooms.scales;
-        shifts = ap vec_len is.others.shifts ∙ rooms.shifts;
-        many = ap length now ∙ length-map old.many.items (folded_part r) ∙ rooms.many;
-        many_room = subst (All (HasRoom (2 ^ (k - cuts k)))) (sym now) (room-kept (2 ^ (k - cuts k)) old.many.items rooms.many_room);
-        one = ap length same ∙ rooms.one;
-        one_room = subst (All (HasRoom (2 ^ cuts k))) (sym same) rooms.one_room;
+        challenges = ap vec_len is.others.challenges ∙ capacities.challenges;
+        left_equality = ap vec_len is.others.left_equality ∙ capacities.left_equality;
+        scales = ap vec_len is.others.scales ∙ capacities.scales;
+        shifts = ap vec_len is.others.shifts ∙ capacities.shifts;
+        many = ap length now ∙ length-map old.many.items (folded_part r) ∙ capacities.many;
+        many_capacity = subst (All (HasCapacity (2 ^ (k - cuts k)))) (sym now) (capacity-kept (2 ^ (k - cuts k)) old.many.items capacities.many_capacity);
+        one = ap length same ∙ capacities.one;
+        one_capacity = subst (All (HasCapacity (2 ^ cuts k))) (sym same) capacities.one_capacity;
       }
 
 -- the challenges with one more
-pub noted : (old self : Working) (r : K) (size : ℕ) → vec_len old.challenges ≡ size → old.count < size → AreSameRooms old self → take (self.count + 1) (set self.challenges.items self.count r) ≡ bound_of old ++ r ∷ []
-noted old self r size room u same =
-    let len : length self.challenges.items ≡ size = sym self.challenges.ok.0 ∙ ap vec_len same.challenges ∙ room in
+pub noted : (old self : Working) (r : K) (size : ℕ) → vec_len old.challenges ≡ size → old.count < size → AreSameCapacities old self → take (self.count + 1) (set self.challenges.items self.count r) ≡ bound_of old ++ r ∷ []
+noted old self r size capacity u same =
+    let len : length self.challenges.items ≡ size = sym self.challenges.ok.0 ∙ ap vec_len same.challenges ∙ capacity in
     take_more_set self.challenges.items self.count r (omega (arith, same.count))
     ∙ ap (λ (l : List K). l ++ r ∷ []) (λ i. take (same.count i) ((same.challenges i).items))
 

@@ -146,7 +146,7 @@ some_left k n n' e u = by_phase (cases_lt n' k)
     by_phase (inr v) = let p = (in_right_phase k n' v).0 in let q = ap (left_in_phase k) e in omega (arith, p, q)
 
 pub length-count : {A : Type 0} (challenges : List A) (k count : ℕ) → length challenges ≡ k + k → count ≤ k + k → length (take count challenges) ≡ count
-length-count challenges k count room u = length-take-le count challenges (omega arith)
+length-count challenges k count capacity u = length-take-le count challenges (omega arith)
 
 -- folded tables where the size and the old table are equal
 pub folded_along : {A : Type 0} (o : Ops A) (n n' : ℕ) (t t' : List A) (r : A) (new : List A) → n ≡ n' → t ≡ t' → IsFolded o n t r new → IsFolded o n' t' r new

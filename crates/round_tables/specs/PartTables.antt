@@ -8,7 +8,7 @@ pub record PartTables : Type 0 where
   pub table : List K
   pub scales : List K
   pub shifts : List K
-  pub room : ℕ
+  pub capacity : ℕ
 
 -- a table with its first coordinate bound to r: one of a single value stays
 abbrev pub halved : K → List K → List K
@@ -20,7 +20,7 @@ folded_part r p = record {
   table = halved r p.table;
   scales = halved r p.scales;
   shifts = halved r p.shifts;
-  room = p.room;
+  capacity = p.capacity;
 }
 
 -- how many pairs the three tables of a part have
@@ -33,8 +33,8 @@ pub record HasSize (n : ℕ) (p : PartTables) : Type 0 where
   pub scales : length p.scales ≡ n
   pub shifts : length p.shifts ≡ n
 
-abbrev pub HasRoom : ℕ → PartTables → Type 0
-HasRoom n p = n ≤ p.room
+abbrev pub HasCapacity : ℕ → PartTables → Type 0
+HasCapacity n p = n ≤ p.capacity
 
 -- one table of all parts, one after another
 abbrev pub flat : (PartTables → List K) → List PartTables → List K

@@ -9,7 +9,7 @@ use Rattle.gkr_layers.specs.Places.{Place}
 use Rattle.gkr_layers.specs.Places.Place.{At, AtBoth}
 use Rattle.round_tables.specs.Weights.{HasWeights}
 use Rattle.field_ext.specs.Multilinear.{folded}
-use Rattle.round_tables.specs.PartTables.{PartTables, HasRoom, cuts, flat_table, flat_scales, flat_shifts, folded_part, AreLaidOut}
+use Rattle.round_tables.specs.PartTables.{PartTables, HasCapacity, cuts, flat_table, flat_scales, flat_shifts, folded_part, AreLaidOut}
 use Rattle.round_tables.specs.LayerSum.{left_in_phase}
 use Rattle.round_tables.specs.Phase.{IsLayer, IsPhase}
 
@@ -35,26 +35,26 @@ abbrev pub parts_of : Working → List PartTables
 parts_of w = if w.merged then w.one.items else w.many.items
 
 -- there are buffers for two phases of k challenges
-pub record HasRooms (k : ℕ) (w : Working) : Type 0 where
+pub record HasCapacities (k : ℕ) (w : Working) : Type 0 where
   pub challenges : vec_len w.challenges ≡ k + k
   pub left_equality : vec_len w.left_equality ≡ 2 ^ k
   pub scales : vec_len w.scales ≡ 2 ^ k
   pub shifts : vec_len w.shifts ≡ 2 ^ k
   pub many : length w.many.items ≡ 2 ^ cuts k
-  pub many_room : All (HasRoom (2 ^ (k - cuts k))) w.many.items
+  pub many_capacity : All (HasCapacity (2 ^ (k - cuts k))) w.many.items
   pub one : length w.one.items ≡ 1
-  pub one_room : All (HasRoom (2 ^ cuts k)) w.one.items
+  pub one_capacity : All (HasCapacity (2 ^ cuts k)) w.one.items
 
 -- with m coordinates of the phase left, the tables are laid out in parts
 pub record WorksFor (layer : LayerGates) (w : Working) : Type 0 where
-  pub rooms : HasRooms layer.k w
+  pub capacities : HasCapacities layer.k w
   pub counted : w.count ≤ layer.k + layer.k
   pub laid : AreLaidOut layer.k (left_in_phase layer.k w.count) (parts_of w)
   pub phase : IsPhase K k_ops layer.k layer.gates.now layer.values.now.items (place_of layer)
       (bound_of w) (flat_table (parts_of w)) (flat_scales (parts_of w)) (flat_shifts (parts_of w))
 
 -- all but the parts in use is the same
-pub record AreSameRooms (old new : Working) : Type 0 where
+pub record AreSameCapacities (old new : Working) : Type 0 where
   pub challenges : new.challenges ≡ old.challenges
   pub count : new.count ≡ old.count
   pub left_equality : new.left_equality ≡ old.left_equality
@@ -66,12 +66,12 @@ pub record AreSameRooms (old new : Working) : Type 0 where
 
 -- all but the parts in use is the same, and these are folded by r
 pub record AreFolded (old : Working) (r : K) (new : Working) : Type 0 where
-  pub others : AreSameRooms old new
+  pub others : AreSameCapacities old new
   pub parts : parts_of new ≡ map (folded_part r) (parts_of old)
 
 -- r is noted, and the tables are folded by it
 pub record IsAdvanced (k : ℕ) (old : Working) (r : K) (new : Working) : Type 0 where
-  pub rooms : HasRooms k new
+  pub capacities : HasCapacities k new
   pub bound : bound_of new ≡ bound_of old ++ r ∷ []
   pub count : new.count ≡ old.count + 1
   pub laid : AreLaidOut k (left_in_phase k old.count - 1) (parts_of new)
@@ -87,4 +87,4 @@ lent_parts (Some old) = parts_of old.value
 -- the tables stand for the layer's sum, or did so when their parts were lent, since when nothing else was changed
 abbrev pub WorksOrLent : LayerGates → Working → Option (Snapshot Working) → Type 0
 WorksOrLent layer w None = WorksFor layer w
-WorksOrLent layer w (Some old) = WorksFor layer old.value × AreSameRooms old.value w
+WorksOrLent layer w (Some old) = WorksFor layer old.value × AreSameCapacities old.value w

@@ -15,7 +15,7 @@ const BLOCK: usize = 128;
 
 /// Binds the first coordinate of the table in the first `2 * half` values to `r`.
 /// The folded table is in the first `half` values. It takes a step for each pair.
-pub(crate) fn fold_front<V: Operand, L: Ledger>(
+pub(crate) fn fold_first<V: Operand, L: Ledger>(
     values: &mut [Ext],
     half: usize,
     r: Ext,
@@ -51,12 +51,12 @@ fn fold_block<V: Operand, L: Ledger>(
 )
     requires pairs { 2 * (from + count) ≤ length values.old }
     requires values { (i : ℕ) → from ≤ i → V.holds (slice_index_or values.old i zero_k) }
-    requires room { count ≤ length block.old }
+    requires capacity { count ≤ length block.old }
     ensures before { (i : ℕ) → i < from
         → slice_index_or values.new i zero_k ≡ slice_index_or values.old i zero_k }
     ensures within { (i : ℕ) → from ≤ i → i < from + count
         → slice_index_or values.new i zero_k ≡ slice_index_or (folded k_ops values.old r) i zero_k }
-    ensures behind { (i : ℕ) → from + count ≤ i
+    ensures after { (i : ℕ) → from + count ≤ i
         → slice_index_or values.new i zero_k ≡ slice_index_or values.old i zero_k }
     ensures steps { steps.new ≡ steps.old + count }
 {
@@ -75,7 +75,7 @@ fn fold_into<V: Operand, L: Ledger>(
 )
     requires pairs { 2 * (from + count) ≤ length values.now }
     requires values { (i : ℕ) → from ≤ i → V.holds (slice_index_or values.now i zero_k) }
-    requires room { count ≤ length block.old }
+    requires capacity { count ≤ length block.old }
     ensures folds { (i : ℕ) → i < count
         → slice_index_or block.new i zero_k ≡ slice_index_or (folded k_ops values.now r) (from + i)
         zero_k }
@@ -97,7 +97,7 @@ fn write_block(values: &mut [Ext], from: usize, count: usize, block: &[Ext])
         → slice_index_or values.new i zero_k ≡ slice_index_or values.old i zero_k }
     ensures within { (i : ℕ) → i < count
         → slice_index_or values.new (from + i) zero_k ≡ slice_index_or block.now i zero_k }
-    ensures behind { (i : ℕ) → from + count ≤ i
+    ensures after { (i : ℕ) → from + count ≤ i
         → slice_index_or values.new i zero_k ≡ slice_index_or values.old i zero_k }
 {
     for i in 0..count {

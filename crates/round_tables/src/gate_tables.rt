@@ -6,20 +6,20 @@ ghost use Rattle.circuit_core.specs.Parts.{IsOver, height};
 ghost use Rattle.circuit_core.specs.Sound.{exponent_at};
 ghost use Rattle.circuit_eval.specs.Tables.{FitLayers};
 ghost use Rattle.gkr_layers.specs.Places.Place.{At, AtBoth};
-ghost use Rattle.gkr_layers.specs.Standing as standing;
+ghost use Rattle.gkr_layers.specs.ClaimPlace as claim_place;
 ghost use Rattle.round_tables.specs.Phase.{IsLayer};
 ghost use Rattle.field_ext.specs.Polynomial.{coefficients};
 ghost use Rattle.round_tables.specs.LayerSum.{sum_of_layer, pairs_of, pieces_of, piece_pairs, piece_poly, bind_steps};
 ghost use Rattle.round_tables.specs.PartTables.{folded_part};
 
+use crate::buffers::{Buffers, TooSmallBuffers};
 use crate::layer_gates::LayerGates;
 use crate::part::Part;
-use crate::room::{Room, TooLittleRoom};
 use crate::working::{Working, pair_count};
 use circuit_core::{Circuit, CircuitGate};
 use circuit_eval::Values;
 use field_ext::Ext;
-use gkr_layers::Standing;
+use gkr_layers::ClaimPlace;
 use mle_table::Table;
 use std::alloc::{AllocError, Global};
 use std::marker::{Brand, Model};
@@ -72,18 +72,18 @@ impl<'a> GateTables<'a> {
     {
         let gates = circuit.gates(layer as usize);
         let table = values.table(layer as usize + 1);
-        let room = Room::new(alloc, gates.len(), 1 << table.k())?;
-        Ok(GateTables::start_in(room, gates, table, point)?)
+        let buffers = Buffers::new(alloc, gates.len(), 1 << table.k())?;
+        Ok(GateTables::start_in(buffers, gates, table, point)?)
     }
 
     /// The sumcheck of a layer of gates over the table of the layer below, at a point of the layer, in buffers that are there. Err
     /// only where they are too small and no memory is found, and then they are handed back.
     pub fn start_in(
-        room: Room,
+        buffers: Buffers,
         gates: &'a [CircuitGate],
         values: &'a Table,
         point: &[Ext],
-    ) -> Result<GateTables<'a>, TooLittleRoom>
+    ) -> Result<GateTables<'a>, TooSmallBuffers>
         requires least { 1 ≤ values.now.k }
         requires most { values.now.k ≤ 16 }
         requires width { length gates.now ≡ 2 ^ length point.now }
@@ -94,12 +94,12 @@ impl<'a> GateTables<'a> {
         ensures place { IfOk result (λ sum. sum.place ≡ At point.now) }
         ensures bound { IfOk result (λ sum. (sum.bound ≡ []) × (sum.lent ≡ [])) }
     {
-        let Room {
+        let Buffers {
             first,
             second,
             point_equality,
             working,
-        } = room.fitted(gates.len(), values.k() as usize, point, point)?;
+        } = buffers.fitted(gates.len(), values.k() as usize, point, point)?;
         let layer = LayerGates::new(point_equality, gates, values, first, second);
         let working = working.begin(&layer);
         Ok(GateTables {
@@ -129,20 +129,20 @@ impl<'a> GateTables<'a> {
     {
         let gates = circuit.gates(layer as usize);
         let table = values.table(layer as usize + 1);
-        let room = Room::new(alloc, gates.len(), 1 << table.k())?;
-        Ok(GateTables::start_two_in(room, gates, table, first, second, weight)?)
+        let buffers = Buffers::new(alloc, gates.len(), 1 << table.k())?;
+        Ok(GateTables::start_two_in(buffers, gates, table, first, second, weight)?)
     }
 
     /// The same sumcheck, of a layer of gates over the table of the layer below, in buffers that are there. Err only where they
     /// are too small and no memory is found, and then they are handed back.
     pub fn start_two_in(
-        room: Room,
+        buffers: Buffers,
         gates: &'a [CircuitGate],
         values: &'a Table,
         first: &[Ext],
         second: &[Ext],
         weight: Ext,
-    ) -> Result<GateTables<'a>, TooLittleRoom>
+    ) -> Result<GateTables<'a>, TooSmallBuffers>
         requires least { 1 ≤ values.now.k }
         requires most { values.now.k ≤ 16 }
         requires few { length second.now ≤ 16 }
@@ -155,12 +155,12 @@ impl<'a> GateTables<'a> {
         ensures place { IfOk result (λ sum. sum.place ≡ AtBoth first.now second.now weight) }
         ensures bound { IfOk result (λ sum. (sum.bound ≡ []) × (sum.lent ≡ [])) }
     {
-        let Room {
+        let Buffers {
             first,
             second,
             point_equality,
             working,
-        } = room.fitted(gates.len(), values.k() as usize, first, second)?;
+        } = buffers.fitted(gates.len(), values.k() as usize, first, second)?;
         let layer = LayerGates::new_two(point_equality, gates, values, first, second, weight);
         let working = working.begin(&layer);
         Ok(GateTables {
@@ -173,30 +173,30 @@ impl<'a> GateTables<'a> {
     /// The sumcheck of a layer of at most 65,536 gates in buffers that are there, wherever the claim is. Err only where they
     /// aren't enough and no memory is found.
     pub fn start_at(
-        room: Room,
+        buffers: Buffers,
         gates: &'a [CircuitGate],
         values: &'a Table,
-        place: &Standing<'_>,
-    ) -> Result<GateTables<'a>, TooLittleRoom>
+        place: &ClaimPlace<'_>,
+    ) -> Result<GateTables<'a>, TooSmallBuffers>
         requires layer { IsLayer K values.now.k gates.now values.now.items
-            (standing.place_of place.now) }
+            (claim_place.place_of place.now) }
         requires few { length gates.now ≤ 65536 }
         ensures k { IfOk result (λ sum. sum.k ≡ values.now.k) }
         ensures gates { IfOk result (λ sum. sum.gates ≡ gates.now) }
         ensures values { IfOk result (λ sum. sum.values ≡ values.now.items) }
-        ensures place { IfOk result (λ sum. sum.place ≡ standing.place_of place.now) }
+        ensures place { IfOk result (λ sum. sum.place ≡ claim_place.place_of place.now) }
         ensures bound { IfOk result (λ sum. (sum.bound ≡ []) × (sum.lent ≡ [])) }
     {
         match *place {
-            Standing::One(point) => GateTables::start_in(room, gates, values, point),
-            Standing::Both(first, second, weight) => {
-                GateTables::start_two_in(room, gates, values, first, second, weight)
+            ClaimPlace::One(point) => GateTables::start_in(buffers, gates, values, point),
+            ClaimPlace::Both(first, second, weight) => {
+                GateTables::start_two_in(buffers, gates, values, first, second, weight)
             }
         }
     }
 
     /// The buffers, for another layer.
-    pub fn into_room(self) -> Room
+    pub fn into_buffers(self) -> Buffers
         requires { self.lent ≡ [] }
     {
         let GateTables { layer, working, .. } = self;
@@ -206,7 +206,7 @@ impl<'a> GateTables<'a> {
             point_equality,
             ..
         } = layer;
-        Room {
+        Buffers {
             first,
             second,
             point_equality,

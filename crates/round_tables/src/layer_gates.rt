@@ -46,7 +46,7 @@ impl<'a> LayerGates<'a> {
         second: Vec<Ext>,
     ) -> LayerGates<'a>
         requires layer { IsLayer K values.now.k gates.now values.now.items (At first.items) }
-        requires room { vec_len point_equality ≡ length gates.now }
+        requires capacity { vec_len point_equality ≡ length gates.now }
         ensures holds { IsLayerGates result }
         ensures k { result.k ≡ values.now.k }
         ensures gates { result.gates.now ≡ gates.now }
@@ -79,7 +79,7 @@ impl<'a> LayerGates<'a> {
         requires few { vec_len second ≤ 16 }
         requires layer { IsLayer K values.now.k gates.now values.now.items
             (AtBoth first.items second.items weight) }
-        requires room { vec_len point_equality ≡ length gates.now }
+        requires capacity { vec_len point_equality ≡ length gates.now }
         ensures holds { IsLayerGates result }
         ensures k { result.k ≡ values.now.k }
         ensures gates { result.gates.now ≡ gates.now }
@@ -101,11 +101,11 @@ impl<'a> LayerGates<'a> {
     }
 
     /// Writes the values into a buffer for all of them.
-    pub(crate) fn write_values(&self, room: &mut [Ext])
-        requires { length room.old ≡ 2 ^ self.now.values.now.k }
-        ensures { room.new ≡ self.now.values.now.items }
+    pub(crate) fn write_values(&self, buffer: &mut [Ext])
+        requires { length buffer.old ≡ 2 ^ self.now.values.now.k }
+        ensures { buffer.new ≡ self.now.values.now.items }
     {
-        room.copy_from_slice(self.values.values());
+        buffer.copy_from_slice(self.values.values());
     }
 }
 

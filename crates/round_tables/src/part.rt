@@ -8,7 +8,7 @@ ghost use Rattle.mle_table.specs.Shape.{AreBase};
 ghost use Rattle.round_tables.specs.Tables.{pair_at};
 ghost use Rattle.round_tables.specs.PartTables.{HasSize, flat_table, flat_scales, flat_shifts, folded_part, halved, part_pairs};
 
-use crate::folding::fold_front;
+use crate::folding::fold_first;
 use crate::operand::{Base, Operand, Whole};
 use crate::pairs::pair_sum;
 use field_ext::Ext;
@@ -23,7 +23,7 @@ pub struct Part {
     table: Vec<Ext>,
     scales: Vec<Ext>,
     shifts: Vec<Ext>,
-    room: usize,
+    capacity: usize,
     // Whether the table's values are known to lie in the base field.
     base: bool,
 }
@@ -39,57 +39,63 @@ impl Model for Part {
       table = p.table.items;
       scales = p.scales.items;
       shifts = p.shifts.items;
-      room = p.room;
+      capacity = p.capacity;
     } };
 
-    ghost invariant = { λ p. (p.room ≤ vec_capacity p.table) × (p.room ≤ vec_capacity p.scales)
-        × (p.room ≤ vec_capacity p.shifts) × (IsTrue p.base → AreBase p.table.items) };
+    ghost invariant = { λ p. (p.capacity ≤ vec_capacity p.table)
+        × (p.capacity ≤ vec_capacity p.scales) × (p.capacity ≤ vec_capacity p.shifts)
+        × (IsTrue p.base → AreBase p.table.items) };
 }
 
 /// Folds a table, whose values lie in the base field where V says so, and keeps the first half. One of a single value stays.
 fn halve<V: Operand, L: Ledger>(values: &mut Vec<Ext>, r: Ext, steps: &mut Steps<L>)
     requires values { (i : ℕ) → V.holds (slice_index_or values.old.items i zero_k) }
     ensures halved { values.new.items ≡ halved r values.old.items }
-    ensures room { vec_capacity values.new ≡ vec_capacity values.old }
+    ensures capacity { vec_capacity values.new ≡ vec_capacity values.old }
     ensures steps { steps.new ≡ steps.old + length values.old.items / 2 }
 {
     let half = values.len() / 2;
     if half == 0 {
         return;
     }
-    fold_front::<V, L>(values, half, r, steps);
+    fold_first::<V, L>(values, half, r, steps);
     values.truncate(half);
 }
 
 impl Part {
     /// An empty part with capacity for so many values of each table.
-    pub(crate) fn new(alloc: Global, room: usize) -> Result<Part, AllocError>
-        ensures { IfOk result (λ part. part.room ≡ room) }
+    pub(crate) fn new(alloc: Global, capacity: usize) -> Result<Part, AllocError>
+        ensures { IfOk result (λ part. part.capacity ≡ capacity) }
     {
         Ok(Part {
-            table: Vec::with_capacity(alloc, room)?,
-            scales: Vec::with_capacity(alloc, room)?,
-            shifts: Vec::with_capacity(alloc, room)?,
-            room,
+            table: Vec::with_capacity(alloc, capacity)?,
+            scales: Vec::with_capacity(alloc, capacity)?,
+            shifts: Vec::with_capacity(alloc, capacity)?,
+            capacity,
             base: false,
         })
     }
 
     /// Reserves capacity for so many values of each table.
-    pub(crate) fn fit(&mut self, room: usize) -> Result<(), AllocError>
-        ensures { IfOk result (λ _. self.new.room ≡ room) }
+    pub(crate) fn fit(&mut self, capacity: usize) -> Result<(), AllocError>
+        ensures { IfOk result (λ _. self.new.capacity ≡ capacity) }
     {
         self.clear();
-        self.table.reserve(room)?;
-        self.scales.reserve(room)?;
-        self.shifts.reserve(room)?;
-        self.room = room;
+        self.table.reserve(capacity)?;
+        self.scales.reserve(capacity)?;
+        self.shifts.reserve(capacity)?;
+        self.capacity = capacity;
         Ok(())
     }
 
     /// Takes all values out.
     pub(crate) fn clear(&mut self)
-        ensures { self.new ≡ record { table = []; scales = []; shifts = []; room = self.old.room } }
+        ensures { self.new ≡ record {
+          table = [];
+          scales = [];
+          shifts = [];
+          capacity = self.old.capacity;
+        } }
     {
         self.table.clear();
         self.scales.clear();
@@ -113,15 +119,15 @@ impl Part {
 
     /// Writes the values of its range, of which those of the first table lie in the base field if `base` is true.
     pub(crate) fn write(&mut self, table: &[Ext], scales: &[Ext], shifts: &[Ext], base: bool)
-        requires table { length table.now ≤ self.old.room }
-        requires scales { length scales.now ≤ self.old.room }
-        requires shifts { length shifts.now ≤ self.old.room }
+        requires table { length table.now ≤ self.old.capacity }
+        requires scales { length scales.now ≤ self.old.capacity }
+        requires shifts { length shifts.now ≤ self.old.capacity }
         requires base { IsTrue base → AreBase table.now }
         ensures { self.new ≡ record {
           table = table.now;
           scales = scales.now;
           shifts = shifts.now;
-          room = self.old.room;
+          capacity = self.old.capacity;
         } }
     {
         self.clear();
@@ -139,14 +145,14 @@ impl Part {
 
     /// Puts the values of another part after its own.
     pub(crate) fn append(&mut self, other: &Part)
-        requires table { length self.old.table + length other.now.table ≤ self.old.room }
-        requires scales { length self.old.scales + length other.now.scales ≤ self.old.room }
-        requires shifts { length self.old.shifts + length other.now.shifts ≤ self.old.room }
+        requires table { length self.old.table + length other.now.table ≤ self.old.capacity }
+        requires scales { length self.old.scales + length other.now.scales ≤ self.old.capacity }
+        requires shifts { length self.old.shifts + length other.now.shifts ≤ self.old.capacity }
         ensures { self.new ≡ record {
           table = self.old.table ++ other.now.table;
           scales = self.old.scales ++ other.now.scales;
           shifts = self.old.shifts ++ other.now.shifts;
-          room = self.old.room;
+          capacity = self.old.capacity;
         } }
     {
         let Ok(()) = self.table.extend_from_slice(&other.table) else {
@@ -163,13 +169,13 @@ impl Part {
 
     /// Takes the values of parts of one value, one after another.
     pub(crate) fn gather(&mut self, parts: &[Part])
-        requires room { length parts.now ≤ self.old.room }
+        requires capacity { length parts.now ≤ self.old.capacity }
         requires sizes { All (HasSize 1) parts.now }
         ensures { self.new ≡ record {
           table = flat_table parts.now;
           scales = flat_scales parts.now;
           shifts = flat_shifts parts.now;
-          room = self.old.room;
+          capacity = self.old.capacity;
         } }
     {
         self.clear();

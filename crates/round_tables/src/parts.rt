@@ -2,7 +2,7 @@
 
 ghost use Rattle.std.specs.Prelude.{◌≡◌, ◌≤◌, ◌<◌, ◌+◌, ◌-◌, ◌*◌, ◌^◌, IfOk, IsTrue, map, length, All};
 ghost use Rattle.mle_table.specs.Shape.{AreBase};
-ghost use Rattle.round_tables.specs.PartTables.{HasSize, HasRoom, cuts, folded_part, flat_table, flat_scales, flat_shifts};
+ghost use Rattle.round_tables.specs.PartTables.{HasSize, HasCapacity, cuts, folded_part, flat_table, flat_scales, flat_shifts};
 
 use crate::part::Part;
 use field_ext::Ext;
@@ -29,10 +29,10 @@ pub(crate) fn fit_parts(
     parts: &mut Vec<Part>,
     spare: &mut Vec<Part>,
     count: usize,
-    room: usize,
+    capacity: usize,
 ) -> Result<(), AllocError>
     ensures number { IfOk result (λ _. length parts.new.items ≡ count) }
-    ensures rooms { IfOk result (λ _. All (HasRoom room) parts.new.items) }
+    ensures capacities { IfOk result (λ _. All (HasCapacity capacity) parts.new.items) }
 {
     for _ in count..parts.len() {
         if let Some(part) = parts.pop() {
@@ -42,19 +42,19 @@ pub(crate) fn fit_parts(
     for _ in parts.len()..count {
         let part = match spare.pop() {
             Some(part) => part,
-            None => Part::new(alloc, room)?,
+            None => Part::new(alloc, capacity)?,
         };
         parts.push(part)?;
     }
-    fit_each(parts, room)
+    fit_each(parts, capacity)
 }
 
 /// Gives each part capacity for so many values.
-fn fit_each(parts: &mut [Part], room: usize) -> Result<(), AllocError>
-    ensures { IfOk result (λ _. All (HasRoom room) parts.new) }
+fn fit_each(parts: &mut [Part], capacity: usize) -> Result<(), AllocError>
+    ensures { IfOk result (λ _. All (HasCapacity capacity) parts.new) }
 {
     for i in 0..parts.len() {
-        parts[i].fit(room)?;
+        parts[i].fit(capacity)?;
     }
     Ok(())
 }
@@ -72,8 +72,8 @@ pub(crate) fn fill_parts(
     requires scales { length scales.now ≡ length parts.old * size }
     requires shifts { length shifts.now ≡ length parts.old * size }
     requires base { IsTrue base → AreBase table.now }
-    requires rooms { All (HasRoom size) parts.old }
-    ensures rooms { All (HasRoom size) parts.new }
+    requires capacities { All (HasCapacity size) parts.old }
+    ensures capacities { All (HasCapacity size) parts.new }
     ensures sizes { All (HasSize size) parts.new }
     ensures table { flat_table parts.new ≡ table.now }
     ensures scales { flat_scales parts.new ≡ scales.now }
@@ -99,10 +99,10 @@ pub(crate) fn fold_parts<L: Ledger>(parts: &mut [Part], half: usize, r: Ext, ste
 /// Puts the values of parts of one value into one part, one after another.
 pub(crate) fn merge_parts(parts: &[Part], one: &mut [Part])
     requires some { length one.old ≡ 1 }
-    requires room { All (HasRoom (length parts.now)) one.old }
+    requires capacity { All (HasCapacity (length parts.now)) one.old }
     requires sizes { All (HasSize 1) parts.now }
     ensures some { length one.new ≡ 1 }
-    ensures rooms { All (HasRoom (length parts.now)) one.new }
+    ensures capacities { All (HasCapacity (length parts.now)) one.new }
     ensures sizes { All (HasSize (length parts.now)) one.new }
     ensures table { flat_table one.new ≡ flat_table parts.now }
     ensures scales { flat_scales one.new ≡ flat_scales parts.now }

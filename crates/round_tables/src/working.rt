@@ -7,7 +7,7 @@ ghost use Rattle.round_tables.specs.Tables.{GathersLeft, GathersRight};
 ghost use Rattle.round_tables.specs.PartTables.{PartTables, HasSize, flat_table, flat_scales, flat_shifts, AreLaidOut};
 ghost use Rattle.field_ext.specs.Polynomial.{coefficients};
 ghost use Rattle.round_tables.specs.LayerSum.{left_in_phase, half_size, part_of_round};
-ghost use Rattle.round_tables.specs.Working.{place_of, parts_of, IsLayerGates, HasRooms, AreSameRooms, AreFolded, IsAdvanced, WorksFor, bound_of};
+ghost use Rattle.round_tables.specs.Working.{place_of, parts_of, IsLayerGates, HasCapacities, AreSameCapacities, AreFolded, IsAdvanced, WorksFor, bound_of};
 
 use crate::gathering::{gather_left, gather_right};
 use crate::layer_gates::{LayerGates, power};
@@ -92,7 +92,7 @@ impl Working {
     /// Gives the buffers the sizes of both phases over `2^k` values.
     pub(crate) fn fit(&mut self, k: usize) -> Result<(), AllocError>
         requires { k ≤ 16 }
-        ensures { IfOk result (λ _. HasRooms k self.new) }
+        ensures { IfOk result (λ _. HasCapacities k self.new) }
     {
         let size = power(k);
         let cuts = cut_count(k);
@@ -113,7 +113,7 @@ impl Working {
     /// Begins the first phase in these buffers, with no challenge bound.
     pub(crate) fn begin(mut self, layer: &LayerGates<'_>) -> Working
         requires layer { IsLayerGates layer.now }
-        requires rooms { HasRooms layer.now.k self }
+        requires capacities { HasCapacities layer.now.k self }
         ensures works { WorksFor layer.now result }
         ensures bound { bound_of result ≡ [] }
     {
@@ -131,8 +131,8 @@ impl Working {
     /// Cuts the values of the layer and what was gathered into parts.
     fn lay_out(&mut self, layer: &LayerGates<'_>)
         requires layer { IsLayerGates layer.now }
-        requires rooms { HasRooms layer.now.k self.old }
-        ensures rooms { HasRooms layer.now.k self.new }
+        requires capacities { HasCapacities layer.now.k self.old }
+        ensures capacities { HasCapacities layer.now.k self.new }
         ensures challenges { self.new.challenges ≡ self.old.challenges }
         ensures count { self.new.count ≡ self.old.count }
         ensures laid { AreLaidOut layer.now.k layer.now.k (parts_of self.new) }
@@ -164,7 +164,7 @@ impl Working {
 
     /// Hands out the parts in use.
     pub(crate) fn lend(&mut self) -> Vec<Part>
-        ensures others { AreSameRooms self.old self.new }
+        ensures others { AreSameCapacities self.old self.new }
         ensures parts { result.items ≡ parts_of self.old }
     {
         let none = Vec::new(self.alloc);
@@ -177,7 +177,7 @@ impl Working {
 
     /// Takes parts in, as those in use.
     pub(crate) fn take_back(&mut self, parts: Vec<Part>)
-        ensures others { AreSameRooms self.old self.new }
+        ensures others { AreSameCapacities self.old self.new }
         ensures parts { parts_of self.new ≡ parts.items }
     {
         if self.merged {
@@ -232,10 +232,10 @@ impl Working {
     /// Fills the table of the equality polynomial at the left operand's challenges.
     fn fill_left(&mut self, k: usize)
         requires most { k ≤ 16 }
-        requires rooms { HasRooms k self.old }
+        requires capacities { HasCapacities k self.old }
         requires left { self.old.count ≡ k }
         ensures equality { IsEqTable k_ops (bound_of self.old) self.new.left_equality.items }
-        ensures rooms { HasRooms k self.new }
+        ensures capacities { HasCapacities k self.new }
         ensures challenges { self.new.challenges ≡ self.old.challenges }
         ensures count { self.new.count ≡ self.old.count }
         ensures parts { parts_of self.new ≡ parts_of self.old }
@@ -247,14 +247,14 @@ impl Working {
     /// Begins the second phase: the left operand is bound, and its value is the one value of the table.
     fn turn<L: Ledger>(&mut self, layer: &LayerGates<'_>, steps: &mut Steps<L>)
         requires layer { IsLayerGates layer.now }
-        requires rooms { HasRooms layer.now.k self.old }
+        requires capacities { HasCapacities layer.now.k self.old }
         requires last { AreLaidOut layer.now.k 0 (parts_of self.old) }
         ensures laid { AreLaidOut layer.now.k layer.now.k (parts_of self.new) }
         ensures table { flat_table (parts_of self.new) ≡ layer.now.values.now.items }
         ensures gathers { GathersRight K k_ops layer.now.gates.now layer.now.point_equality.items
             self.old.left_equality.items (slice_index_or (flat_table (parts_of self.old)) 0 zero_k)
             (flat_scales (parts_of self.new)) (flat_shifts (parts_of self.new)) }
-        ensures rooms { HasRooms layer.now.k self.new }
+        ensures capacities { HasCapacities layer.now.k self.new }
         ensures challenges { self.new.challenges ≡ self.old.challenges }
         ensures count { self.new.count ≡ self.old.count }
         ensures steps { steps.new ≡ steps.old + length layer.now.gates.now }

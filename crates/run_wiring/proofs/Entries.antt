@@ -219,7 +219,7 @@ begun run z b c m x y ex ey u v e within =
 
 -- the greatest place is below the power of two
 pub last_fits : (run : Run) (k j m : ℕ) → k ≤ m → IsWithin k j run → run.count - 1 < 2 ^ m
-last_fits run k j m u within = let some = within.some in let room = within.positions in let up = pow_up k m u in omega (arith, some, room, up)
+last_fits run k j m u within = let some = within.some in let capacity = within.positions in let up = pow_up k m u in omega (arith, some, capacity, up)
 
 pub halved_fits : (last m n : ℕ) → m ≡ suc n → last < 2 ^ m → last / 2 < 2 ^ n
 halved_fits last m n e u = omega (arith, u, ap (λ (k : ℕ). 2 ^ k) e, pow-suc 2 n)

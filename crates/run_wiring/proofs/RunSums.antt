@@ -121,8 +121,8 @@ all_back P (x ∷ xs) ys h = all_back P xs ys (All-tail P x (xs ++ ys) h)
 
 -- the runs of a layer with 2 ^ k positions over 2 ^ j have their gates within
 within_from : (k j g : ℕ) (runs : List Run) → FollowOn g runs → All HasGates runs → All (IsOver (2 ^ j)) (gates_of runs) → g + length (gates_of runs) ≤ 2 ^ k → All (IsWithin k j) runs
-within_from k j g [] follow some over room = All-nil (IsWithin k j)
-within_from k j g (run ∷ runs) follow some over room =
+within_from k j g [] follow some over capacity = All-nil (IsWithin k j)
+within_from k j g (run ∷ runs) follow some over capacity =
     let size : length (gates_in run) ≡ run.count = length-map-range_with_len (gate_in run) 0 run.count in
     let all : length (gates_in run ++ gates_of runs) ≡ length (gates_in run) + length (gates_of runs) = length-append (gates_in run) (gates_of runs) in
     let first : run.first ≡ g = follow.0 in
@@ -130,8 +130,8 @@ within_from k j g (run ∷ runs) follow some over room =
     let at : (t : ℕ) → t < run.count → IsOver (2 ^ j) (gate_in run t) =
     λ t u. subst (IsOver (2 ^ j)) (get_or-map-range_with_len (gate_in run) 0 run.count t t zero_gate u (zero_plus t)) (here t zero_gate (below t (length (gates_in run)) run.count size u)) in
     All-cons (IsWithin k j) run runs
-    (record { some = All-head HasGates run runs some; positions = omega (arith, first, room, all, size); left = λ t u. (at t u).left; right = λ t u. (at t u).right })
-    (within_from k j (g + run.count) runs follow.1 (All-tail HasGates run runs some) (all_back (IsOver (2 ^ j)) (gates_in run) (gates_of runs) over) (omega (arith, room, all, size)))
+    (record { some = All-head HasGates run runs some; positions = omega (arith, first, capacity, all, size); left = λ t u. (at t u).left; right = λ t u. (at t u).right })
+    (within_from k j (g + run.count) runs follow.1 (All-tail HasGates run runs some) (all_back (IsOver (2 ^ j)) (gates_in run) (gates_of runs) over) (omega (arith, capacity, all, size)))
   where
     zero_plus : (t : ℕ) → 0 + t ≡ t
     zero_plus t = omega arith

@@ -78,7 +78,7 @@ fn clear(table: &mut [Ext])
 /// The next table, from that of one digit less, in at most 72 steps.
 fn add_column<L: Ledger>(table: &[Ext], next: &mut [Ext], column: &Column, steps: &mut Steps<L>)
     requires size { length table.now ≡ 36 }
-    requires room { length next.old ≡ 36 }
+    requires capacity { length next.old ≡ 36 }
     requires digits { HasDigits column.now }
     ensures sums { (of : Carries → K)
         → weighed next.new of ≡ weighed table.now (before_column column.now of) }

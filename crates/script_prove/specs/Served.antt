@@ -38,17 +38,17 @@ abbrev pub marked_job : MarkedJob → ℕ × ScriptJob × Bool
 marked_job job = (job.client, job_of job, job.withdraw)
 
 -- what is reported of an outcome: the reply to the job, or that its client withdrew it
-abbrev pub IsToldTo : ℕ → HistoryOutcome JobReply → Served → Type 0
-IsToldTo client (ends.Answer reply) served = served ≡ reply.job
-IsToldTo client ends.Memory served = ⊥
-IsToldTo client ends.Withdrawn served = served ≡ withdrawn_job client
+abbrev pub IsReportedTo : ℕ → HistoryOutcome JobReply → Served → Type 0
+IsReportedTo client (ends.Answer reply) served = served ≡ reply.job
+IsReportedTo client ends.Memory served = ⊥
+IsReportedTo client ends.Withdrawn served = served ≡ withdrawn_job client
 
-pub record AreToldTo (clients : List ℕ) (outcomes : List (HistoryOutcome JobReply))
+pub record AreReportedTo (clients : List ℕ) (outcomes : List (HistoryOutcome JobReply))
     (served : List Served) : Type 0 where
   pub as_many : length served ≡ length outcomes
   pub each : (k client : ℕ) (o : HistoryOutcome JobReply) (reply : Served)
       → slice_get clients k ≡ Some client → slice_get outcomes k ≡ Some o
-      → slice_get served k ≡ Some reply → IsToldTo client o reply
+      → slice_get served k ≡ Some reply → IsReportedTo client o reply
 
 -- an entry of the history, with the job's place in the script where it is submitted
 abbrev pub line_of : List ℕ → Entry → HistoryLine
@@ -67,5 +67,5 @@ pub record IsServedHistory (script : List MarkedJob) (served : List Served)
   pub places : List ℕ
   pub history : IsHistoryOf (λ reply job. IsServed job reply.job) (map marked_job script) outcomes
       entries places
-  pub replies : AreToldTo (map (λ (job : MarkedJob). job.client) script) outcomes served
+  pub replies : AreReportedTo (map (λ (job : MarkedJob). job.client) script) outcomes served
   pub lines : printed ≡ map (line_of places) entries

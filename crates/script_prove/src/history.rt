@@ -4,7 +4,7 @@ ghost use Rattle.std.specs.Prelude.{◌≡◌, ◌≤◌, ◌<◌, map, length, 
 ghost use Rattle.std.specs.Thread.{IsSync};
 ghost use Rattle.phase_run.specs.Work.{IsWorkerCount};
 ghost use Rattle.script_text.specs.declared.script.MarkedJob.{MarkedJob};
-ghost use Rattle.script_prove.specs.Served.{AreToldTo, IsServed, IsServedHistory, IsToldTo, line_of, marked_job};
+ghost use Rattle.script_prove.specs.Served.{AreReportedTo, IsServed, IsServedHistory, IsReportedTo, line_of, marked_job};
 
 use crate::prover::{ByCalls, JobReply, reply};
 use crate::script::Threading;
@@ -122,12 +122,12 @@ fn history_lines(
 }
 
 /// What is reported of an outcome.
-fn told(
+fn reported(
     alloc: Global,
     outcome: HistoryOutcome<JobReply>,
     client: u32,
 ) -> Result<ServedJob, AllocError>
-    ensures { IfOk result (λ served. IsToldTo client outcome served) }
+    ensures { IfOk result (λ served. IsReportedTo client outcome served) }
 {
     match outcome {
         HistoryOutcome::Answer(reply) => Ok(reply.job),
@@ -143,12 +143,12 @@ fn replies(
     clients: &[u32],
 ) -> Result<Vec<ServedJob>, AllocError>
     requires { length clients.now ≡ length outcomes.items }
-    ensures { IfOk result (λ served. AreToldTo clients.now outcomes.items served.items) }
+    ensures { IfOk result (λ served. AreReportedTo clients.now outcomes.items served.items) }
 {
     let mut served = Vec::with_capacity(alloc, outcomes.len())?;
     let mut place: usize = 0;
     for outcome in outcomes {
-        served.push_reserved(told(alloc, outcome, number_at(clients, place))?);
+        served.push_reserved(reported(alloc, outcome, number_at(clients, place))?);
         place += 1;
     }
     Ok(served)

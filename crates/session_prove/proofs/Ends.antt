@@ -21,7 +21,7 @@ use Rattle.proof_wire.specs.declared.form.ProofForm.TheVariants.{Line}
 use Rattle.transcript_fs.specs.Given.{given, numbers_of}
 use Rattle.live_session.specs.Layout.{messages_in, sizes_of, whole}
 use Rattle.live_session.specs.Elements.{leading}
-use Rattle.live_session.specs.Proving.{honest_for, honest_messages, message_bytes, prover_sent, stop_of, told_of}
+use Rattle.live_session.specs.Proving.{honest_for, honest_messages, message_bytes, prover_sent, stop_of, verdict_known}
 use Rattle.live_session.specs.Verifying.{Session, element_count, elements_in, last_byte, lower, progress_in, verifier_sent}
 use Rattle.live_session.specs.declared.progress.LiveFault.{LiveFault}
 use Rattle.live_session.specs.declared.progress.LiveFault.TheVariants.{Extra, Range}
@@ -248,8 +248,8 @@ module _ (c : SoundCircuit) (s : Session) (same : s.parts ≡ c.parts) (as_many 
         faultless =
             ap (stop_of due) all-sent
             ∙ told_end due (length (leading due told-bytes)) (length told-bytes) (get_or told-bytes (8 * due) 0) all-words (omega (arith, last-bit)) (omega (arith, told-length));
-        told =
-            ap (told_of due) all-sent
+        known =
+            ap (verdict_known due) all-sent
             ∙ ap (λ (b : Bool). if b then Some (get_or told-bytes (8 * due) 0 == 1) else None) (le-leb (8 * due + 1) (length told-bytes) (omega (arith, told-length)))
             ∙ ap (λ (b : Bool). Some b) (eq-eqb (get_or told-bytes (8 * due) 0) 1 last-bit);
       }

@@ -10,7 +10,7 @@ use Rattle.case_text.specs.Content.{Content}
 use Rattle.case_text.specs.declared.session.SessionSizes.{SessionSizes}
 use Rattle.case_prove.proofs.ProvedCases.{OneCircuit}
 use Rattle.case_prove.proofs.ProvedOutputs.{OneTree, one_meaning}
-use Rattle.live_session.specs.Proving.{told_of}
+use Rattle.live_session.specs.Proving.{verdict_known}
 use Rattle.live_session.specs.Verifying.{Session, element_count, elements_in, verdict_in, verifier_sent}
 use Rattle.live_session.specs.declared.progress.LiveFault.{LiveFault}
 use Rattle.live_session.specs.declared.progress.LiveFault.TheVariants.{Extra, Range}
@@ -39,7 +39,7 @@ challenges-count (re ∷ im ∷ words) zero e = absurd (omega (arith, e))
 challenges-count (re ∷ im ∷ words) (suc n) e = ap (λ (m : ℕ). suc m) (challenges-count words n (omega (arith, e)))
 
 -- the last byte is there
-told-there : (due : ℕ) (bytes : List ℕ) → told_of due bytes ≡ Some true → 8 * due + 1 ≤ length bytes
+told-there : (due : ℕ) (bytes : List ℕ) → verdict_known due bytes ≡ Some true → 8 * due + 1 ≤ length bytes
 told-there due bytes e = elim (either (nat_le (8 * due + 1) (length bytes))) [
   | inl h ↦ leb-true (8 * due + 1) (length bytes) h
   | inr h ↦ absurd (let f : None ≡ Some true = sym (ap (λ (b : Bool). if b then Some (slice_index_or bytes (8 * due) 0 == 1) else None) h) ∙ e in cc)
@@ -81,7 +81,7 @@ module _ (c : Content) (words : List F) (sizes : SessionSizes) (is : IsSession c
 
   pub prover-size : sizes.to_prover ≡ 8 * challenges_of is.parts + 1
   prover-size = ap (λ (t : SessionSizes). t.to_prover) is.sizes_are
-      ∙ (let least = told-there (challenges_of is.parts) (verifier_sent s) is.ended.told in
+      ∙ (let least = told-there (challenges_of is.parts) (verifier_sent s) is.ended.known in
       let most = stop_none (challenges_of is.parts) (verifier_sent s) is.ended.faultless in
       let e : length (verifier_sent s) ≡ 8 * challenges_of is.parts + 1 = omega arith in e)
 

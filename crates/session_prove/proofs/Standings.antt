@@ -9,7 +9,7 @@ use Rattle.circuit_core.specs.Sound.{SoundCircuit}
 use Rattle.circuit_eval.specs.Tables.{AreTables}
 use Rattle.gkr_layers.specs.Layers.{challenges_of}
 use Rattle.live_session.specs.Elements.{leading}
-use Rattle.live_session.specs.Proving.{Proving, prover_sent, stop_of, told_of, words_in}
+use Rattle.live_session.specs.Proving.{Proving, prover_sent, stop_of, verdict_known, words_in}
 use Rattle.live_session.specs.Verifying.{Session, element_count, verifier_sent}
 use Rattle.session_prove.specs.Exchange.{HaveBegun, whole_session}
 use Rattle.session_prove.proofs.Ends.{bytes-count, ends}
@@ -37,13 +37,13 @@ left p t g = 8 * element_count p + (8 * challenges_of p + 1) - (t + g)
 
 -- ---- what the prover says
 
-told-late : (due : ℕ) (bytes : List ℕ) → is_none (told_of due bytes) ≡ false → 8 * due + 1 ≤ length bytes
+told-late : (due : ℕ) (bytes : List ℕ) → is_none (verdict_known due bytes) ≡ false → 8 * due + 1 ≤ length bytes
 told-late due bytes e = elim (cases_lt (length bytes) (8 * due + 1)) [
   | inl u ↦ absurd (let f : true ≡ false = sym (ap (λ (b : Bool). is_none (if b then Some (slice_index_or bytes (8 * due) 0 == 1) else None)) (lt-leb (8 * due + 1) (length bytes) u)) ∙ e in cc)
   | inr u ↦ u
 ]
 
-told-early : (due : ℕ) (bytes : List ℕ) → is_none (told_of due bytes) ≡ true → length bytes < 8 * due + 1
+told-early : (due : ℕ) (bytes : List ℕ) → is_none (verdict_known due bytes) ≡ true → length bytes < 8 * due + 1
 told-early due bytes e = elim (cases_lt (length bytes) (8 * due + 1)) [
   | inl u ↦ u
   | inr u ↦ absurd (let f : false ≡ true = sym (ap (λ (b : Bool). is_none (if b then Some (slice_index_or bytes (8 * due) 0 == 1) else None)) (le-leb (8 * due + 1) (length bytes) u)) ∙ e in cc)
@@ -171,11 +171,11 @@ module _ (c : SoundCircuit) (s : Session) (prover : Proving) (same : s.parts ≡
     due-is : challenges_of p.parts ≡ challenges_of s.parts
     due-is = ap challenges_of prover_parts
 
-    not-told : is_none (told_of (challenges_of p.parts) p.bytes) ≡ true → t < 8 * challenges_of s.parts + 1
+    not-told : is_none (verdict_known (challenges_of p.parts) p.bytes) ≡ true → t < 8 * challenges_of s.parts + 1
     not-told e = omega (arith, told-early (challenges_of p.parts) p.bytes e, has-bytes, due-is)
 
     -- where the prover hasn't the last byte yet, some are handed over
-    pub left_falls : (piece more count : ℕ) → 1 ≤ piece → is_none (told_of (challenges_of p.parts) p.bytes) ≡ true → more ≡ min piece (length (reply_after s g) - t) → count ≡ min piece (length (messages_after s (t + more)) - g) →
+    pub left_falls : (piece more count : ℕ) → 1 ≤ piece → is_none (verdict_known (challenges_of p.parts) p.bytes) ≡ true → more ≡ min piece (length (reply_after s g) - t) → count ≡ min piece (length (messages_after s (t + more)) - g) →
         left s.parts (t + more) (g + count) < left s.parts t g
     left_falls piece more count some waits more-is count-is =
         let early : t < 8 * challenges_of s.parts + 1 = not-told waits in
@@ -199,7 +199,7 @@ module _ (c : SoundCircuit) (s : Session) (prover : Proving) (same : s.parts ≡
         ]
 
     -- and where it has, all were
-    pub all_over : is_none (told_of (challenges_of p.parts) p.bytes) ≡ false → (t ≡ length (verifier_sent (whole_session s))) × (g ≡ length (prover_sent s.parts s.inputs s.words))
+    pub all_over : is_none (verdict_known (challenges_of p.parts) p.bytes) ≡ false → (t ≡ length (verifier_sent (whole_session s))) × (g ≡ length (prover_sent s.parts s.inputs s.words))
     all_over e =
         let late : 8 * challenges_of s.parts + 1 ≤ t = omega (arith, told-late (challenges_of p.parts) p.bytes e, has-bytes, due-is) in (
           omega (arith, late, least, taken-most),

@@ -5,7 +5,7 @@ use Rattle.circuit_eval.specs.Tables.{AreTables}
 use Rattle.gkr_layers.specs.Layers.{challenges_of}
 use Rattle.gkr_layers.specs.declared.verdict.Verdict.TheVariants.{Accepted}
 use Rattle.case_text.specs.declared.session.SessionSizes.{SessionSizes}
-use Rattle.live_session.specs.Proving.{Proving, prover_sent, stop_of, told_of}
+use Rattle.live_session.specs.Proving.{Proving, prover_sent, stop_of, verdict_known}
 use Rattle.live_session.specs.Verifying.{Session, progress_in, verifier_sent}
 use Rattle.live_session.specs.declared.progress.Progress.TheVariants.{Ended}
 
@@ -28,7 +28,7 @@ whole_session s = record s { bytes = prover_sent s.parts s.inputs s.words }
 pub record HasEnded (s : Session) : Type 0 where
   pub accepts : progress_in s ≡ Ok (Ended Accepted)
   pub faultless : stop_of (challenges_of s.parts) (verifier_sent s) ≡ None
-  pub told : told_of (challenges_of s.parts) (verifier_sent s) ≡ Some true
+  pub known : verdict_known (challenges_of s.parts) (verifier_sent s) ≡ Some true
 
 -- how many challenges there were, and how many bytes each end was sent
 abbrev pub sizes_of : Session → SessionSizes

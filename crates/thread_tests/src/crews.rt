@@ -64,15 +64,15 @@ impl Lead<AddsNumber> for Doubling {
 /// How many parts a round may have, how many rounds are announced, how many the lead runs, and how many workers there are.
 #[derive(Clone, Copy)]
 struct Terms {
-    room: u32,
+    capacity: u32,
     announced: u32,
     run: u32,
     workers: u32,
 }
 
-fn over(room: u32, announced: u32, run: u32, workers: u32) -> Terms {
+fn over(capacity: u32, announced: u32, run: u32, workers: u32) -> Terms {
     Terms {
-        room,
+        capacity,
         announced,
         run,
         workers,
@@ -88,23 +88,32 @@ fn led<R: Threads + Wait + Sync, G: Gate>(
     gate: &G,
 ) -> Result<Vec<u32>, AllocError> {
     let Terms {
-        room,
+        capacity,
         announced,
         run,
         workers,
     } = terms;
-    let Some(_tickets) = room.checked_mul(announced) else {
+    let Some(_tickets) = capacity.checked_mul(announced) else {
         return Err(AllocError);
     };
-    if room == 0 || announced == 0 {
+    if capacity == 0 || announced == 0 {
         return Err(AllocError);
     }
-    if workers < 2 || workers > 64 || parts.len() > room as usize {
+    if workers < 2 || workers > 64 || parts.len() > capacity as usize {
         return Err(AllocError);
     }
     let parts = Vec::from_slice(alloc, parts)?;
     let lead = Doubling { parts, rounds: run };
-    match with_crew(rt, alloc, room, announced, workers, &AddsNumber, gate, lead) {
+    match with_crew(
+        rt,
+        alloc,
+        capacity,
+        announced,
+        workers,
+        &AddsNumber,
+        gate,
+        lead,
+    ) {
         Ok(out) => Ok(out),
         Err(_lead) => Err(AllocError),
     }

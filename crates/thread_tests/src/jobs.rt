@@ -27,47 +27,47 @@ type Guest = Pass<u32, Square>;
 #[test]
 fn one_pass_goes_through_all_states(rt: HostRuntime) -> Result<(), AllocError> {
     let (table, mut pass): (Table, Guest) = JobTable::new(rt.alloc(), 2, 1)?;
-    let (submitted, front) = table.submit(&rt, &mut pass, 5);
-    assert!(&rt; front == 1);
+    let (submitted, history_len) = table.submit(&rt, &mut pass, 5);
+    assert!(&rt; history_len == 1);
     let Ok(receipt) = submitted else {
         panic!(&rt; "the table has room");
     };
-    let (submitted, front) = table.submit(&rt, &mut pass, 6);
-    assert!(&rt; front == 2 && matches!(&submitted, Ok(second) if second.job() == 1));
-    let (submitted, front) = table.submit(&rt, &mut pass, 7);
+    let (submitted, history_len) = table.submit(&rt, &mut pass, 6);
+    assert!(&rt; history_len == 2 && matches!(&submitted, Ok(second) if second.job() == 1));
+    let (submitted, history_len) = table.submit(&rt, &mut pass, 7);
     assert!(&rt;
-        front == 2 && matches!(&submitted, Err(full) if full.case == 7 && full.capacity == 2)
+        history_len == 2 && matches!(&submitted, Err(full) if full.case == 7 && full.capacity == 2)
     );
-    let (taken, front) = table.take(&rt, &mut pass);
+    let (taken, history_len) = table.take(&rt, &mut pass);
     let Some(first) = taken else {
         panic!(&rt; "two jobs are queued");
     };
-    assert!(&rt; front == 3 && first.job() == 0);
-    let (taken, front) = table.take(&rt, &mut pass);
+    assert!(&rt; history_len == 3 && first.job() == 0);
+    let (taken, history_len) = table.take(&rt, &mut pass);
     let Some(second) = taken else {
         panic!(&rt; "a job is queued");
     };
-    assert!(&rt; front == 4 && second.job() == 1);
+    assert!(&rt; history_len == 4 && second.job() == 1);
     let (one, two) = (first.job(), second.job());
     if one == two {
         panic!(&rt; "a job is taken once");
     }
-    let (taken, front) = table.take(&rt, &mut pass);
+    let (taken, history_len) = table.take(&rt, &mut pass);
     if let Some(ticket) = taken {
         table.finish(&rt, &mut pass, ticket, Outcome::Memory);
         panic!(&rt; "no job is queued");
     }
-    assert!(&rt; front == 4);
-    let (seen, front) = table.fetch(&rt, rt.alloc(), &mut pass, &receipt);
-    assert!(&rt; front == 4 && matches!(seen, Ok(Seen::Running)));
-    let front = table.finish(&rt, &mut pass, first, Outcome::Answer(Square(25)));
-    assert!(&rt; front == 5);
-    let (seen, front) = table.fetch(&rt, rt.alloc(), &mut pass, &receipt);
-    assert!(&rt; front == 5 && matches!(seen, Ok(Seen::Done(Outcome::Answer(Square(25))))));
-    let (late, front) = table.withdraw(&rt, &mut pass, &receipt);
-    assert!(&rt; front == 5 && matches!(late, Err(Late(JobState::Done))));
-    let front = table.finish(&rt, &mut pass, second, Outcome::Answer(Square(36)));
-    assert!(&rt; front == 6);
+    assert!(&rt; history_len == 4);
+    let (seen, history_len) = table.fetch(&rt, rt.alloc(), &mut pass, &receipt);
+    assert!(&rt; history_len == 4 && matches!(seen, Ok(Seen::Running)));
+    let history_len = table.finish(&rt, &mut pass, first, Outcome::Answer(Square(25)));
+    assert!(&rt; history_len == 5);
+    let (seen, history_len) = table.fetch(&rt, rt.alloc(), &mut pass, &receipt);
+    assert!(&rt; history_len == 5 && matches!(seen, Ok(Seen::Done(Outcome::Answer(Square(25))))));
+    let (late, history_len) = table.withdraw(&rt, &mut pass, &receipt);
+    assert!(&rt; history_len == 5 && matches!(late, Err(Late(JobState::Done))));
+    let history_len = table.finish(&rt, &mut pass, second, Outcome::Answer(Square(36)));
+    assert!(&rt; history_len == 6);
     Ok(())
 }
 
@@ -75,26 +75,26 @@ fn one_pass_goes_through_all_states(rt: HostRuntime) -> Result<(), AllocError> {
 fn two_passes_see_one_history(rt: HostRuntime) -> Result<(), AllocError> {
     let (table, mut first): (Table, Guest) = JobTable::new(rt.alloc(), 2, 2)?;
     let mut second = table.split(&mut first, 1);
-    let (submitted, front) = table.submit(&rt, &mut first, 7);
-    assert!(&rt; front == 1);
+    let (submitted, history_len) = table.submit(&rt, &mut first, 7);
+    assert!(&rt; history_len == 1);
     let Ok(receipt) = submitted else {
         panic!(&rt; "the table has room");
     };
     assert!(&rt; receipt.job() == 0);
-    let (taken, front) = table.take(&rt, &mut second);
-    assert!(&rt; front == 2);
+    let (taken, history_len) = table.take(&rt, &mut second);
+    assert!(&rt; history_len == 2);
     let Some(ticket) = taken else {
         panic!(&rt; "a job is queued");
     };
     assert!(&rt; ticket.job() == 0 && *ticket.case() == 7);
-    let (seen, front) = table.fetch(&rt, rt.alloc(), &mut first, &receipt);
-    assert!(&rt; front == 2 && matches!(seen, Ok(Seen::Running)));
-    let front = table.finish(&rt, &mut second, ticket, Outcome::Answer(Square(49)));
-    assert!(&rt; front == 3);
-    let (seen, front) = table.fetch(&rt, rt.alloc(), &mut first, &receipt);
-    assert!(&rt; front == 3 && matches!(seen, Ok(Seen::Done(Outcome::Answer(Square(49))))));
-    let (taken, front) = table.take(&rt, &mut second);
-    assert!(&rt; front == 3);
+    let (seen, history_len) = table.fetch(&rt, rt.alloc(), &mut first, &receipt);
+    assert!(&rt; history_len == 2 && matches!(seen, Ok(Seen::Running)));
+    let history_len = table.finish(&rt, &mut second, ticket, Outcome::Answer(Square(49)));
+    assert!(&rt; history_len == 3);
+    let (seen, history_len) = table.fetch(&rt, rt.alloc(), &mut first, &receipt);
+    assert!(&rt; history_len == 3 && matches!(seen, Ok(Seen::Done(Outcome::Answer(Square(49))))));
+    let (taken, history_len) = table.take(&rt, &mut second);
+    assert!(&rt; history_len == 3);
     if let Some(ticket) = taken {
         table.finish(&rt, &mut second, ticket, Outcome::Memory);
         panic!(&rt; "no job is queued");
@@ -106,22 +106,22 @@ fn two_passes_see_one_history(rt: HostRuntime) -> Result<(), AllocError> {
 #[test]
 fn a_withdrawn_job_leaves_no_room(rt: HostRuntime) -> Result<(), AllocError> {
     let (table, mut pass): (Table, Guest) = JobTable::new(rt.alloc(), 1, 1)?;
-    let (submitted, front) = table.submit(&rt, &mut pass, 5);
-    assert!(&rt; front == 1);
+    let (submitted, history_len) = table.submit(&rt, &mut pass, 5);
+    assert!(&rt; history_len == 1);
     let Ok(receipt) = submitted else {
         panic!(&rt; "the table has room");
     };
     assert!(&rt; receipt.job() == 0);
-    let (withdrawn, front) = table.withdraw(&rt, &mut pass, &receipt);
-    assert!(&rt; front == 2 && matches!(withdrawn, Ok(())));
-    let (submitted, front) = table.submit(&rt, &mut pass, 6);
+    let (withdrawn, history_len) = table.withdraw(&rt, &mut pass, &receipt);
+    assert!(&rt; history_len == 2 && matches!(withdrawn, Ok(())));
+    let (submitted, history_len) = table.submit(&rt, &mut pass, 6);
     assert!(&rt;
-        front == 2 && matches!(&submitted, Err(full) if full.case == 6 && full.capacity == 1)
+        history_len == 2 && matches!(&submitted, Err(full) if full.case == 6 && full.capacity == 1)
     );
-    let (seen, front) = table.fetch(&rt, rt.alloc(), &mut pass, &receipt);
-    assert!(&rt; front == 2 && matches!(seen, Ok(Seen::Withdrawn)));
-    let (late, front) = table.withdraw(&rt, &mut pass, &receipt);
-    assert!(&rt; front == 2 && matches!(late, Err(Late(JobState::Withdrawn))));
+    let (seen, history_len) = table.fetch(&rt, rt.alloc(), &mut pass, &receipt);
+    assert!(&rt; history_len == 2 && matches!(seen, Ok(Seen::Withdrawn)));
+    let (late, history_len) = table.withdraw(&rt, &mut pass, &receipt);
+    assert!(&rt; history_len == 2 && matches!(late, Err(Late(JobState::Withdrawn))));
     Ok(())
 }
 

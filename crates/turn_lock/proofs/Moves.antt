@@ -13,7 +13,7 @@ use Rattle.atomic_table.proofs.Lists.{set_again, set_here, set_else, at_longer, 
 use Rattle.turn_lock.specs.declared.rule.View.{View}
 use Rattle.tallies.specs.Tallies.{total, times, once_below, Apart}
 use Rattle.turn_lock.specs.Lists.{unite}
-use Rattle.turn_lock.specs.Turns.{out, has_ticket, ticket_in, drew, Fits, Free, Held, IsLock, looked, Grows, mine_after, recorded, left, newcomer, kept, given, joined, spent, told_so}
+use Rattle.turn_lock.specs.Turns.{out, has_ticket, ticket_in, drew, Fits, Free, Held, IsLock, looked, Grows, mine_after, recorded, left, newcomer, kept, given, joined, spent, known_so}
 use Rattle.tallies.proofs.Totals.{total_set, total_snoc, one_le, two_le, total_le, each_set, each_other, each_snoc, inside, whole}
 use Rattle.tallies.proofs.Once.{times-append, once_more, not_here, one_at_most}
 use Rattle.turn_lock.proofs.United.{times-unite}
@@ -86,7 +86,7 @@ module _ {S E : Type 0} (history : S → List E) (owns : List E → List ℕ →
           each = each_set (Fits history owns fixed fix r.serving r.log) s.views id w
               record { still = fits.still; begins = fits.begins; knew = fits.knew; owned = fits.owned; within = fits.within; idle = λ z. absurd (omega arith); turn = λ h. absurd (not_held h) } r.each;
           slot = ⊎_elim
-              (λ (f : Free history owns fixed fix r.log s). inl record { state = f.state; lies = f.lies; tells = f.tells; still = f.still; none = each_set (λ u. u.held ≡ false) s.views id w (f.none id v at) f.none })
+              (λ (f : Free history owns fixed fix r.log s). inl record { state = f.state; lies = f.lies; shows = f.shows; still = f.still; none = each_set (λ u. u.held ≡ false) s.views id w (f.none id v at) f.none })
               (λ (h : Held history owns fixed s). inr record {
                 seat = h.seat;
                 holder = h.holder;
@@ -128,7 +128,7 @@ module _ {S E : Type 0} (history : S → List E) (owns : List E → List ℕ →
   pub look : (n slots id : ℕ) (me : M) → 0 < me.0.seats → me.0.out ≡ true → me.0.held ≡ false → Allows (IsLock history owns fixed fix n) slots id me 1 (λ x. x) (looked history owns fixed (step slots 1 0 0 none) me)
   look n slots id me some_seat o not s r _ at _ = let v : View E = me.0 in let x : ℕ = get_or s.words 1 0 in let wide = r.wide in dite (ℕ_discrete x (v.at % 2 ^ 64))
       (λ hit. let is = served_is n s r id v at o (sym r.serving_is ∙ hit) in let f = free_for n s r id v at o not is in let fits = r.each id v at in
-      let w : View E = record v { seen = history f.state; told = v.seen; held = true } in (
+      let w : View E = record v { seen = history f.state; known = v.seen; held = true } in (
         w,
         takes 0 (Some f.state),
         f.lies,
@@ -149,16 +149,16 @@ module _ {S E : Type 0} (history : S → List E) (owns : List E → List ℕ →
           each = each_set (Fits history owns fixed fix r.serving r.log) s.views id w
               record {
                 still = fits.still;
-                begins = ([], append-nil (history f.state) ∙ f.tells);
-                knew = (fits.begins.0, fits.begins.1 ∙ sym f.tells);
+                begins = ([], append-nil (history f.state) ∙ f.shows);
+                knew = (fits.begins.0, fits.begins.1 ∙ sym f.shows);
                 owned = fits.owned;
-                within = λ p h. fits.within p (let l = prefix_length v.seen r.log fits.begins in let e = ap length f.tells in omega arith);
+                within = λ p h. fits.within p (let l = prefix_length v.seen r.log fits.begins in let e = ap length f.shows in omega arith);
                 idle = λ z. absurd (omega arith);
-                turn = λ h. (o, is, f.tells);
+                turn = λ h. (o, is, f.shows);
               } r.each;
           slot = inr record { seat = id; holder = w; sits = set_here s.views id w (inside s.views id v at); holds = refl };
         },
-        ((λ _. record { state = f.state; took = refl; begins = (fits.begins.0, fits.begins.1 ∙ sym f.tells); owned = subst (λ (l : List E). owns l v.mine) (sym f.tells) fits.owned; still = f.still ∙ sym (fits.still some_seat); view = refl }), λ miss. absurd (miss hit)),
+        ((λ _. record { state = f.state; took = refl; begins = (fits.begins.0, fits.begins.1 ∙ sym f.shows); owned = subst (λ (l : List E). owns l v.mine) (sym f.shows) fits.owned; still = f.still ∙ sym (fits.still some_seat); view = refl }), λ miss. absurd (miss hit)),
       ))
       (λ miss. (
         v,
@@ -211,7 +211,7 @@ module _ {S E : Type 0} (history : S → List E) (owns : List E → List ℕ →
             (subst (Fits history owns fixed fix r.serving log) (sym is) record {
               still = fits.still;
               begins = ([], append-nil log);
-              knew = longer_prefix v.told v.seen log fits.knew (longer_prefix v.seen r.log log fits.begins more);
+              knew = longer_prefix v.known v.seen log fits.knew (longer_prefix v.seen r.log log fits.begins more);
               owned = own;
               within = inside_seen;
               idle = λ z. absurd (omega arith);
@@ -292,7 +292,7 @@ module _ {S E : Type 0} (history : S → List E) (owns : List E → List ℕ →
 
   pub leaves : (n slots id : ℕ) (me : M) (x : S) → me.1 ≡ (0, Some x) ∷ [] → me.0.held ≡ true → 0 < me.0.seats → history x ≡ me.0.seen → fixed x ≡ me.0.fixed
       → Allows (IsLock history owns fixed fix n) slots id me 1 (λ y. (y + 1) % 2 ^ 64) (left history owns fixed (step slots 1 1 0 none) me)
-  leaves n slots id me x carried holds some_seat tells same s r _ at _ = let v : View E = me.0 in let w : View E = record v { out = false; held = false } in let wide = r.wide in let fits = r.each id v at in let turn = fits.turn holds in
+  leaves n slots id me x carried holds some_seat shows same s r _ at _ = let v : View E = me.0 in let w : View E = record v { out = false; held = false } in let wide = r.wide in let fits = r.each id v at in let turn = fits.turn holds in
       let z : ℕ = get_or s.words 1 0 in let y : ℕ = (z + 1) % 2 ^ 64 in
       let next : y ≡ (r.serving + 1) % 2 ^ 64 = ap (λ (k : ℕ). (k + 1) % 2 ^ 64) r.serving_is ∙ wraps r.serving in
       let one_out : out v ≡ 1 = ap (λ (b : Bool). cond b 1 0) turn.0 in
@@ -321,7 +321,7 @@ module _ {S E : Type 0} (history : S → List E) (owns : List E → List ℕ →
           slot = inl record {
             state = x;
             lies = set_here s.homes 0 (some (Some x)) (omega arith);
-            tells = tells ∙ turn.2;
+            shows = shows ∙ turn.2;
             still = same ∙ fits.still some_seat;
             none = each_other (λ u. u.held ≡ false) s.views id w refl (λ j u apart e. not_true u.held (λ h. one_holder n s r id j v u at e apart holds h));
           };
@@ -360,7 +360,7 @@ module _ {S E : Type 0} (history : S → List E) (owns : List E → List ℕ →
     tickets = λ t. sym (no_one t);
     placed = λ y. sym (none_below y);
     each = alone (Fits history owns fixed fix 0 []) record { still = λ z. refl; begins = ([], refl); knew = ([], refl); owned = law; within = λ y h. refl; idle = λ z. absurd (omega arith); turn = λ h. absurd (true≢false (sym h)) };
-    slot = inl record { state = x; lies = refl; tells = fresh; still = start; none = alone (λ u. u.held ≡ false) refl };
+    slot = inl record { state = x; lies = refl; shows = fresh; still = start; none = alone (λ u. u.held ≡ false) refl };
   } where
     no_one : (t : ℕ) → ticket_in t 0 0 ≡ 0
     no_one t = grind (arith, nat_tests)
@@ -393,7 +393,7 @@ module _ {S E : Type 0} (history : S → List E) (owns : List E → List ℕ →
         (each_set (Fits history owns fixed fix r.serving r.log) s.views id l
         record { still = λ z. fits.still (omega arith); begins = fits.begins; knew = fits.knew; owned = fits.owned; within = fits.within; idle = λ z. absurd (omega arith); turn = λ h. absurd (true≢false (sym h ∙ free)) } r.each);
     slot = ⊎_elim
-        (λ (f : Free history owns fixed fix r.log s). inl record { state = f.state; lies = f.lies; tells = f.tells; still = f.still; none = each_snoc (λ u. u.held ≡ false) vs m refl (each_set (λ u. u.held ≡ false) s.views id l free f.none) })
+        (λ (f : Free history owns fixed fix r.log s). inl record { state = f.state; lies = f.lies; shows = f.shows; still = f.still; none = each_snoc (λ u. u.held ≡ false) vs m refl (each_set (λ u. u.held ≡ false) s.views id l free f.none) })
         (λ (h : Held history owns fixed s). inr record {
           seat = h.seat;
           holder = h.holder;
@@ -452,7 +452,7 @@ module _ {S E : Type 0} (history : S → List E) (owns : List E → List ℕ →
               turn = λ h. absurd (true≢false (sym h));
             } r.each);
         slot = ⊎_elim
-            (λ (f : Free history owns fixed fix r.log s). inl record { state = f.state; lies = f.lies; tells = f.tells; still = f.still; none = each_set (λ u. u.held ≡ false) vs other z refl (each_set (λ u. u.held ≡ false) s.views id j refl f.none) })
+            (λ (f : Free history owns fixed fix r.log s). inl record { state = f.state; lies = f.lies; shows = f.shows; still = f.still; none = each_set (λ u. u.held ≡ false) vs other z refl (each_set (λ u. u.held ≡ false) s.views id j refl f.none) })
             (λ (h : Held history owns fixed s). inr record {
               seat = h.seat;
               holder = h.holder;
@@ -461,8 +461,8 @@ module _ {S E : Type 0} (history : S → List E) (owns : List E → List ℕ →
             }) r.slot;
       }
 
-  pub tells : (n slots id : ℕ) (me : M) → Allows (IsLock history owns fixed fix n) slots id me 0 (λ x. x) (told_so history owns fixed (step slots 0 0 0 none) me)
-  tells n slots id me s r _ at _ = (me.0, keeps, tt, unmoved n s r id me at 0, (refl, (r.each id me.0 at).knew, λ x. let m = one_le (λ (u : View E). times x u.mine) s.views id me.0 at in let all = r.placed x in let one = one_at_most x (length r.log) in omega arith, (r.log, (r.each id me.0 at).begins, (r.each id me.0 at).owned)))
+  pub shows : (n slots id : ℕ) (me : M) → Allows (IsLock history owns fixed fix n) slots id me 0 (λ x. x) (known_so history owns fixed (step slots 0 0 0 none) me)
+  shows n slots id me s r _ at _ = (me.0, keeps, tt, unmoved n s r id me at 0, (refl, (r.each id me.0 at).knew, λ x. let m = one_le (λ (u : View E). times x u.mine) s.views id me.0 at in let all = r.placed x in let one = one_at_most x (length r.log) in omega arith, (r.log, (r.each id me.0 at).begins, (r.each id me.0 at).owned)))
 
   prefix_whole : (a b : List E) → IsPrefix a b → length b ≤ length a → a ≡ b
   prefix_whole a b p h = let l = ap length p.1 ∙ refl in let z : p.0 ≡ [] = no_rest p.0 (omega (arith, ap length p.1, length-append a p.0)) in sym (append-nil a) ∙ ap (λ (r : List E). a ++ r) (sym z) ∙ p.1 where
@@ -473,7 +473,7 @@ module _ {S E : Type 0} (history : S → List E) (owns : List E → List ℕ →
   pub record Closes (v : View E) (s : St) : Type 0 where
     pub state : S
     pub lies : get_elem? s.homes 0 ≡ some (some (Some state))
-    pub tells : history state ≡ v.seen
+    pub shows : history state ≡ v.seen
     pub still : fixed state ≡ v.fixed
     pub all : (x : ℕ) → times x v.mine ≡ once_below x (length v.seen)
 
@@ -486,20 +486,20 @@ module _ {S E : Type 0} (history : S → List E) (owns : List E → List ℕ →
       let f : Free history owns fixed fix r.log s = ⊎_elim (λ (f : Free history owns fixed fix r.log s). f)
       (λ (h : Held history owns fixed s). let apart = not_me s id v at free h in let two = two_le (λ (u : View E). u.seats) s.views id h.seat v h.holder at h.sits (λ e. apart (sym e)) in
       let f = r.each h.seat h.holder h.sits in absurd (true≢false (sym (f.turn h.holds).0 ∙ (f.idle (omega arith)).1))) r.slot in
-      record { state = f.state; lies = f.lies; tells = f.tells ∙ sym seen; still = f.still ∙ sym (fits.still some_share); all = λ x. all x ∙ ap (λ (l : List E). once_below x (length l)) (sym seen) } where
+      record { state = f.state; lies = f.lies; shows = f.shows ∙ sym seen; still = f.still ∙ sym (fits.still some_share); all = λ x. all x ∙ ap (λ (l : List E). once_below x (length l)) (sym seen) } where
         below_one : (x n : ℕ) → x < n → once_below x n ≡ 1
         below_one x n h = grind (arith, nat_tests)
 
   pub record Left (v : View E) (o : Option S) : Type 0 where
     pub state : S
     pub is : o ≡ Some state
-    pub tells : history state ≡ v.seen
+    pub shows : history state ≡ v.seen
     pub still : fixed state ≡ v.fixed
     pub all : (x : ℕ) → times x v.mine ≡ once_below x (length v.seen)
 
   pub lefts : (n id : ℕ) (v : View E) (ws : List ℕ) (xs : List (Option S)) (o : Option S) → Final (Seen (IsLock history owns fixed fix n) id v) ws xs → 0 < v.seats → v.seats ≡ n → v.held ≡ false → get_elem? xs 0 ≡ some o → Left v o
   lefts n id v ws xs o f some_share shares free at = let e = closes n f.0 f.1.0 id v f.1.1 some_share shares free in
-      record { state = e.state; is = maybe.some-injective o (Some e.state) (sym at ∙ f.4 0 (Some e.state) e.lies); tells = e.tells; still = e.still; all = e.all }
+      record { state = e.state; is = maybe.some-injective o (Some e.state) (sym at ∙ f.4 0 (Some e.state) e.lies); shows = e.shows; still = e.still; all = e.all }
 
   pub some_one : (x z : S) → ◌≡◌ {A = Option S} (Some x) (Some z) → x ≡ z
   some_one x z e = ap (λ (o : Option S). in_hand o x) e

@@ -20,7 +20,7 @@ module _ {E : Type 0} where
     fixed = fix;
     seen = [];
     mine = [];
-    told = [];
+    known = [];
     out = false;
     held = false;
     at = 0;
@@ -57,7 +57,7 @@ given n v = record {
   fixed = v.fixed;
   seen = v.seen;
   mine = [];
-  told = v.told;
+  known = v.known;
   out = false;
   held = false;
   at = 0;
@@ -69,7 +69,7 @@ joined v w = record {
   fixed = v.fixed;
   seen = longer v.seen w.seen;
   mine = unite v.mine w.mine;
-  told = shorter v.seen w.seen;
+  known = shorter v.seen w.seen;
   out = false;
   held = false;
   at = 0;
@@ -88,7 +88,7 @@ module _ {S E : Type 0} (history : S → List E) (owns : List E → List ℕ →
   pub record Fits (fix serving : ℕ) (log : List E) (v : View E) : Type 0 where
     pub still : 0 < v.seats → v.fixed ≡ fix
     pub begins : IsPrefix v.seen log
-    pub knew : IsPrefix v.told v.seen
+    pub knew : IsPrefix v.known v.seen
     pub owned : owns log v.mine
     pub within : (x : ℕ) → length v.seen ≤ x → times x v.mine ≡ 0
     pub idle : v.seats ≡ 0 → (v.mine ≡ []) × (v.out ≡ false)
@@ -98,7 +98,7 @@ module _ {S E : Type 0} (history : S → List E) (owns : List E → List ℕ →
   pub record Free (fix : ℕ) (log : List E) (s : State (Option S) (View E)) : Type 0 where
     pub state : S
     pub lies : get_elem? s.homes 0 ≡ some (some (Some state))
-    pub tells : history state ≡ log
+    pub shows : history state ≡ log
     pub still : fixed state ≡ fix
     pub none : (j : ℕ) (v : View E) → get_elem? s.views j ≡ some v → v.held ≡ false
 
@@ -137,7 +137,7 @@ module _ {S E : Type 0} (history : S → List E) (owns : List E → List ℕ →
     pub begins : IsPrefix m.0.seen (history state)
     pub owned : owns (history state) m.0.mine
     pub still : fixed state ≡ m.0.fixed
-    pub view : m'.0 ≡ record m.0 { seen = history state; told = m.0.seen; held = true }
+    pub view : m'.0 ≡ record m.0 { seen = history state; known = m.0.seen; held = true }
 
   abbrev pub looked : Step (Option S) → Seated → ℕ → Seated → Type 0
   looked st m found m' = (found ≡ m.0.at % 2 ^ 64 → Served m m')
@@ -154,6 +154,6 @@ module _ {S E : Type 0} (history : S → List E) (owns : List E → List ℕ →
   left st m found m' = (m'.1 ≡ rest m.1) × (m'.0 ≡ record m.0 { out = false; held = false })
 
   -- a look makes known that the shorter of two beginnings begins the longer, that no place comes twice, and that the places are owned in a history that goes on
-  abbrev pub told_so : Step (Option S) → Seated → ℕ → Seated → Type 0
-  told_so st m found m' = (m' ≡ m) × IsPrefix m.0.told m.0.seen × ((x : ℕ) → times x m.0.mine ≤ 1)
+  abbrev pub known_so : Step (Option S) → Seated → ℕ → Seated → Type 0
+  known_so st m found m' = (m' ≡ m) × IsPrefix m.0.known m.0.seen × ((x : ℕ) → times x m.0.mine ≤ 1)
       × ((log : List E) × IsPrefix m.0.seen log × owns log m.0.mine)

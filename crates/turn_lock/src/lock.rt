@@ -7,7 +7,7 @@ ghost use Rattle.turn_lock.specs.Lists.{longer, shorter, unite, IsRising};
 ghost use Rattle.turn_lock.specs.Turns.{Served, Grows, mine_after};
 ghost use mathlib.Core.List.{IsPrefix};
 
-use crate::rule::{Amount, Both, Draw, Gives, InTurn, Leave, Look, Record, Tell, Terms, View};
+use crate::rule::{Amount, Both, Draw, Gives, InTurn, Leave, Look, Record, Show, Terms, View};
 use crate::storied::Storied;
 use atomic_table::{Refused, Seat, Shared, Table};
 use std::alloc::{AllocFailed, Global};
@@ -202,7 +202,7 @@ impl<S: Storied<E>, E> TurnLock<S, E> {
         requires owned { S.owns (S.history state)
             (mine_after added turn.old.mine (length turn.old.seen)) }
         requires fixed { S.fixed state ≡ turn.old.fixed }
-        requires room { length (S.history state) < 2 ^ 64 }
+        requires capacity { length (S.history state) < 2 ^ 64 }
         ensures { turn.new ≡ record turn.old {
           seen = S.history state;
           mine = mine_after added turn.old.mine (length turn.old.seen);
@@ -258,7 +258,7 @@ impl<S: Storied<E>, E> TurnLock<S, E> {
     {
         let Turn { seat } = other;
         self.table.shared.join_seat::<Both>(&mut turn.seat, seat);
-        self.table.shared.load::<Tell<S>>(&mut turn.seat, 0);
+        self.table.shared.load::<Show<S>>(&mut turn.seat, 0);
     }
 
     /// Ends the lock by the turn that has all seats again. The state's history is what that turn has seen, and it owns

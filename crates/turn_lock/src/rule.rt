@@ -10,14 +10,14 @@ use std::snapshot::Snapshot;
 
 /// What a turn knows. No value of it is made.
 ///
-/// `told` is the beginning that it last learnt to begin what it has `seen`; `out` says that it has the ticket `at`,
+/// `known` is the beginning that it last learnt to begin what it has `seen`; `out` says that it has the ticket `at`,
 /// and `held` that it holds the state.
 pub struct View<E> {
     pub seats: u32,
     pub fixed: u64,
     pub seen: LinkedList<E>,
     pub mine: LinkedList<u64>,
-    pub told: LinkedList<E>,
+    pub known: LinkedList<E>,
     pub out: bool,
     pub held: bool,
     pub at: u64,
@@ -87,14 +87,14 @@ impl<S: Storied<E>, E> Play<Option<S>, View<E>> for Leave<S> {
 }
 
 /// A look that makes known what the rule says of the turn's own view.
-pub struct Tell<S> {
+pub struct Show<S> {
     of: PhantomData<S>,
 }
 
-impl<S: Storied<E>, E> Play<Option<S>, View<E>> for Tell<S> {
-    ghost use Rattle.turn_lock.specs.Turns.{told_so};
+impl<S: Storied<E>, E> Play<Option<S>, View<E>> for Show<S> {
+    ghost use Rattle.turn_lock.specs.Turns.{known_so};
 
-    ghost then = { told_so S.history S.owns S.fixed };
+    ghost then = { known_so S.history S.owns S.fixed };
 }
 
 /// How many seats are given away. Each call picks it.

@@ -41,11 +41,11 @@ pub(crate) fn written<R: Threads + Wait + Sync + Abort + AllocGlobal>(
     input: &[u8],
     status: Status,
 ) -> Result<Vec<u8>, Fail> {
-    let room = Room {
+    let capacity = Capacity {
         most: 262_144,
         piece: 4096,
     };
-    let (found, text) = ended(rt, words, &Ends::steady(input), room)?;
+    let (found, text) = ended(rt, words, &Ends::steady(input), capacity)?;
     assert_eq!(rt; found, status);
     Ok(text)
 }

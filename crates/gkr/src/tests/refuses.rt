@@ -83,18 +83,18 @@ fn sees_steadily<R: Threads + Wait + Sync + Abort + AllocGlobal>(
     rt: &R,
     words: &[&str],
     input: &[u8],
-    room: usize,
+    capacity: usize,
     status: Status,
     reply: &[u8],
 ) -> Result<(), Fail> {
     let alloc = rt.alloc();
     let owned = owned_words(alloc, words)?;
     let mut source = SteadySource::new(alloc, input, 16)?;
-    let mut sink = SteadySink::new(alloc, room)?;
+    let mut sink = SteadySink::new(alloc, capacity)?;
     let found = gkr_run(rt, alloc, &owned, &mut source, &mut sink, &OpenGate);
     assert_eq!(rt; found, status);
-    assert_eq!(rt; sink.tells(), reply.len() <= room);
-    if sink.tells() {
+    assert_eq!(rt; sink.is_known(), reply.len() <= capacity);
+    if sink.is_known() {
         assert_eq!(rt; sink.bytes(), reply);
     }
     Ok(())
@@ -143,8 +143,8 @@ fn answers_over_steady_ends(rt: HostRuntime) -> Result<(), Fail> {
             b"jobs 0 proved 0 refused 0\n",
         ),
     ] {
-        for room in [64, 5] {
-            sees_steadily(&rt, words, input, room, status, reply)?;
+        for capacity in [64, 5] {
+            sees_steadily(&rt, words, input, capacity, status, reply)?;
         }
     }
     Ok(())

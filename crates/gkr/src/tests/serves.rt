@@ -4,7 +4,7 @@ use super::*;
 use test_gates::MeetingGate;
 
 /// The most bytes that are written here, and how many a write takes.
-const ROOM: Room = Room {
+const CAPACITY: Capacity = Capacity {
     most: 65_536,
     piece: 4096,
 };
@@ -108,7 +108,7 @@ fn serves_a_script_with_its_history(rt: HostRuntime) -> Result<(), Fail> {
             "--clients",
             "3",
         ];
-        let (found, written) = ended_by(&rt, &words, &Ends::steady(&text), ROOM, &OpenGate)?;
+        let (found, written) = ended_by(&rt, &words, &Ends::steady(&text), CAPACITY, &OpenGate)?;
         assert_eq!(rt; found, Status::Done);
         assert!(rt; written.starts_with(&want));
     }
@@ -155,7 +155,7 @@ pub(crate) fn answers<R: Threads + Wait + Sync + Abort + AllocGlobal, G: Gate>(
     status: Status,
     reply: &[u8],
 ) -> Result<(), Fail> {
-    let (found, written) = ended_by(rt, words, &Ends::steady(text), ROOM, gate)?;
+    let (found, written) = ended_by(rt, words, &Ends::steady(text), CAPACITY, gate)?;
     assert_eq!(rt; found, status);
     assert_eq!(rt; written.as_slice(), reply);
     Ok(())

@@ -5,7 +5,7 @@ use super::*;
 use test_gates::{CountingGate, MeetingGate};
 
 /// The most bytes that are written here, and how many a write takes.
-const ROOM: Room = Room {
+const CAPACITY: Capacity = Capacity {
     most: 262_144,
     piece: 4096,
 };
@@ -26,7 +26,7 @@ pub(crate) fn done<R: Threads + Wait + Sync + Abort + AllocGlobal, G: Gate>(
     input: &[u8],
     gate: &G,
 ) -> Result<Vec<u8>, Fail> {
-    let (status, text) = ended_by(rt, words, &Ends::steady(input), ROOM, gate)?;
+    let (status, text) = ended_by(rt, words, &Ends::steady(input), CAPACITY, gate)?;
     assert_eq!(rt; status, Status::Done);
     Ok(text)
 }

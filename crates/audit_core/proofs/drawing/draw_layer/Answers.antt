@@ -5,8 +5,8 @@ use Rattle.transcript_fs.specs.Source.{Source}
 use Rattle.audit_core.proofs.DrawSteps.{has_here, round-drawn, round-state, last-drawn, last-state}
 use Rattle.audit_core.proofs.drawing.draw_layer.Goals as goal
 
-pub draw_behind-requires : goal.draw_behind-requires
-draw_behind-requires g c =
+pub draw_after-requires : goal.draw_after-requires
+draw_after-requires g c =
     let source : Source = g.C.Challenges.source in
     let m = c.args.messages.now in
     let u : c.loop-round.round-index ≤ length c.args.messages.now.rounds = omega (arith, ap length c.as_slice-round-items.ensures) in
@@ -23,12 +23,12 @@ loop-round-preserved g c =
     let u : c.loop-round.round-index < length c.args.messages.now.rounds = omega (arith, ap length c.as_slice-round-items.ensures) in
     let is = c.round-item.is ∙ ap (λ (xs : List Round). get_or xs c.loop-round.round-index r) c.as_slice-round-items.ensures in
     record {
-      drawn = round-drawn source s m.rounds m.last i r c.coefficients.result u is c.coefficients.ensures c.args.drawn.now.items c.loop-round.drawn.items c.draw_behind.new.drawn.items (g.C.Challenges.state c.loop-round.challenges) inv.state inv.drawn c.in_ok-draw_behind.ensures.drawn;
-      state = round-state source s m.rounds m.last i r c.coefficients.result u is c.coefficients.ensures (g.C.Challenges.state c.loop-round.challenges) (g.C.Challenges.state c.draw_behind.new.challenges) inv.state c.in_ok-draw_behind.ensures.state;
+      drawn = round-drawn source s m.rounds m.last i r c.coefficients.result u is c.coefficients.ensures c.args.drawn.now.items c.loop-round.drawn.items c.draw_after.new.drawn.items (g.C.Challenges.state c.loop-round.challenges) inv.state inv.drawn c.in_ok-draw_after.ensures.drawn;
+      state = round-state source s m.rounds m.last i r c.coefficients.result u is c.coefficients.ensures (g.C.Challenges.state c.loop-round.challenges) (g.C.Challenges.state c.draw_after.new.challenges) inv.state c.in_ok-draw_after.ensures.state;
     }
 
-pub draw_behind-requires-2 : goal.draw_behind-requires-2
-draw_behind-requires-2 g c =
+pub draw_after-requires-2 : goal.draw_after-requires-2
+draw_after-requires-2 g c =
     let source : Source = g.C.Challenges.source in
     let m = c.args.messages.now in
     let u : c.loop-round.round-index ≤ length c.args.messages.now.rounds = omega (arith, ap length c.as_slice-round-items.ensures, c.loop-round.auto.round-index-end) in
@@ -39,11 +39,11 @@ returns-clause-drawn g c =
     let m = c.args.messages.now in
     let inv = c.loop-round.invariant in
     let u : length c.args.messages.now.rounds ≤ c.loop-round.round-index = omega (arith, ap length c.as_slice-round-items.ensures) in
-    last-drawn g.C.Challenges.source (g.C.Challenges.state c.args.challenges.now) m.rounds m.last c.loop-round.round-index u c.args.drawn.now.items c.loop-round.drawn.items c.draw_behind-2.new.drawn.items (g.C.Challenges.state c.loop-round.challenges) c.as_slice.result.now c.as_slice.ensures inv.state inv.drawn c.in_ok-draw_behind-2.ensures.drawn
+    last-drawn g.C.Challenges.source (g.C.Challenges.state c.args.challenges.now) m.rounds m.last c.loop-round.round-index u c.args.drawn.now.items c.loop-round.drawn.items c.draw_after-2.new.drawn.items (g.C.Challenges.state c.loop-round.challenges) c.as_slice.result.now c.as_slice.ensures inv.state inv.drawn c.in_ok-draw_after-2.ensures.drawn
 
 pub returns-clause-state : goal.returns-clause-state
 returns-clause-state g c =
     let m = c.args.messages.now in
     let inv = c.loop-round.invariant in
     let u : length c.args.messages.now.rounds ≤ c.loop-round.round-index = omega (arith, ap length c.as_slice-round-items.ensures) in
-    last-state g.C.Challenges.source (g.C.Challenges.state c.args.challenges.now) m.rounds m.last c.loop-round.round-index u (g.C.Challenges.state c.loop-round.challenges) (g.C.Challenges.state c.draw_behind-2.new.challenges) c.as_slice.result.now c.as_slice.ensures inv.state c.in_ok-draw_behind-2.ensures.state
+    last-state g.C.Challenges.source (g.C.Challenges.state c.args.challenges.now) m.rounds m.last c.loop-round.round-index u (g.C.Challenges.state c.loop-round.challenges) (g.C.Challenges.state c.draw_after-2.new.challenges) c.as_slice.result.now c.as_slice.ensures inv.state c.in_ok-draw_after-2.ensures.state

@@ -20,8 +20,8 @@ returns-clause-as_many c =
     (λ outputs read. (evaluated c.circuit_computes.ensures.inputs c.circuit_computes.ensures.computes c.args.case.now circuit c.requires.compiled c.requires.counted c.args.case.now.inputs outputs.items c.args.values.now _ _ refl c.requires.tables c.table.ensures c.outputs.ensures.value read).0)
     c.real_parts.ensures
 
-pub returns-clause-stand : goal.returns-clause-stand
-returns-clause-stand c =
+pub returns-clause-outputs : goal.returns-clause-outputs
+returns-clause-outputs c =
     let circuit : SoundCircuit = c.args.circuit.now in
     IfOk-weaker c.real_parts.result _ _
     (λ outputs read.

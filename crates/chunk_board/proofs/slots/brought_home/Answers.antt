@@ -29,7 +29,7 @@ loop-k-preserved g c = let i = c.loop-k.invariant in let full = c.requires.full 
           ∙ sym c.in-Some.is ∙ is ∙ some-injective _ _ (sym full.1 ∙ ap (get_elem? (slots_items c.args.closed.slots)) (sym s) ∙ e))
           (λ n. ap (λ l. slice_get l j) pushed ∙ there_before c.loop-k.parts.items c.in-Some.part x j (i.taken j x (omega arith) e));
       number = search rules;
-      room = search rules;
+      capacity = search rules;
     }
 
 pub returns-clause-items : goal.returns-clause-items

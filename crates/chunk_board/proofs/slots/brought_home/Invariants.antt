@@ -12,5 +12,5 @@ invariant-loop-k g l = record {
   free : (j : ℕ) → j < l.k → slice_index_or (slots_filled l.closed.slots) j false ≡ false;
   taken : (j : ℕ) (x : g.row.T.Denot) → j < l.k → get_elem? (slots_items l.fn.closed.slots) j ≡ some (Some x) → slice_get l.parts.items j ≡ Some x;
   number : vec_len l.parts ≡ l.k;
-  room : l.count ≤ vec_capacity l.parts;
+  capacity : l.count ≤ vec_capacity l.parts;
 }

@@ -14,5 +14,5 @@ loop-i-preserved g c = let i = c.loop-i.invariant in let full = c.requires.full 
       left = λ j h. get_set_other c.loop-i.slots.items c.loop-i.i j _ (omega arith) ∙ i.left j (omega arith);
       moved = ap (map Some) c.in-Ok.ensures.items ∙ map-append Some c.loop-i.parts.items (c.in-Some.part ∷ []) ∙ ap (λ l. l ++ Some c.in-Some.part ∷ []) i.moved ∙ sym (take_more c.args.slots.items c.loop-i.i (Some c.in-Some.part) (full.1 ∙ ap Some here));
       count = search rules;
-      room = search rules;
+      capacity = search rules;
     }

@@ -7,5 +7,5 @@ invariant-loop-i g l = record {
   left : (j : ℕ) → l.i ≤ j → slice_get l.slots.items j ≡ slice_get l.fn.slots.items j;
   moved : map Some l.parts.items ≡ take l.i l.fn.slots.items;
   count : vec_len l.parts ≡ l.i;
-  room : vec_len l.fn.slots ≤ vec_capacity l.parts;
+  capacity : vec_len l.fn.slots ≤ vec_capacity l.parts;
 }

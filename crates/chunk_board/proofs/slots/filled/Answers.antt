@@ -9,5 +9,5 @@ loop-part-preserved g c = let i = c.loop-part.invariant in
       rest = c.in-Some.part ∷ i.rest;
       all = sym (append_assoc c.pop.new.self.items (c.in-Some.part ∷ []) i.rest) ∙ ap (λ l. l ++ i.rest) (sym c.in-Some.ensures.items) ∙ i.all;
       slots = fill_step c.len-at.result c.in-Some.part i.rest c.loop-part.slots.items (i.slots ∙ ap (λ n. replicate n None ++ map Some i.rest) more) ∙ ap (λ n. replicate n None ++ map Some (c.in-Some.part ∷ i.rest)) (omega arith);
-      room = omega arith;
+      capacity = omega arith;
     }

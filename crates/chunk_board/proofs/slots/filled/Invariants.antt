@@ -6,7 +6,7 @@ invariant-loop-part g l = record {
   rest : List g.row.T.Denot;
   all : l.parts.items ++ rest ≡ l.fn.parts.items;
   slots : l.slots.items ≡ replicate (vec_len l.parts) None ++ map Some rest;
-  room : vec_len l.fn.parts ≤ vec_capacity l.parts;
+  capacity : vec_len l.fn.parts ≤ vec_capacity l.parts;
 }
 
 abbrev pub decreases-loop-part : goal.decreases-loop-part

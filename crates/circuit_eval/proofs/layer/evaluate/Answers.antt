@@ -6,5 +6,5 @@ use Rattle.circuit_eval.proofs.layer.evaluate.Goals as goal
 
 pub returns : goal.returns
 returns c =
-    written (gate_value c.args.below.now) c.args.gates.now c.loop-g.values zero_gate zero_f (omega (arith, c.requires.room, c.loop-g.auto.values))
+    written (gate_value c.args.below.now) c.args.gates.now c.loop-g.values zero_gate zero_f (omega (arith, c.requires.capacity, c.loop-g.auto.values))
     (λ k l. c.loop-g.invariant k (omega (arith, l, c.loop-g-test.false)))

@@ -10,6 +10,6 @@ returns g c =
     let value = gate_value c.args.below.now in
     let many = length-map gates value in
     let long = c.par_for_each_mut.auto.s in
-    same_lists c.par_for_each_mut.new.s (map value gates) (omega (arith, long, c.requires.room, many)) (λ k d l.
+    same_lists c.par_for_each_mut.new.s (map value gates) (omega (arith, long, c.requires.capacity, many)) (λ k d l.
     let at = (c.par_for_each_mut.ensures k d (omega (arith, l, long))).1 in
-    sym at.left ∙ at.call ∙ sym (get_or-map value gates k zero_gate d (omega (arith, l, long, c.requires.room))))
+    sym at.left ∙ at.call ∙ sym (get_or-map value gates k zero_gate d (omega (arith, l, long, c.requires.capacity))))

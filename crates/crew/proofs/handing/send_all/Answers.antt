@@ -10,7 +10,7 @@ loop-part-init g c = record {
   all = append-nil c.args.parts.now.items;
   few = omega arith;
   out = starts_home c.args.relays.now c.args.parts.now.items c.args.senders.now (vec_len c.args.parts.now) (search rules) c.requires.home;
-  room = search rules;
+  capacity = search rules;
 }
 
 pub send-requires-clause-relay : goal.send-requires-clause-relay
@@ -31,5 +31,5 @@ loop-part-preserved g c = let i = c.loop-part.invariant in let m = c.len-k.resul
       few = omega arith;
       out = out_from c.args.relays.now c.args.parts.now.items _ m (vec_len c.pop.new.self) (search rules) (one_sent c.args.relays.now c.args.parts.now.items m (vec_len c.loop-part.parts) c.loop-part.senders (get_or c.loop-part.senders m c.index-senders-k.result) c.send.new.sender c.in-Some.part more i.out
           (slice_get-get_or c.loop-part.senders m c.index-senders-k.result (let same = i.out.len in omega arith)) c.send.ensures at);
-      room = search rules;
+      capacity = search rules;
     }

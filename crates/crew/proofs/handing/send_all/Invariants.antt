@@ -8,7 +8,7 @@ invariant-loop-part g l = record {
   all : l.parts.items ++ rest ≡ l.fn.parts.items;
   few : vec_len l.parts ≤ vec_len l.fn.parts;
   out : AreOut l.relays l.fn.parts.items (vec_len l.parts) l.senders;
-  room : vec_len l.fn.parts ≤ vec_capacity l.parts;
+  capacity : vec_len l.fn.parts ≤ vec_capacity l.parts;
 }
 
 abbrev pub decreases-loop-part : goal.decreases-loop-part

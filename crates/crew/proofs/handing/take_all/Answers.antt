@@ -21,7 +21,7 @@ loop-k-preserved g c = let i = c.loop-k.invariant in let few = c.requires.few in
           (λ x at. c.take_back-part.ensures.part x (i.out.out c.loop-k.k _ here (omega arith) ∙ at) ∙ (let its = all c.loop-k.k c.index-relays-k.result (slice_get-get_or c.args.relays.now c.loop-k.k c.index-relays-k.result (omega arith) ∙ ap Some (sym c.index-relays-k.is)) in
           λ j. g.W.PartWork.part_of (sym its.0 j) (its.1 j) x)) (i.worked w all);
       number = search rules;
-      room = search rules;
+      capacity = search rules;
     }
 
 pub returns : goal.returns

@@ -5,7 +5,7 @@ use Rattle.field_ext.specs.Field.{K, k_ops}
 use Rattle.field_ext.specs.Polynomial.{coefficients}
 use Rattle.gkr_layers.proofs.Coefficients.{length-coefficients}
 use Rattle.gkr_layers.specs.Forms.{last_polynomial, place_between}
-use Rattle.gkr_layers.specs.Standing.{place_of}
+use Rattle.gkr_layers.specs.ClaimPlace.{place_of}
 use Rattle.proof_wire.specs.Forms.{last_degree}
 use Rattle.round_tables.specs.LayerSum.{LayerSum}
 use Rattle.transcript_fs.specs.Source.{Source, draws, state_after}

@@ -16,7 +16,7 @@ use Rattle.gkr_prove.proofs.LayerSteps.{messages-more, table_values, layers_more
 use Rattle.gkr_prove.proofs.TableShapes.{table_exponent, is_layer, few_gates, shape_more}
 use Rattle.gkr_prove.proofs.layers.prove_layers.Goals as goal
 use Rattle.gkr_layers.specs.Places.{Place, IsOver}
-use Rattle.gkr_layers.specs.Standing.{place_of}
+use Rattle.gkr_layers.specs.ClaimPlace.{place_of}
 use Rattle.gkr_prove.specs.Kept.{kept_place}
 
 -- challenges for the layers from one on
@@ -29,7 +29,7 @@ prove_layer-requires-clause-layer g c κs within =
     let i = c.loop-layer.layer in
     let u : c.loop-layer.layer < height c.args.circuit.now.parts = omega (arith, c.loop-layer-test.true, c.height-layer-end.ensures) in
     let e = table_exponent circuit c.requires.values.0 c.args.values.now (i + 1) c.table.result.now c.requires.values.1 (omega arith) c.table.ensures in
-    is_layer circuit i c.table.result.now c.gates.result.now (place_of c.standing.result) u e c.gates.ensures.value (subst (IsOver (exponent_at c.args.circuit.now.parts c.loop-layer.layer)) (sym c.standing.ensures) c.loop-layer.invariant.position)
+    is_layer circuit i c.table.result.now c.gates.result.now (place_of c.claim_place.result) u e c.gates.ensures.value (subst (IsOver (exponent_at c.args.circuit.now.parts c.loop-layer.layer)) (sym c.claim_place.ensures) c.loop-layer.invariant.position)
 
 pub prove_layer-requires-clause-few : goal.prove_layer-requires-clause-few
 prove_layer-requires-clause-few g c κs within =
@@ -71,7 +71,7 @@ loop-layer-preserved g c =
     proved.place ∙ (λ j. next_place k_ops c.args.form (e j) (draws source (before.state j) M)) in
     let count : length d ≡ k + k + 1 = length-draws source (state_after source s (all_messages ms)) M ∙ length-messages c.args.form k m shape in
     let honest : IsHonestLayer c.args.form k (get_or p.layers i []) table.items (kept_place c.loop-layer.place) M d =
-    coe 0 1 (j. IsHonestLayer c.args.form (e j) (c.gates.ensures.value j) table.items (c.standing.ensures j) M (draws source (before.state j) M)) proved.honest in
+    coe 0 1 (j. IsHonestLayer c.args.form (e j) (c.gates.ensures.value j) table.items (c.claim_place.ensures j) M (draws source (before.state j) M)) proved.honest in
     let joined : all_messages c.push.new.self.items ≡ all_messages ms ++ M = (λ j. all_messages (noted j)) ∙ messages-more ms m in
     let first : Place K = kept_place c.args.place in
     let after : Place K = kept_place c.in_ok-proved.proved.place in

@@ -17,8 +17,8 @@ fill_rounds-requires g c =
           (rounds_have source s (filled_layer source s c.args.claim c.args.layer.now) c.requires.has);
     }
 
-pub draw_behind-requires : goal.draw_behind-requires
-draw_behind-requires g c =
+pub draw_after-requires : goal.draw_after-requires
+draw_after-requires g c =
     let source : Source = g.C.Challenges.source in
     let s : List ℕ = g.C.Challenges.state c.args.challenges.now in
     let rounds = c.in_ok-rounds.ensures.messages ∙ ap (filled_rounds source s c.args.claim) c.as_slice.ensures in
@@ -49,4 +49,4 @@ returns-clause-state g c =
     let state = c.in_ok-rounds.ensures.state ∙ ap (λ (rs : List Round). state_after source s (round_messages rs)) (sym c.of.ensures) in
     let last = c.deref.ensures.value ∙ sym c.of-2.ensures in
     let taken : source.absorb (g.C.Challenges.state c.fill_rounds.new.challenges) c.deref.result.now ≡ state_at_last source s layer = λ j. source.absorb (state j) (last j) in
-    layer_state source s layer (g.C.Challenges.state c.draw_behind.new.challenges) (c.in_ok-challenge.ensures.state ∙ ap source.after taken)
+    layer_state source s layer (g.C.Challenges.state c.draw_after.new.challenges) (c.in_ok-challenge.ensures.state ∙ ap source.after taken)

@@ -9,8 +9,8 @@ use Rattle.gkr_verify.proofs.FillSteps.{RoundsFilled, round_filled, round_has}
 use Rattle.proof_wire.proofs.Apart.{round_apart as round_by_coefficients}
 use Rattle.gkr_verify.proofs.filling.fill_rounds.Goals as goal
 
-pub draw_behind-requires : goal.draw_behind-requires
-draw_behind-requires g c = record {
+pub draw_after-requires : goal.draw_after-requires
+draw_after-requires g c = record {
   has = round_has g.C.Challenges.source (g.C.Challenges.state c.args.challenges.now) c.args.claim c.args.pairs.now c.args.drawn.now.items c.loop-pair.pair-index (g.C.Challenges.state c.loop-pair.challenges) c.loop-pair.rounds.claim c.loop-pair.made.items c.loop-pair.drawn.items c.loop-pair.invariant.filled
       c.pair-item.result c.loop-pair-test.true c.pair-item.is;
 }
@@ -25,7 +25,7 @@ loop-pair-preserved g c =
     let drawn : List K = c.loop-pair.drawn.items in
     let round : Round = filled_round claim c.pair-item.result in
     let same : c.fill_round-coefficients.result ≡ coefficients_of round = c.fill_round-coefficients.ensures.message in
-    let state : g.C.Challenges.state c.draw_behind.new.challenges ≡ source.after (source.absorb s (coefficients_of round)) =
+    let state : g.C.Challenges.state c.draw_after.new.challenges ≡ source.after (source.absorb s (coefficients_of round)) =
     c.in_ok-challenge.ensures.state ∙ ap (λ (q : List K). source.after (source.absorb s q)) same in
     let r : c.in_ok-challenge.challenge ≡ source.draw (source.absorb s (coefficients_of round)) =
     c.in_ok-challenge.ensures.value ∙ ap (λ (q : List K). source.draw (source.absorb s q)) same in
@@ -35,7 +35,7 @@ loop-pair-preserved g c =
     ∙ ap (λ (x : K). value_at k_ops (coefficients_of round) x) r in
     let grown : c.push.new.self.items ≡ made ++ round ∷ [] =
     c.in_ok-push.ensures.items ∙ ap (λ (x : Round). made ++ x ∷ []) (round_by_coefficients c.of.result round (c.of.ensures ∙ same)) in
-    let behind : c.draw_behind.new.drawn.items ≡ drawn ++ source.draw (source.absorb s (coefficients_of round)) ∷ [] =
+    let behind : c.draw_after.new.drawn.items ≡ drawn ++ source.draw (source.absorb s (coefficients_of round)) ∷ [] =
     c.in_ok-challenge.ensures.drawn ∙ ap (λ (x : K). drawn ++ x ∷ []) r in
     record {
       ready = c.bind.ensures.waiting;

@@ -6,7 +6,7 @@ use Rattle.circuit_core.specs.declared.gate.CircuitGate.{CircuitGate}
 use Rattle.circuit_core.specs.Sound.{exponent_at}
 use Rattle.gkr_layers.specs.Places.{Place, weighted_summand_from}
 use Rattle.gkr_layers.specs.Forms.{said_left, said_right, place_between}
-use Rattle.gkr_layers.specs.Standing.{place_of}
+use Rattle.gkr_layers.specs.ClaimPlace.{place_of}
 use Rattle.gkr_layers.proofs.Forms.{two_at_least}
 use Rattle.circuit_core.proofs.Sizes.{size_of}
 use Rattle.transcript_fs.specs.Source.{Source, draws, state_after}

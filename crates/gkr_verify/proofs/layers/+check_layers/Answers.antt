@@ -12,7 +12,7 @@ use Rattle.gkr_layers.proofs.Shapes.{has_layer, has_below}
 use Rattle.gkr_verify.proofs.layers.+check_layers.Goals as goal
 use Rattle.gkr_layers.specs.Places.{IsOver}
 use Rattle.gkr_layers.specs.Forms.{place_between}
-use Rattle.gkr_layers.specs.Standing.{place_of}
+use Rattle.gkr_layers.specs.ClaimPlace.{place_of}
 use Rattle.gkr_layers.proofs.Forms.{place_over}
 
 pub check_layer-requires-clause-has : goal.check_layer-requires-clause-has
@@ -47,8 +47,8 @@ check_layers-requires g t c κs within =
     let left : length c.split_at.result.0.now ≡ exponent_at c.args.circuit.now.parts (c.args.layer + 1) = omega (arith, c.split_at.ensures.front_len, c.coordinates-k.ensures.value) in
     let right : length c.split_at.result.1.now ≡ exponent_at c.args.circuit.now.parts (c.args.layer + 1) =
     omega (arith, c.split_at.ensures.back_len, c.check_layer.auto.drawn, c.split_at_mut-drawn.ensures.front_len, c.coordinates-k.ensures.value) in
-    let over : IsOver (exponent_at p (layer + 1)) (place_of c.standing_below-below.result) =
-    subst (IsOver (exponent_at p (layer + 1))) (sym c.standing_below-below.ensures)
+    let over : IsOver (exponent_at p (layer + 1)) (place_of c.place_below-below.result) =
+    subst (IsOver (exponent_at p (layer + 1))) (sym c.place_below-below.ensures)
     (place_over k_ops c.args.form c.split_at.result.0.now c.split_at.result.1.now c.in-Ok.next.challenge (exponent_at p (layer + 1)) left right) in
     let shapes : HaveShape c.args.form (lower_exponents (layer_at p layer ∷ layers_below p (layer + 1))) (c.in-Some.first.now ∷ c.in-Some.later.now) = coe 0 1 (i. HaveShape c.args.form (lower_exponents (below i)) (split i)) c.requires.shape in
     let has = subst (λ (xs : List GateLayer). IsTrue (source.has s (message_count xs))) below c.requires.has in
@@ -67,7 +67,7 @@ check_layers-requires g t c κs within =
                 (
                   shapes.1,
                   (
-                    omega (arith, widths, c.requires.room, c.split_at_mut-drawn.ensures.back_len, c.split_at_mut-point.ensures.back_len, c.coordinates-k.ensures.value),
+                    omega (arith, widths, c.requires.buffers, c.split_at_mut-drawn.ensures.back_len, c.split_at_mut-point.ensures.back_len, c.coordinates-k.ensures.value),
                     subst (λ t. IsTrue (source.has t (message_count (layers_below p (layer + 1))))) (sym c.in-Ok.ensures.state) (has_below source s (layer_at p layer) (layers_below p (layer + 1)) has c.args.form c.in-Some.first.now shapes.0),
                   ),
                 ),
@@ -105,7 +105,7 @@ returns-in-Ok g t c =
     let drawn : List K = c.check_layer.new.drawn in
     let rest : List K = draws source (g.C.Challenges.state c.check_layer.new.challenges) (all_messages later) in
     c.check_layers.ensures
-    ∙ (λ i. answer source after (equations c.args.form (add-one c.args.layer i) (layers_below p (c.args.layer + 1)) input (c.standing_below-below.ensures i) c.in-Ok.next.value (all_messages later) rest) (all_messages later))
+    ∙ (λ i. answer source after (equations c.args.form (add-one c.args.layer i) (layers_below p (c.args.layer + 1)) input (c.place_below-below.ensures i) c.in-Ok.next.value (all_messages later) rest) (all_messages later))
     ∙ (λ i. answer source after (equations c.args.form (suc c.args.layer) (layers_below p (c.args.layer + 1)) input (place_between k_ops c.args.form (c.split_at.ensures.front i) (c.split_at.ensures.back i) c.in-Ok.next.challenge) c.in-Ok.next.value (all_messages later) rest) (all_messages later))
     ∙ (λ i. answer source after (equations c.args.form (suc c.args.layer) (layers_below p (c.args.layer + 1)) input (place_between k_ops c.args.form (take (c.coordinates-k.ensures.value i) drawn) (drop (c.coordinates-k.ensures.value i) drawn) c.in-Ok.next.challenge) c.in-Ok.next.value (all_messages later) rest) (all_messages later))
     ∙ sym (c.in-Ok.ensures.holds (layers_below p (c.args.layer + 1)) input (all_messages later))

@@ -4,7 +4,7 @@ use Rattle.circuit_core.specs.Parts.{height, leaf_value, padded_values}
 use Rattle.circuit_core.specs.Sound.{exponent_at}
 use Rattle.circuit_core.proofs.Sizes.{size_of}
 use Rattle.gkr_layers.specs.Places.{value_over}
-use Rattle.gkr_layers.specs.Standing.{place_of}
+use Rattle.gkr_layers.specs.ClaimPlace.{place_of}
 use Rattle.gkr_layers.proofs.Circuits.{input_width}
 use Rattle.gkr_verify.proofs.InputSteps.{input_holds, input_fails}
 use Rattle.gkr_verify.proofs.layers.check_inputs.Goals as goal
@@ -14,7 +14,7 @@ leaves_there-want-requires-clause-fits c =
     let circuit = c.args.circuit.now in
     let size = (size_of circuit (height circuit.parts) (omega arith)).0 in
     let width = ap (λ (n : ℕ). 2 ^ n) (c.coordinates-k.ensures.value ∙ ap (λ (i : ℕ). exponent_at circuit.parts i) c.height.ensures) in
-    omega (arith, c.leaves.ensures.room, size, width)
+    omega (arith, c.leaves.ensures.capacity, size, width)
 
 pub returns-then-equals : goal.returns-then-equals
 returns-then-equals c =

@@ -31,7 +31,7 @@ loop-j-preserved g c =
       ready = c.bind.ensures.waiting;
       taken = let few = c.requires.few in omega (arith, few, c.loop-j-test.true, c.bind.ensures.taken, c.in_ok-take.ensures.taken, before.taken);
       progress = stepped source (g.C.Challenges.state c.args.challenges.now) c.args.claim (round_messages c.args.messages.now) c.loop-j.j (g.C.Challenges.state c.loop-j.challenges) c.loop-j.rounds.claim c.loop-j.drawn before.progress
-          q is.0 is.1 (omega (arith, size, c.loop-j.auto.drawn, c.requires.room)) c.in_ok-take.ensures.holds _ c.challenge-challenge.result _
+          q is.0 is.1 (omega (arith, size, c.loop-j.auto.drawn, c.requires.capacity)) c.in_ok-take.ensures.holds _ c.challenge-challenge.result _
           (c.challenge-challenge.ensures.value ∙ ap source.draw c.absorb.ensures)
           (c.challenge-challenge.ensures.state ∙ ap source.after c.absorb.ensures)
           (c.bind.ensures.claim ∙ ap (λ (q : List K). value_at k_ops q c.challenge-challenge.result) c.in_ok-take.ensures.message);

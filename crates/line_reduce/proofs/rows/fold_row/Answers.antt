@@ -30,16 +30,16 @@ loop-done-preserved c =
     let i : ℕ = c.args.n - 1 - c.loop-done.done in
     let u = c.loop-done-test.true in
     let left : c.args.n - (c.loop-done.done + 1) ≡ c.args.n - 1 - c.loop-done.done = omega arith in
-    let room : c.args.to + (c.args.n - 1 - c.loop-done.done) + 1 < length c.loop-done.new = omega (arith, length-set c.args.new.now (c.args.to + c.args.n) c.zero.result) in
+    let capacity : c.args.to + (c.args.n - 1 - c.loop-done.done) + 1 < length c.loop-done.new = omega (arith, length-set c.args.new.now (c.args.to + c.args.n) c.zero.result) in
     let next_place : suc (c.args.n - 1 - c.loop-done.done) ≡ c.args.n - c.loop-done.done = omega arith in
     let low : c.index-old-at.result ≡ get_or c.args.old.now (c.args.at + (c.args.n - 1 - c.loop-done.done)) zero_k = get_or_read old (at + i) c.index-old-at.result (omega arith) c.index-old-at.is zero_k in
     let high : c.index-old-at-in-loop-done.result ≡ get_or c.args.old.now (c.args.at + c.args.n + (c.args.n - 1 - c.loop-done.done)) zero_k = get_or_read old (at + n + i) c.index-old-at-in-loop-done.result (omega arith) c.index-old-at-in-loop-done.is zero_k in
-    let next : c.index-new-to.result ≡ get_or c.loop-done.new (c.args.to + (c.args.n - 1 - c.loop-done.done) + 1) zero_k = get_or_read new (to + i + 1) c.index-new-to.result room c.index-new-to.is zero_k in
+    let next : c.index-new-to.result ≡ get_or c.loop-done.new (c.args.to + (c.args.n - 1 - c.loop-done.done) + 1) zero_k = get_or_read new (to + i + 1) c.index-new-to.result capacity c.index-new-to.is zero_k in
     record {
       row = λ e.
           (λ k. row_value k_ops (set (set new (to + i + 1) c.add.result) (to + i) c.add-in-loop-done.result) (to + left k) (done + 1 + 1) e)
           ∙ row_more k_ops k_laws new old to at (at + n) i (n - done) done c.args.start c.args.step c.index-old-at.result c.index-old-at-in-loop-done.result c.add.result c.add-in-loop-done.result c.sub-difference.result e
-          next_place room low high c.sub-difference.ensures
+          next_place capacity low high c.sub-difference.ensures
           (c.add.ensures ∙ (λ k. add_k (next k) (c.mul.ensures k)))
           (c.add-in-loop-done.ensures ∙ ap (add_k c.index-old-at.result) c.mul-in-loop-done.ensures)
           (c.loop-done.invariant.row e)

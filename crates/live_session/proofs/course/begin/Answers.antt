@@ -3,7 +3,7 @@ use Rattle.std.proofs.Common.{◌≡◌, ◌+◌, ◌≤◌, ◌++◌, [], refl,
 use Rattle.std.specs.List.{flat_map}
 use Rattle.field_ext.specs.Bytes.{bytes_of}
 use Rattle.circuit_core.specs.Parts.{height}
-use Rattle.gkr_layers.specs.Standing.{place_of}
+use Rattle.gkr_layers.specs.ClaimPlace.{place_of}
 use Rattle.gkr_prove.proofs.LayerSteps.{table_values}
 use Rattle.gkr_prove.proofs.TableShapes.{few_gates, is_layer, table_exponent}
 use Rattle.round_tables.specs.LayerSum.{LayerSum}

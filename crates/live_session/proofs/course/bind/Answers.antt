@@ -24,19 +24,19 @@ send-requires-clause-here g c κs within = ap (λ (t : LayerSum). t.lent) c.bind
 pub send-requires-clause-k : goal.send-requires-clause-k
 send-requires-clause-k g c κs within =
     let e = table_exponent c.args.circuit.now c.requires.values.0 c.args.values.now (c.args.layer + 1) c.table.result.now c.requires.values.1 (omega (arith, c.requires.layer)) c.table.ensures in
-    let at = within_at c.args.circuit.now.parts c.requires.values.0 c.args.words.now c.args.u c.args.layer c.args.base c.args.sent.items c.args.tables (omega (arith, c.requires.there)) (c.requires.stands c.requires.values.0 c.requires.values.1) in
+    let at = within_at c.args.circuit.now.parts c.requires.values.0 c.args.words.now c.args.u c.args.layer c.args.base c.args.sent.items c.args.tables (omega (arith, c.requires.there)) (c.requires.at_stage c.requires.values.0 c.requires.values.1) in
     ap (λ (t : LayerSum). t.k) c.bind.ensures ∙ at.2 ∙ sym e
 
 pub send-requires-clause-values : goal.send-requires-clause-values
 send-requires-clause-values g c κs within =
-    let is = c.requires.stands c.requires.values.0 c.requires.values.1 in
+    let is = c.requires.at_stage c.requires.values.0 c.requires.values.1 in
     let v : c.args.layer + 1 ≤ height c.args.circuit.now.parts = omega (arith, c.requires.layer) in
     ap (λ (t : LayerSum). t.values) (c.bind.ensures ∙ (λ j. record (is.tables_are j) { bound = c.args.tables.bound ++ c.index-words-u.result ∷ [] }))
     ∙ sym (table_values c.args.circuit.now.parts c.requires.values.0 c.args.values.now (c.args.layer + 1) c.table.result.now.items c.requires.values.1 v c.table.ensures)
 
 pub send-requires-clause-drawn : goal.send-requires-clause-drawn
 send-requires-clause-drawn g c κs within =
-    let at = within_at c.args.circuit.now.parts c.requires.values.0 c.args.words.now c.args.u c.args.layer c.args.base c.args.sent.items c.args.tables (omega (arith, c.requires.there)) (c.requires.stands c.requires.values.0 c.requires.values.1) in
+    let at = within_at c.args.circuit.now.parts c.requires.values.0 c.args.words.now c.args.u c.args.layer c.args.base c.args.sent.items c.args.tables (omega (arith, c.requires.there)) (c.requires.at_stage c.requires.values.0 c.requires.values.1) in
     let n = length c.args.tables.bound in
     let count : c.args.u + 1 - c.args.base ≡ length c.args.tables.bound + 1 = omega (arith, c.requires.at) in
     let rest : List K = drop c.args.base c.args.words.now in
@@ -55,5 +55,5 @@ send-requires-clause-few g c =
 
 pub returns : goal.returns
 returns g c inputs tables =
-    bound_more c.args.circuit.now.parts inputs c.args.words.now c.args.u c.args.layer c.args.base c.args.sent.items c.args.tables c.index-words-u.result c.requires.there c.index-words-u.is (c.requires.stands inputs tables)
+    bound_more c.args.circuit.now.parts inputs c.args.words.now c.args.u c.args.layer c.args.base c.args.sent.items c.args.tables c.index-words-u.result c.requires.there c.index-words-u.is (c.requires.at_stage inputs tables)
     c.bind.new.self c.send.new.sent.items c.bind.ensures c.requires.left c.in_ok-send.ensures

@@ -5,7 +5,7 @@ use Rattle.poly_roots.proofs.product.add_row.Given as goal
 
 abbrev pub invariant-loop-i : goal.invariant-loop-i
 invariant-loop-i l = record {
-  before : (k : ℕ) → k < l.row → get_or l.room k zero_k ≡ get_or l.fn.room k zero_k;
-  done : (k : ℕ) → k < l.i → get_or l.room (l.row + k) zero_k ≡ add_k (get_or l.fn.room (l.row + k) zero_k) (mul_k l.c (get_or l.coefficients k zero_k));
-  rest : (k : ℕ) → l.i ≤ k → get_or l.room (l.row + k) zero_k ≡ get_or l.fn.room (l.row + k) zero_k;
+  before : (k : ℕ) → k < l.row → get_or l.buffer k zero_k ≡ get_or l.fn.buffer k zero_k;
+  done : (k : ℕ) → k < l.i → get_or l.buffer (l.row + k) zero_k ≡ add_k (get_or l.fn.buffer (l.row + k) zero_k) (mul_k l.c (get_or l.coefficients k zero_k));
+  rest : (k : ℕ) → l.i ≤ k → get_or l.buffer (l.row + k) zero_k ≡ get_or l.fn.buffer (l.row + k) zero_k;
 }

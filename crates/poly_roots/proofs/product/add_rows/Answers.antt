@@ -20,8 +20,8 @@ pub loop-done-preserved : goal.loop-done-preserved
 loop-done-preserved c =
     let left = c.args.left.now in
     let right = c.args.right.now in
-    let room = c.loop-done.room in
-    let new = c.add_row.new.room in
+    let buffer = c.loop-done.buffer in
+    let new = c.add_row.new.buffer in
     let row : ℕ = length c.args.left.now - 1 - c.loop-done.done in
     let inside : length c.args.left.now - 1 - c.loop-done.done < length c.args.left.now = omega (arith, c.loop-done-test.true) in
     let place : length c.args.left.now - (c.loop-done.done + 1) ≡ length c.args.left.now - 1 - c.loop-done.done = omega (arith, c.loop-done-test.true) in
@@ -30,9 +30,9 @@ loop-done-preserved c =
       before = λ k u. c.add_row.ensures.before k (omega (arith, u, place)) ∙ c.loop-done.invariant.before k (omega (arith, u, place, next));
       rows = λ k.
           ap (λ (n : ℕ). get_or new (n + k) zero_k) place
-          ∙ rows_step k_ops k_laws room new left right row c.index-left-row.result inside c.index-left-row.is
+          ∙ rows_step k_ops k_laws buffer new left right row c.index-left-row.result inside c.index-left-row.is
           (λ j u. c.loop-done.invariant.before j (omega (arith, u, next)))
-          (λ j. ap (λ (n : ℕ). get_or room (n + j) zero_k) (sym next) ∙ c.loop-done.invariant.rows j ∙ ap (λ (n : ℕ). get_or (product_of k_ops (drop n left) right) j zero_k) next)
+          (λ j. ap (λ (n : ℕ). get_or buffer (n + j) zero_k) (sym next) ∙ c.loop-done.invariant.rows j ∙ ap (λ (n : ℕ). get_or (product_of k_ops (drop n left) right) j zero_k) next)
           c.add_row.ensures.from k
           ∙ ap (λ (n : ℕ). get_or (product_of k_ops (drop n left) right) k zero_k) (sym place);
     }
@@ -42,7 +42,7 @@ returns c =
     let left = c.args.left.now in
     let right = c.args.right.now in
     let none : length c.args.left.now - c.loop-done.done ≡ 0 = omega (arith, c.loop-done-test.false) in
-    rows_whole k_ops k_laws c.loop-done.room left right c.requires.factors.0 c.requires.factors.1 (omega (arith, c.requires.size, c.loop-done.auto.room))
+    rows_whole k_ops k_laws c.loop-done.buffer left right c.requires.factors.0 c.requires.factors.1 (omega (arith, c.requires.size, c.loop-done.auto.buffer))
     (λ k.
-    ap (λ (n : ℕ). get_or c.loop-done.room (n + k) zero_k) (sym none) ∙ c.loop-done.invariant.rows k
+    ap (λ (n : ℕ). get_or c.loop-done.buffer (n + k) zero_k) (sym none) ∙ c.loop-done.invariant.rows k
     ∙ ap (λ (n : ℕ). get_or (product_of k_ops (drop n left) right) k zero_k) none)

@@ -6,6 +6,6 @@ use Rattle.poly_roots.proofs.product.add_rows.Given as goal
 
 abbrev pub invariant-loop-done : goal.invariant-loop-done
 invariant-loop-done l = record {
-  before : (k : ℕ) → k < length l.left - l.done → get_or l.room k zero_k ≡ zero_k;
-  rows : (k : ℕ) → get_or l.room (length l.left - l.done + k) zero_k ≡ get_or (product_of k_ops (drop (length l.left - l.done) l.left) l.right) k zero_k;
+  before : (k : ℕ) → k < length l.left - l.done → get_or l.buffer k zero_k ≡ zero_k;
+  rows : (k : ℕ) → get_or l.buffer (length l.left - l.done + k) zero_k ≡ get_or (product_of k_ops (drop (length l.left - l.done) l.left) l.right) k zero_k;
 }

@@ -10,7 +10,7 @@ loop-i-preserved c = record {
   done = c.push_reserved.ensures.items ∙ ap (λ (xs : List K). xs ++ c.add.result ∷ []) c.loop-i.invariant.done
       ∙ sum_step k_ops k_laws c.args.left.now c.args.right.now c.loop-i.i c.add.result (omega (arith, c.loop-i-test.true, c.max-size.ensures))
       (c.add.ensures ∙ ap₂ add_k c.coefficient.ensures c.coefficient-in-loop-i.ensures);
-  room = omega (arith, c.push_reserved.ensures.capacity, c.loop-i.invariant.room);
+  capacity = omega (arith, c.push_reserved.ensures.capacity, c.loop-i.invariant.capacity);
 }
 
 pub returns : goal.returns

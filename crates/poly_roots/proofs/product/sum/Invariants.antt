@@ -7,5 +7,5 @@ use Rattle.poly_roots.proofs.product.sum.Given as goal
 abbrev pub invariant-loop-i : goal.invariant-loop-i
 invariant-loop-i l = record {
   done : l.sums.items ≡ take l.i (sum_of k_ops l.left l.right);
-  room : l.size ≤ vec_capacity l.sums;
+  capacity : l.size ≤ vec_capacity l.sums;
 }

@@ -1,6 +1,6 @@
 use Rattle.std.proofs.Common.{◌+◌, [], ◌∷◌, length, length-append, sym, ◌∙◌, ap, subst, refl}
 use Rattle.proof_wire.specs.Trouble.{InRange, element_at}
-use Rattle.proof_two.specs.Trouble.{IsFrontTwo}
+use Rattle.proof_two.specs.Trouble.{BeginWithTwo}
 use Rattle.proof_two.proofs.Reading.{front_more}
 use Rattle.proof_two.proofs.decoding.read_elements.Goals as goal
 
@@ -12,5 +12,5 @@ loop-i-preserved c =
     let many = c.loop-i.invariant.0 in
     let grown = c.in_ok-push-in-Some.ensures.items in (
       ap length grown ∙ length-append read (element ∷ []) ∙ ap (λ n. n + 1) many,
-      subst (λ es. IsFrontTwo es bytes) (sym grown) (front_more read element bytes (subst (InRange bytes) (sym many) (c.in-Some.ensures.some.0 refl)) (c.in-Some.ensures.value ∙ ap (element_at bytes) (sym many)) c.loop-i.invariant.1),
+      subst (λ es. BeginWithTwo es bytes) (sym grown) (front_more read element bytes (subst (InRange bytes) (sym many) (c.in-Some.ensures.some.0 refl)) (c.in-Some.ensures.value ∙ ap (element_at bytes) (sym many)) c.loop-i.invariant.1),
     )

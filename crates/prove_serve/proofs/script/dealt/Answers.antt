@@ -19,7 +19,7 @@ pub give-requires : goal.give-requires
 give-requires g c = let at = c.loop-job in let i = at.invariant in
     let t = c.thread_of-thread.result in let low : t < length at.duties.items = let many = i.many in let some = c.thread_of-thread.ensures.within in search rules in
     let old : slice_get at.duties.items t ≡ Some c.index_mut.result.now = some_here at.duties.items t c.index_mut.result.now low ∙ ap (λ v. Some v) (sym c.index_mut.ensures.value) in
-    (i.duties t c.index_mut.result.now old).0.room
+    (i.duties t c.index_mut.result.now old).0.capacity
 
 pub loop-job-preserved : goal.loop-job-preserved
 loop-job-preserved g c = let at = c.loop-job in let i = at.invariant in let script = c.args.jobs.items in let x = c.in-Some.job in
@@ -32,7 +32,7 @@ loop-job-preserved g c = let at = c.loop-job in let i = at.invariant in let scri
       all = append_assoc at.yielded (x ∷ []) (into_iter_items c.next.new.self) ∙ ap (λ l. at.yielded ++ l) (sym steps) ∙ i.all;
       left = omega arith;
       many = search rules;
-      duties = duties_set script c.args.clients at.duties.items t c.index_mut.result.now c.give.new.duty x c.thread_of-thread.ensures.within old i.duties (first_of script x (into_iter_items c.next.new.self) jobs) more c.in_ok-give.ensures.room;
+      duties = duties_set script c.args.clients at.duties.items t c.index_mut.result.now c.give.new.duty x c.thread_of-thread.ensures.within old i.duties (first_of script x (into_iter_items c.next.new.self) jobs) more c.in_ok-give.ensures.capacity;
       jobs = rest_of script x (into_iter_items c.next.new.self) jobs;
       dealt = dealt_more c.args.clients t at.yielded at.duties.items c.index_mut.result.now c.give.new.duty x i.dealt (sym c.thread_of-thread.ensures.thread) old more;
     }

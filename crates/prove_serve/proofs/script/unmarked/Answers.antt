@@ -13,7 +13,7 @@ loop-client-preserved g c = let at = c.loop-client in let i = at.invariant in le
       all = append_assoc at.yielded (x ∷ []) (into_iter_items c.next.new.self) ∙ ap (λ l. at.yielded ++ l) (sym steps) ∙ i.all;
       left = omega arith;
       many = omega arith;
-      room = search rules;
+      capacity = search rules;
       done = c.push_reserved.ensures.items ∙ ap (λ (l : List (ℕ × g.row.C.Denot × Bool)). l ++ unmarked x ∷ []) i.done ∙ sym (map-append unmarked at.yielded (x ∷ []));
     }
 

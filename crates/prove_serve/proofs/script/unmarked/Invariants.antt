@@ -8,6 +8,6 @@ invariant-loop-client g l = record {
   all : l.yielded ++ into_iter_items l.client-iterator ≡ into_iter_items l.initial.client-iterator;
   left : into_iter_len l.client-iterator ≡ length (into_iter_items l.client-iterator);
   many : length l.all.items ≡ length l.yielded;
-  room : length (into_iter_items l.initial.client-iterator) ≤ vec_capacity l.all;
+  capacity : length (into_iter_items l.initial.client-iterator) ≤ vec_capacity l.all;
   done : l.all.items ≡ map unmarked l.yielded;
 }

@@ -14,7 +14,7 @@ loop-event-preserved g c = let at = c.loop-event in let i = at.invariant in let 
       all = append_assoc at.yielded (x ∷ []) (into_iter_items c.next.new.self) ∙ ap (λ l. at.yielded ++ l) (sym steps) ∙ i.all;
       left = omega arith;
       many = omega arith;
-      room = search rules;
+      capacity = search rules;
       done = c.push_reserved.ensures.items ∙ ap (λ (l : List Entry). l ++ c.entry.result ∷ []) i.done ∙ ap (λ (e : Entry). entries_of at.yielded ++ e ∷ []) c.entry.ensures ∙ sym (entries_snoc at.yielded x);
     }
 

@@ -8,6 +8,6 @@ invariant-loop-event g l = record {
   all : l.yielded ++ into_iter_items l.event-iterator ≡ into_iter_items l.initial.event-iterator;
   left : into_iter_len l.event-iterator ≡ length (into_iter_items l.event-iterator);
   many : length l.entries.items ≡ length l.yielded;
-  room : length (into_iter_items l.initial.event-iterator) ≤ vec_capacity l.entries;
+  capacity : length (into_iter_items l.initial.event-iterator) ≤ vec_capacity l.entries;
   done : l.entries.items ≡ entries_of l.yielded;
 }

@@ -1,5 +1,5 @@
 use Rattle.std.proofs.Common.{rules, ◌≡◌, ◌∙◌, length, map, ap, arith}
-use Rattle.prove_serve.specs.Told.{place_of}
+use Rattle.prove_serve.specs.Reported.{place_of}
 use Rattle.prove_serve.proofs.Histories.{history_fits, history_of}
 use Rattle.prove_serve.proofs.service.serve_history.Goals as goal
 
@@ -8,13 +8,13 @@ run-requires-clause-places g c κs within k job at = (c.in_ok-script.ensures.eac
 
 pub copy_entries-requires : goal.copy_entries-requires
 copy_entries-requires g c = let f = history_fits g.W.Answer.Fits.fits c.args.jobs.items c.in_ok-script.script.items c.in_ok-closed.closed.history.items c.in_ok-closed.closed.jobs.items c.in_ok-script.ensures c.in_ok-closed.ensures in
-    let room = c.in_ok-history.ensures.exact in record { room = (c.in_ok-history.ensures.len, let a = f.0 in omega arith) }
+    let capacity = c.in_ok-history.ensures.exact in record { capacity = (c.in_ok-history.ensures.len, let a = f.0 in omega arith) }
 
 pub copy_places-requires : goal.copy_places-requires
 copy_places-requires g c = let f = history_fits g.W.Answer.Fits.fits c.args.jobs.items c.in_ok-script.script.items c.in_ok-closed.closed.history.items c.in_ok-closed.closed.jobs.items c.in_ok-script.ensures c.in_ok-closed.ensures in
-    let room = c.in_ok-places.ensures.exact in record { room = (c.in_ok-places.ensures.len, let a = f.1 in let l = ap length c.deref.ensures.value in omega arith) }
+    let capacity = c.in_ok-places.ensures.exact in record { capacity = (c.in_ok-places.ensures.len, let a = f.1 in let l = ap length c.deref.ensures.value in omega arith) }
 
 pub returns : goal.returns
-returns g c = let many : length c.tell_all.new.outcomes.items ≡ length c.args.jobs.items = search rules in
+returns g c = let many : length c.report_all.new.outcomes.items ≡ length c.args.jobs.items = search rules in
     history_of g.W.Answer.Fits.fits c.args.jobs.items c.in_ok-script.script.items c.in_ok-closed.closed.history.items c.in_ok-closed.closed.jobs.items c.in_ok-script.ensures c.in_ok-closed.ensures
-    c.tell_all.new.outcomes.items c.copy_entries.new.entries.items c.copy_places.new.places.items c.tell_all.ensures.each many c.copy_entries.ensures (c.copy_places.ensures ∙ ap (λ l. map place_of l) c.deref.ensures.value)
+    c.report_all.new.outcomes.items c.copy_entries.new.entries.items c.copy_places.new.places.items c.report_all.ensures.each many c.copy_entries.ensures (c.copy_places.ensures ∙ ap (λ l. map place_of l) c.deref.ensures.value)

@@ -3,7 +3,7 @@ use Rattle.std.proofs.Common.{◌≡◌, ℕ, ◌+◌, ◌-◌, ◌*◌, ◌<◌
 use Rattle.std.specs.List.{slice_range}
 use Rattle.std.proofs.lemmas.List.Elements.{All-set}
 use Rattle.field_ext.specs.Field.{K}
-use Rattle.round_tables.specs.PartTables.{HasRoom, HasSize}
+use Rattle.round_tables.specs.PartTables.{HasCapacity, HasSize}
 use Rattle.round_tables.proofs.Halves.{written-more, sized-more, length-range, fits-more}
 use Rattle.round_tables.proofs.parts.fill_parts.Goals as goal
 
@@ -17,11 +17,11 @@ loop-i-preserved c =
     let lt : c.loop-i.i < length c.loop-i.parts = omega (arith, c.loop-i-test.true, c.loop-i.auto.parts) in
     let is = c.write.ensures in
     let width : i * n + n - i * n ≡ n = omega arith in
-    let room : n ≤ q.room = subst (λ (m : ℕ). n ≤ m) (sym (ap (λ q. q.room) is)) (before.rooms i c.index-parts-i.result lt) in
+    let capacity : n ≤ q.capacity = subst (λ (m : ℕ). n ≤ m) (sym (ap (λ q. q.capacity) is)) (before.capacities i c.index-parts-i.result lt) in
     let size : (t : List K) → (i + 1) * n ≤ length t → length (slice_range t (i * n) (i * n + n)) ≡ n = λ t u. length-range t (i * n) n (omega (arith, u)) in
     let fits : (t : List K) → length t ≡ length c.args.parts.now * n → (i + 1) * n ≤ length t = λ t e. fits-more i (length c.args.parts.now) n (length t) c.loop-i-test.true e in
     record {
-      rooms = All-set (HasRoom n) ps i q room before.rooms;
+      capacities = All-set (HasCapacity n) ps i q capacity before.capacities;
       sizes = sized-more (HasSize n) ps i q lt before.sizes record {
         table = ap (λ q. length q.table) is ∙ size c.args.table.now (fits c.args.table.now c.requires.table);
         scales = ap (λ q. length q.scales) is ∙ size c.args.scales.now (fits c.args.scales.now c.requires.scales);

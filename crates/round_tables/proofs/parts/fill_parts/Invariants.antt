@@ -1,11 +1,11 @@
 -- The parts passed have their values
 use Rattle.std.proofs.Common.{◌≡◌, ◌*◌, take, All}
-use Rattle.round_tables.specs.PartTables.{HasRoom, HasSize, flat_table, flat_scales, flat_shifts}
+use Rattle.round_tables.specs.PartTables.{HasCapacity, HasSize, flat_table, flat_scales, flat_shifts}
 use Rattle.round_tables.proofs.parts.fill_parts.Given as goal
 
 abbrev pub invariant-loop-i : goal.invariant-loop-i
 invariant-loop-i l = record {
-  rooms : All (HasRoom l.size) l.parts;
+  capacities : All (HasCapacity l.size) l.parts;
   sizes : All (HasSize l.size) (take l.i l.parts);
   table : flat_table (take l.i l.parts) ≡ take (l.i * l.size) l.table;
   scales : flat_scales (take l.i l.parts) ≡ take (l.i * l.size) l.scales;

@@ -8,7 +8,7 @@ use Rattle.run_wiring.proofs.digit_sum.add_column.Goals as goal
 
 pub loop-i-init : goal.loop-i-init
 loop-i-init g c = record {
-  size = omega (arith, c.requires.room, c.clear.auto.table);
+  size = omega (arith, c.requires.capacity, c.clear.auto.table);
   sums = λ of. nothing_weighed c.clear.new.table c.clear.ensures of;
   steps = omega arith;
 }

@@ -5,6 +5,6 @@ use Rattle.script_prove.proofs.history.client_numbers.Given as goal
 abbrev pub invariant-loop-job : goal.invariant-loop-job
 invariant-loop-job l = record {
   many : vec_len l.clients ≡ l.job-index;
-  room : length l.script ≤ vec_capacity l.clients;
+  capacity : length l.script ≤ vec_capacity l.clients;
   done : l.clients.items ≡ map (λ (job : MarkedJob). job.client) (take l.job-index l.script);
 }

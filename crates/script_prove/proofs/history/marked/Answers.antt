@@ -15,7 +15,7 @@ loop-job-preserved c = let at = c.loop-job in let i = at.invariant in let x : Ma
       all = append_assoc at.yielded (x ∷ []) (into_iter_items c.next.new.self) ∙ ap (λ l. at.yielded ++ l) (sym steps) ∙ i.all;
       left = omega arith;
       many = omega arith;
-      room = search rules;
+      capacity = search rules;
       done = c.push_reserved.ensures.items ∙ ap (λ (l : List (ℕ × ScriptJob × Bool)). l ++ marked_job x ∷ []) i.done ∙ sym (map-append marked_job at.yielded (x ∷ []));
     }
 

@@ -5,7 +5,7 @@ use Rattle.prove_serve.specs.History.{IsHistoryOf}
 use Rattle.script_prove.specs.declared.prover.JobReply.{JobReply}
 use Rattle.script_text.specs.declared.script.MarkedJob.{MarkedJob}
 use Rattle.script_text.specs.declared.script.ScriptJob.{ScriptJob}
-use Rattle.script_prove.specs.Served.{AreToldTo, IsServed, IsServedHistory, marked_job}
+use Rattle.script_prove.specs.Served.{AreReportedTo, IsServed, IsServedHistory, marked_job}
 use Rattle.script_prove.proofs.history.serve_script_history.Goals as goal
 
 pub replies-requires : goal.replies-requires
@@ -19,7 +19,7 @@ returns g c =
     let history : IsHistoryOf (λ (reply : JobReply) (job : ScriptJob). IsServed job reply.job) (map marked_job script) run.outcomes.items run.history.items run.places.items =
     subst (λ (jobs : List (ℕ × ScriptJob × Bool)). IsHistoryOf (λ (reply : JobReply) (job : ScriptJob). IsServed job reply.job) jobs run.outcomes.items run.history.items run.places.items) c.in_ok-jobs.ensures c.in_ok-run.ensures in
     let clients = c.deref-4.ensures.value ∙ c.in_ok-clients.ensures ∙ ap (λ (l : List MarkedJob). map (λ (job : MarkedJob). job.client) l) c.deref.ensures.value in
-    let replies = subst (λ (l : List ℕ). AreToldTo l run.outcomes.items c.in_ok-served.served.items) clients c.in_ok-served.ensures in
+    let replies = subst (λ (l : List ℕ). AreReportedTo l run.outcomes.items c.in_ok-served.served.items) clients c.in_ok-served.ensures in
     subst (λ (h : History). IsServedHistory script h.jobs h.lines) (sym c.new.ensures) (record {
       outcomes = run.outcomes.items;
       entries = run.history.items;

@@ -14,7 +14,7 @@ loop-job-preserved c = let at = c.loop-job in let i = at.invariant in let x : Sc
       all = append_assoc at.yielded (x ∷ []) (into_iter_items c.next.new.self) ∙ ap (λ l. at.yielded ++ l) (sym steps) ∙ i.all;
       left = omega arith;
       many = omega arith;
-      room = search rules;
+      capacity = search rules;
       done = c.push_reserved.ensures.items ∙ ap (λ (l : List (ℕ × ScriptJob)). l ++ numbered_job x ∷ []) i.done ∙ sym (map-append numbered_job at.yielded (x ∷ []));
     }
 

@@ -8,6 +8,6 @@ invariant-loop-job l = record {
   all : l.yielded ++ into_iter_items l.job-iterator ≡ into_iter_items l.initial.job-iterator;
   left : into_iter_len l.job-iterator ≡ length (into_iter_items l.job-iterator);
   many : length l.jobs.items ≡ length l.yielded;
-  room : length (into_iter_items l.initial.job-iterator) ≤ vec_capacity l.jobs;
+  capacity : length (into_iter_items l.initial.job-iterator) ≤ vec_capacity l.jobs;
   done : l.jobs.items ≡ map numbered_job l.yielded;
 }

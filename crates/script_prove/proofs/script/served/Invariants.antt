@@ -8,6 +8,6 @@ invariant-loop-outcome l = record {
   all : l.yielded ++ into_iter_items l.outcome-iterator ≡ into_iter_items l.initial.outcome-iterator;
   left : into_iter_len l.outcome-iterator ≡ length (into_iter_items l.outcome-iterator);
   many : length l.served.items ≡ length l.yielded;
-  room : length (into_iter_items l.initial.outcome-iterator) ≤ vec_capacity l.served;
+  capacity : length (into_iter_items l.initial.outcome-iterator) ≤ vec_capacity l.served;
   done : l.yielded ≡ map answer_of l.served.items;
 }

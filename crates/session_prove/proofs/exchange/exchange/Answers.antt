@@ -1,7 +1,7 @@
 -- Each end takes what the other has sent, and at the end both have all.
 use Rattle.std.proofs.Common.{◌≡◌, ◌≤◌, ◌+◌, ◌-◌, ℕ, min, List, length, true, false, sym, ◌∙◌, ap, arith}
 use Rattle.gkr_layers.specs.Layers.{challenges_of}
-use Rattle.live_session.specs.Proving.{told_of}
+use Rattle.live_session.specs.Proving.{verdict_known}
 use Rattle.session_prove.proofs.Ends.{ends}
 use Rattle.session_prove.proofs.Standings.{all_over, come_begun, left_falls, prover_faultless, prover_took, prover_turn, replied, tells, verifier_few, verifier_took, verifier_turn, verifier_waits}
 use Rattle.session_prove.proofs.exchange.exchange.Goals as goal
@@ -48,7 +48,7 @@ loop-alloc-preserved g c =
 pub loop-alloc-smaller : goal.loop-alloc-smaller
 loop-alloc-smaller g c =
     let turn = prover_turn c.args.circuit.now c.args.verifier c.args.prover c.requires.circuit c.requires.begun c.loop-alloc.verifier c.loop-alloc.prover c.in_ok-prover.prover c.loop-alloc.to_prover c.loop-alloc.to_verifier c.args.piece c.min-count.result c.sent-sent.result.now c.sent-sent-in-loop-alloc.result.now c.loop-alloc.invariant c.sent-sent.ensures c.min-count.ensures c.in_ok-prover.ensures c.sent-sent-in-loop-alloc.ensures in
-    let waits = tells (told_of (challenges_of c.loop-alloc.prover.parts) c.loop-alloc.prover.bytes) c.verdict.result c.is_none.result true c.verdict.ensures c.is_none.ensures c.loop-alloc-test.true in
+    let waits = tells (verdict_known (challenges_of c.loop-alloc.prover.parts) c.loop-alloc.prover.bytes) c.verdict.result c.is_none.result true c.verdict.ensures c.is_none.ensures c.loop-alloc-test.true in
     let replies = c.sent-sent.ensures ∙ replied c.args.circuit.now c.args.verifier c.args.prover c.requires.circuit c.requires.begun c.loop-alloc.verifier c.loop-alloc.prover c.loop-alloc.to_prover c.loop-alloc.to_verifier c.loop-alloc.invariant in
     left_falls c.args.circuit.now c.args.verifier c.args.prover c.requires.circuit c.requires.begun c.loop-alloc.verifier c.loop-alloc.prover c.loop-alloc.to_prover c.loop-alloc.to_verifier c.loop-alloc.invariant c.args.piece c.min-count.result c.min-count-in-loop-alloc.result c.requires.piece waits
     (c.min-count.ensures ∙ ap (λ (xs : List ℕ). min c.args.piece (length xs - c.loop-alloc.to_prover)) replies)
@@ -59,7 +59,7 @@ returns-clause-ended g c = ends c.args.circuit.now c.args.verifier c.requires.ci
 
 pub returns-clause-sizes : goal.returns-clause-sizes
 returns-clause-sizes g c =
-    let ended = tells (told_of (challenges_of c.loop-alloc.prover.parts) c.loop-alloc.prover.bytes) c.verdict.result c.is_none.result false c.verdict.ensures c.is_none.ensures c.loop-alloc-test.false in
+    let ended = tells (verdict_known (challenges_of c.loop-alloc.prover.parts) c.loop-alloc.prover.bytes) c.verdict.result c.is_none.result false c.verdict.ensures c.is_none.ensures c.loop-alloc-test.false in
     let over = all_over c.args.circuit.now c.args.verifier c.args.prover c.requires.circuit c.requires.begun c.loop-alloc.verifier c.loop-alloc.prover c.loop-alloc.to_prover c.loop-alloc.to_verifier c.loop-alloc.invariant ended in
     let challenges = c.challenge_count.ensures ∙ sym (c.requires.begun.words ∙ ap challenges_of c.requires.circuit) in
     λ i. record { challenges = challenges i; to_prover = over.0 i; to_verifier = over.1 i }

@@ -17,7 +17,7 @@ exchange-requires-clause-begun g c κs within =
     c.in_ok-verifier.ensures c.inputs-2.ensures.inputs c.deref.ensures.value c.deref-2.ensures.value c.in_ok-challenges.ensures in
     have_begun c.args.circuit.now.parts c.args.case.now.inputs c.in_ok-outputs.outputs.items c.args.words.now c.in_ok-values.values c.in_ok-verifier.verifier c.in_ok-prover.prover on c.in_ok-prover.ensures
     (subst (λ (inputs : List F). AreTables c.args.circuit.now.parts inputs c.in_ok-values.values) c.inputs.ensures.inputs c.in_ok-values.ensures)
-    c.in_ok-outputs.ensures.as_many c.in_ok-outputs.ensures.stand (challenges-count c.args.words.now (challenges_of c.args.circuit.now.parts) c.requires.paired)
+    c.in_ok-outputs.ensures.as_many c.in_ok-outputs.ensures.outputs (challenges-count c.args.words.now (challenges_of c.args.circuit.now.parts) c.requires.paired)
 
 pub returns : goal.returns
 returns g c =

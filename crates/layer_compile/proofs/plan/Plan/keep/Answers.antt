@@ -1,6 +1,6 @@
 -- Each node of the row below is the next one that is there
 use Rattle.std.proofs.Common.{◌≤◌, ◌<◌, ◌+◌, get_or, subst, arith}
-use Rattle.layer_compile.specs.Rows.{stands, IsMerged}
+use Rattle.layer_compile.specs.Rows.{is_at, IsMerged}
 use Rattle.layer_compile.proofs.PlacesOf.{few_below}
 use Rattle.layer_compile.proofs.Merging.{at_hand, level_low, merged_gap, merged_old, next_below, none_below}
 use Rattle.layer_compile.proofs.plan.Plan.keep.Goals as goal
@@ -72,10 +72,10 @@ pub overflow_add-i : goal.overflow_add-i
 overflow_add-i c =
     let list = c.args.self.now.list.now in
     let h = c.args.height in
-    omega (arith, (at_hand list h c.loop-i.from c.loop-i.i c.loop-i.above.nodes.items c.args.below.now (omega (arith, c.requires.under)) (omega (arith, c.loop-i.invariant.before, c.requires.new.within)) c.loop-i.invariant.merged c.requires.below c.loop-i-test.true).1, few_below (stands list h) (get_or c.args.below.now c.loop-i.i 0), c.if-k-to.false, c.ranges.to.fits)
+    omega (arith, (at_hand list h c.loop-i.from c.loop-i.i c.loop-i.above.nodes.items c.args.below.now (omega (arith, c.requires.under)) (omega (arith, c.loop-i.invariant.before, c.requires.new.within)) c.loop-i.invariant.merged c.requires.below c.loop-i-test.true).1, few_below (is_at list h) (get_or c.args.below.now c.loop-i.i 0), c.if-k-to.false, c.ranges.to.fits)
 
 pub overflow_cast-i : goal.overflow_cast-i
 overflow_cast-i c =
     let list = c.args.self.now.list.now in
     let h = c.args.height in
-    omega (arith, (at_hand list h c.loop-i.from c.loop-i.i c.loop-i.above.nodes.items c.args.below.now (omega (arith, c.requires.under)) (omega (arith, c.loop-i.invariant.before, c.requires.new.within)) c.loop-i.invariant.merged c.requires.below c.loop-i-test.true).1, few_below (stands list h) (get_or c.args.below.now c.loop-i.i 0), c.if-k-to.false, c.ranges.to.fits)
+    omega (arith, (at_hand list h c.loop-i.from c.loop-i.i c.loop-i.above.nodes.items c.args.below.now (omega (arith, c.requires.under)) (omega (arith, c.loop-i.invariant.before, c.requires.new.within)) c.loop-i.invariant.merged c.requires.below c.loop-i-test.true).1, few_below (is_at list h) (get_or c.args.below.now c.loop-i.i 0), c.if-k-to.false, c.ranges.to.fits)

@@ -1,7 +1,7 @@
 -- Each node of the next level is taken with those of the row below up to the next one
 use Rattle.std.proofs.Common.{◌<◌, ◌+◌, ◌∙◌, suc, ap, length, eqb-true, arith}
 use Rattle.layer_compile.specs.Levels.{level}
-use Rattle.layer_compile.specs.Rows.{stands}
+use Rattle.layer_compile.specs.Rows.{is_at}
 use Rattle.layer_compile.proofs.LevelsOf.{height_small}
 use Rattle.layer_compile.proofs.Merging.{merged_new}
 use Rattle.layer_compile.proofs.PlacesOf.{few_below}
@@ -25,7 +25,7 @@ pub begun-requires : goal.begun-requires
 begun-requires c =
     let list = c.args.self.now.list.now in
     let h = c.args.height in
-    omega (arith, c.nodes-many.ensures.fine.few_nodes, ap length (c.requires.below ∙ row_below list h (omega (arith, c.requires.under))), few_below (stands list h) (length list.nodes))
+    omega (arith, c.nodes-many.ensures.fine.few_nodes, ap length (c.requires.below ∙ row_below list h (omega (arith, c.requires.under))), few_below (is_at list h) (length list.nodes))
 
 pub add_new-requires-clause-own : goal.add_new-requires-clause-own
 add_new-requires-clause-own c =

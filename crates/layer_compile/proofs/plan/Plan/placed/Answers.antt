@@ -12,7 +12,7 @@ bounds-places-gate c =
     let gate = c.in-Operation.gate in
     let is = operation_read list c.nodes.result.now k c.index-nodes-k.result gate c.nodes.ensures.value c.requires.node.within c.index-nodes-k.is c.in-Operation.is in
     let below = operands_stand list c.nodes.ensures.fine c.args.height k gate c.requires.node c.requires.own is in
-    omega (arith, below.0.0, c.requires.room)
+    omega (arith, below.0.0, c.requires.capacity)
 
 pub bounds-places-gate-in-Operation : goal.bounds-places-gate-in-Operation
 bounds-places-gate-in-Operation c =
@@ -21,7 +21,7 @@ bounds-places-gate-in-Operation c =
     let gate = c.in-Operation.gate in
     let is = operation_read list c.nodes.result.now k c.index-nodes-k.result gate c.nodes.ensures.value c.requires.node.within c.index-nodes-k.is c.in-Operation.is in
     let below = operands_stand list c.nodes.ensures.fine c.args.height k gate c.requires.node c.requires.own is in
-    omega (arith, below.1.0, c.requires.room)
+    omega (arith, below.1.0, c.requires.capacity)
 
 pub returns-in-Operation : goal.returns-in-Operation
 returns-in-Operation c =

@@ -2,7 +2,7 @@
 use Rattle.std.proofs.Common.{◌++◌, ◌∷◌, [], ap, sym, ◌∙◌, eq-eqb, arith}
 use Rattle.std.proofs.lemmas.Bool.{ne_eqb}
 use Rattle.layer_compile.specs.Levels.{level}
-use Rattle.layer_compile.specs.Rows.{stands}
+use Rattle.layer_compile.specs.Rows.{is_at}
 use Rattle.layer_compile.proofs.Places.{filter_range_yes, filter_range_no}
 use Rattle.layer_compile.proofs.plan.Plan.row_of_leaves.Goals as goal
 use Rattle.layer_compile.proofs.plan.Plan.row_of_leaves.Goals.{then-level-eq0+in_ok-push, else-level-eq0}
@@ -11,7 +11,7 @@ pub loop-k-preserved : goal.loop-k-preserved
 loop-k-preserved c =
     let list = c.args.self.now.list.now in
     let k = c.loop-k.k in
-    let p = stands list 0 in
+    let p = is_at list 0 in
     elim c.if-level-eq0.branch [
       | then-level-eq0+in_ok-push w ↦
           rw w.row-is (w.in_ok-push.ensures.items ∙ ap (λ row. row ++ k ∷ []) c.loop-k.invariant ∙ sym (filter_range_yes p k (eq-eqb (level list k) 0 (omega (arith, w.if-level-eq0.true, c.level.ensures)))))

@@ -28,8 +28,8 @@ returns c =
     c.split_at.ensures.front ∙ ap (λ (n : ℕ). take n more) (omega (arith, c.min.ensures, c.len.ensures, a.bytes.ok.0)) in
     (λ i. record {
       most = (ap length (with_items_is a.elements c.read_elements-self-inside.new.elements same) ∙ same ∙ a.elements.ok.0) i;
-      room = (ap length (with_items_is a.bytes c.put.new.bytes size) ∙ size ∙ a.bytes.ok.0) i;
+      capacity = (ap length (with_items_is a.bytes c.put.new.bytes size) ∙ size ∙ a.bytes.ok.0) i;
       bytes = (ap (take m) (with_items_is a.bytes c.put.new.bytes size) ∙ c.put.ensures ∙ ap (λ (xs : List ℕ). take a.count xs ++ c.split_at.result.0.now) c.deref_mut.ensures.value
           ∙ ap (λ (xs : List ℕ). take a.count a.bytes.items ++ xs) kept ∙ kept_more (take a.count a.bytes.items) more a.count (length a.bytes.items) c.self.invariant.kept before) i;
     })
-    ∙ ap (λ (f : Fed). record { most = f.most; room = f.room; bytes = take f.room (f.bytes ++ more) }) c.self.view_is
+    ∙ ap (λ (f : Fed). record { most = f.most; capacity = f.capacity; bytes = take f.capacity (f.bytes ++ more) }) c.self.view_is

@@ -13,4 +13,4 @@ returns c =
     let a = c.self.inside in
     let p = c.self.inside.circuit.now.parts in
     subst (λ (s : Proving). (inputs : List F) → AreTables s.parts inputs s.values → c.deref.result.now ≡ prover_sent s.parts inputs (words_in s)) c.self.view_is
-    (λ inputs tables. c.deref.ensures.value ∙ sent_stage p inputs (leading (challenges_of p) a.intake.bytes) a.course.layer a.course.base a.course.sent.items a.course.stage (c.self.invariant.stands inputs tables))
+    (λ inputs tables. c.deref.ensures.value ∙ sent_stage p inputs (leading (challenges_of p) a.intake.bytes) a.course.layer a.course.base a.course.sent.items a.course.stage (c.self.invariant.at_stage inputs tables))

@@ -15,7 +15,7 @@ invariant_of-result c =
       inputs = c.requires.0;
       tables = c.requires.1;
       most = ap (λ (f : Fed). f.most) c.in_ok-intake.ensures ∙ c.challenge_count.ensures;
-      room = ap (λ (f : Fed). f.room) c.in_ok-intake.ensures ∙ ap (λ (n : ℕ). 8 * n + 2) c.challenge_count.ensures;
+      capacity = ap (λ (f : Fed). f.capacity) c.in_ok-intake.ensures ∙ ap (λ (n : ℕ). 8 * n + 2) c.challenge_count.ensures;
       faultless = start.0;
-      stands = λ inputs tables. record { few = start.1; nothing = c.new-2.ensures.items };
+      at_stage = λ inputs tables. record { few = start.1; nothing = c.new-2.ensures.items };
     }

@@ -12,7 +12,7 @@ use Rattle.live_session.specs.Ending.{EndsWith}
 use Rattle.live_session.specs.Intake.{Fed}
 use Rattle.live_session.specs.Layout.{messages_in}
 use Rattle.live_session.specs.Verifying.{Session, element_count, elements_in, joined, kept, lower, progress_in, spelled}
-use Rattle.live_session.specs.VerifierState.{IsKept, room_of}
+use Rattle.live_session.specs.VerifierState.{IsKept, intake_of}
 use Rattle.live_session.specs.declared.progress.Progress.TheVariants.{Ended}
 use Rattle.live_session.proofs.ElementSteps.{leading-most}
 use Rattle.live_session.proofs.VerifierSteps.{kept_on, progress_kept, sound_session}
@@ -20,7 +20,7 @@ use Rattle.live_session.proofs.verifier.LiveVerifier.feed.Goals as goal
 
 pub conclude-self-inside-requires-clause-elements : goal.conclude-self-inside-requires-clause-elements
 conclude-self-inside-requires-clause-elements c =
-    let most : c.feed.new.self.most ≡ element_count c.self.inside.circuit.now.parts = ap (λ (f : Fed). f.most) (c.feed.ensures ∙ ap (λ (f : Fed). record { most = f.most; room = f.room; bytes = take f.room (f.bytes ++ c.args.bytes.now) }) c.self.invariant.taken) in
+    let most : c.feed.new.self.most ≡ element_count c.self.inside.circuit.now.parts = ap (λ (f : Fed). f.most) (c.feed.ensures ∙ ap (λ (f : Fed). record { most = f.most; capacity = f.capacity; bytes = take f.capacity (f.bytes ++ c.args.bytes.now) }) c.self.invariant.taken) in
     omega (arith, ap length c.elements.ensures, leading-most c.feed.new.self.most c.feed.new.self.bytes, most)
 
 pub invariant_of-self : goal.invariant_of-self
@@ -29,9 +29,9 @@ invariant_of-self c =
     let p = c.self.inside.circuit.now.parts in
     let more : List ℕ = c.args.bytes.now in
     let s : Session = record { parts = p; inputs = a.inputs.now; outputs = a.outputs.now; words = a.words.now; bytes = a.intake.bytes } in
-    let before : IsKept s (room_of p c.self.inside.intake.bytes) a.ending a.reply.items a.verdict = subst (λ (f : Fed). IsKept s f a.ending a.reply.items a.verdict) c.self.invariant.taken c.self.invariant in
-    let fed : c.feed.new.self ≡ room_of p (take (8 * element_count p + 1) (a.intake.bytes ++ more)) =
-    c.feed.ensures ∙ ap (λ (f : Fed). record { most = f.most; room = f.room; bytes = take f.room (f.bytes ++ more) }) c.self.invariant.taken in
+    let before : IsKept s (intake_of p c.self.inside.intake.bytes) a.ending a.reply.items a.verdict = subst (λ (f : Fed). IsKept s f a.ending a.reply.items a.verdict) c.self.invariant.taken c.self.invariant in
+    let fed : c.feed.new.self ≡ intake_of p (take (8 * element_count p + 1) (a.intake.bytes ++ more)) =
+    c.feed.ensures ∙ ap (λ (f : Fed). record { most = f.most; capacity = f.capacity; bytes = take f.capacity (f.bytes ++ more) }) c.self.invariant.taken in
     let es : c.elements.result.now ≡ elements_in (kept (joined s more)) = c.elements.ensures ∙ ap (λ (f : Fed). leading f.most f.bytes) fed in
     let done = c.conclude-self-inside.ensures in
     let value : c.deref_mut.result.now ≡ c.self.inside.reply.items = c.deref_mut.ensures.value in
@@ -51,8 +51,8 @@ returns-clause-progress c =
     let p = c.self.inside.circuit.now.parts in
     let more : List ℕ = c.args.bytes.now in
     let s : Session = record { parts = p; inputs = a.inputs.now; outputs = a.outputs.now; words = a.words.now; bytes = a.intake.bytes } in
-    let fed : c.feed.new.self ≡ room_of p (take (8 * element_count p + 1) (a.intake.bytes ++ more)) =
-    c.feed.ensures ∙ ap (λ (f : Fed). record { most = f.most; room = f.room; bytes = take f.room (f.bytes ++ more) }) c.self.invariant.taken in
+    let fed : c.feed.new.self ≡ intake_of p (take (8 * element_count p + 1) (a.intake.bytes ++ more)) =
+    c.feed.ensures ∙ ap (λ (f : Fed). record { most = f.most; capacity = f.capacity; bytes = take f.capacity (f.bytes ++ more) }) c.self.invariant.taken in
     c.progress.ensures
     ∙ ap (λ (f : Fed). progress_in (record { parts = p; inputs = a.inputs.now; outputs = a.outputs.now; words = a.words.now; bytes = f.bytes })) fed
     ∙ progress_kept (joined s more)
@@ -64,8 +64,8 @@ returns-clause-sound c =
     let p = c.self.inside.circuit.now.parts in
     let more : List ℕ = c.args.bytes.now in
     let s : Session = record { parts = p; inputs = a.inputs.now; outputs = a.outputs.now; words = a.words.now; bytes = a.intake.bytes } in
-    let fed : c.feed.new.self ≡ room_of p (take (8 * element_count p + 1) (a.intake.bytes ++ more)) =
-    c.feed.ensures ∙ ap (λ (f : Fed). record { most = f.most; room = f.room; bytes = take f.room (f.bytes ++ more) }) c.self.invariant.taken in
+    let fed : c.feed.new.self ≡ intake_of p (take (8 * element_count p + 1) (a.intake.bytes ++ more)) =
+    c.feed.ensures ∙ ap (λ (f : Fed). record { most = f.most; capacity = f.capacity; bytes = take f.capacity (f.bytes ++ more) }) c.self.invariant.taken in
     let is : c.progress.result ≡ progress_in (joined s more) =
     c.progress.ensures
     ∙ ap (λ (f : Fed). progress_in (record { parts = p; inputs = a.inputs.now; outputs = a.outputs.now; words = a.words.now; bytes = f.bytes })) fed

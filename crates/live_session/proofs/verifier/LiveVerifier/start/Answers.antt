@@ -14,7 +14,7 @@ invariant_of-result c =
       inputs = c.requires.inputs;
       outputs = c.requires.outputs;
       words = c.requires.words;
-      taken = c.in_ok-intake.ensures ∙ (λ i. record { most = c.elements_due.ensures.value i; room = 8 * c.elements_due.ensures.value i + 1; bytes = sym none i });
+      taken = c.in_ok-intake.ensures ∙ (λ i. record { most = c.elements_due.ensures.value i; capacity = 8 * c.elements_due.ensures.value i + 1; bytes = sym none i });
       ready = c.in_ok-ending.ensures.ready;
       unused = λ e. c.in_ok-ending.ensures.challenges;
       reply_length = c.in_ok-reply.ensures.size ∙ ap (λ (n : ℕ). 8 * n + 1) c.requires.words;

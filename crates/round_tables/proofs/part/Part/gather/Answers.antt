@@ -18,7 +18,7 @@ loop-part-preserved c =
     let shifts : c.append.new.self.shifts ≡ old.shifts ++ p.shifts = ap (λ q. q.shifts) is in
     let here = subst (HasSize 1) (sym c.part-item.is) one in
     record {
-      room = ap (λ q. q.room) is ∙ before.room;
+      capacity = ap (λ q. q.capacity) is ∙ before.capacity;
       table = flat-more (λ q. q.table) ps i p old.table c.append.new.self.table c.loop-part-test.true c.part-item.is before.table table;
       scales = flat-more (λ q. q.scales) ps i p old.scales c.append.new.self.scales c.loop-part-test.true c.part-item.is before.scales scales;
       shifts = flat-more (λ q. q.shifts) ps i p old.shifts c.append.new.self.shifts c.loop-part-test.true c.part-item.is before.shifts shifts;

@@ -5,7 +5,7 @@ use Rattle.round_tables.proofs.part.Part.gather.Given as goal
 
 abbrev pub invariant-loop-part : goal.invariant-loop-part
 invariant-loop-part l = record {
-  room : l.self.room ≡ l.fn.self.room;
+  capacity : l.self.capacity ≡ l.fn.self.capacity;
   table : l.self.table ≡ flat_table (take l.part-index l.parts);
   scales : l.self.scales ≡ flat_scales (take l.part-index l.parts);
   shifts : l.self.shifts ≡ flat_shifts (take l.part-index l.parts);

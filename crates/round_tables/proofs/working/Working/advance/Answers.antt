@@ -2,12 +2,12 @@
 use Rattle.std.proofs.Common.{◌≡◌, ◌≢◌, ℕ, ◌+◌, ◌-◌, ◌^◌, ◌<◌, [], ◌++◌, length, take, drop, get_or, refl, sym, ◌∙◌, ap, arith, subst, All}
 use Rattle.std.proofs.lemmas.List.{length-map}
 use Rattle.round_tables.specs.LayerSum.{left_in_phase}
-use Rattle.round_tables.specs.PartTables.{PartTables, HasSize, HasRoom, folded_part, cuts, flat_table, flat_scales, flat_shifts, AreLaidOut}
-use Rattle.round_tables.specs.Working.{parts_of, HasRooms}
+use Rattle.round_tables.specs.PartTables.{PartTables, HasSize, HasCapacity, folded_part, cuts, flat_table, flat_scales, flat_shifts, AreLaidOut}
+use Rattle.round_tables.specs.Working.{parts_of, HasCapacities}
 use Rattle.round_tables.proofs.PhaseSteps.{some_left}
 use Rattle.wiring_poly.proofs.Identity.{written_back}
 use Rattle.round_tables.proofs.LaidOut.{half, sizes-folded, flat-folded, laid-folded, laid-merged}
-use Rattle.round_tables.proofs.Advances.{is-true, in-many-parts, spread-many, rooms-folded, noted}
+use Rattle.round_tables.proofs.Advances.{is-true, in-many-parts, spread-many, capacities-folded, noted}
 use Rattle.round_tables.proofs.working.Working.advance.Goals as goal
 
 pub merge_parts-requires-clause-sizes : goal.merge_parts-requires-clause-sizes
@@ -22,13 +22,13 @@ merge_parts-requires-clause-sizes c =
     let ps = parts_of old in
     let some : 0 < m = omega (arith, some_left k old.count old.count refl c.requires.left) in
     let h : ℕ = half k m ps some laid in
-    let rooms : HasRooms k self = rooms-folded k old self r works.rooms c.requires.folded in
+    let capacities : HasCapacities k self = capacities-folded k old self r works.capacities c.requires.folded in
     let sizes : All (HasSize h) (parts_of self) = subst (All (HasSize h)) (sym c.requires.folded.parts) (sizes-folded k m ps some laid r) in
     let many : length (parts_of self) ≡ length ps = ap length c.requires.folded.parts ∙ length-map ps (folded_part r) in
-    let none : PartTables = record { table = []; scales = []; shifts = []; room = 0 } in
+    let none : PartTables = record { table = []; scales = []; shifts = []; capacity = 0 } in
     let first : 0 < length (parts_of self) → length (get_or (parts_of self) 0 none).table ≡ h = λ u. (sizes 0 none u).table in
     let thin = c.is_thin.ensures.thin (is-true c.is_thin.result c.if-is_thin.true) in
-    let own = in-many-parts self (spread-many k self rooms thin.0) in
+    let own = in-many-parts self (spread-many k self capacities thin.0) in
     let one : h ≡ 1 = sym (first (let more = thin.0 in omega arith)) ∙ thin.1 none in
     subst (All (HasSize 1)) (own ∙ sym c.deref.ensures.value) (subst (λ (n : ℕ). All (HasSize n) (parts_of self)) one sizes)
 
@@ -44,33 +44,33 @@ returns-then-is_thin c =
     let ps = parts_of old in
     let some : 0 < m = omega (arith, some_left k old.count old.count refl c.requires.left) in
     let h : ℕ = half k m ps some laid in
-    let rooms : HasRooms k self = rooms-folded k old self r works.rooms c.requires.folded in
+    let capacities : HasCapacities k self = capacities-folded k old self r works.capacities c.requires.folded in
     let sizes : All (HasSize h) (parts_of self) = subst (All (HasSize h)) (sym c.requires.folded.parts) (sizes-folded k m ps some laid r) in
     let many : length (parts_of self) ≡ length ps = ap length c.requires.folded.parts ∙ length-map ps (folded_part r) in
-    let none : PartTables = record { table = []; scales = []; shifts = []; room = 0 } in
+    let none : PartTables = record { table = []; scales = []; shifts = []; capacity = 0 } in
     let first : 0 < length (parts_of self) → length (get_or (parts_of self) 0 none).table ≡ h = λ u. (sizes 0 none u).table in
     let thin = c.is_thin.ensures.thin (is-true c.is_thin.result c.if-is_thin.true) in
-    let own = in-many-parts self (spread-many k self rooms thin.0) in
+    let own = in-many-parts self (spread-many k self capacities thin.0) in
     let one : h ≡ 1 = sym (first (let more = thin.0 in omega arith)) ∙ thin.1 none in
     let merged = c.merge_parts.ensures in
-    let back : take self.one.len (c.merge_parts.new.one ++ drop (length c.merge_parts.new.one) self.one.items) ≡ c.merge_parts.new.one = written_back self.one.items c.merge_parts.new.one self.one.len (omega (arith, merged.some, rooms.one, self.one.ok.0)) in
+    let back : take self.one.len (c.merge_parts.new.one ++ drop (length c.merge_parts.new.one) self.one.items) ≡ c.merge_parts.new.one = written_back self.one.items c.merge_parts.new.one self.one.len (omega (arith, merged.some, capacities.one, self.one.ok.0)) in
     let whole : c.deref.result.now ≡ parts_of self = c.deref.ensures.value ∙ sym own in
     let number : length c.deref.result.now ≡ length ps = ap length whole ∙ many in
     let more : 1 < length ps = omega (arith, thin.0, many) in
-    let all : length c.deref.result.now ≡ 2 ^ cuts k = ap length c.deref.ensures.value ∙ rooms.many in
+    let all : length c.deref.result.now ≡ 2 ^ cuts k = ap length c.deref.ensures.value ∙ capacities.many in
     record {
       advanced = record {
-        rooms = record {
-          challenges = rooms.challenges;
-          left_equality = rooms.left_equality;
-          scales = rooms.scales;
-          shifts = rooms.shifts;
-          many = rooms.many;
-          many_room = rooms.many_room;
+        capacities = record {
+          challenges = capacities.challenges;
+          left_equality = capacities.left_equality;
+          scales = capacities.scales;
+          shifts = capacities.shifts;
+          many = capacities.many;
+          many_capacity = capacities.many_capacity;
           one = ap length back ∙ merged.some;
-          one_room = subst (All (HasRoom (2 ^ cuts k))) (sym back) (subst (λ (n : ℕ). All (HasRoom n) c.merge_parts.new.one) all merged.rooms);
+          one_capacity = subst (All (HasCapacity (2 ^ cuts k))) (sym back) (subst (λ (n : ℕ). All (HasCapacity n) c.merge_parts.new.one) all merged.capacities);
         };
-        bound = noted old self r (k + k) works.rooms.challenges c.requires.left c.requires.folded.others;
+        bound = noted old self r (k + k) works.capacities.challenges c.requires.left c.requires.folded.others;
         count = ap (λ (n : ℕ). n + 1) c.requires.folded.others.count;
         laid = subst (AreLaidOut k (m - 1)) (sym back) (laid-merged k m ps some laid r c.merge_parts.new.one more one merged.some (subst (λ (n : ℕ). All (HasSize n) c.merge_parts.new.one) number merged.sizes));
         table = ap flat_table back ∙ merged.table ∙ ap flat_table (whole ∙ c.requires.folded.parts) ∙ flat-folded k m ps some laid (λ p. p.table) r (λ p. refl) (λ n p h. h.table);
@@ -91,25 +91,25 @@ returns c =
     let ps = parts_of old in
     let some : 0 < m = omega (arith, some_left k old.count old.count refl c.requires.left) in
     let h : ℕ = half k m ps some laid in
-    let rooms : HasRooms k self = rooms-folded k old self r works.rooms c.requires.folded in
+    let capacities : HasCapacities k self = capacities-folded k old self r works.capacities c.requires.folded in
     let sizes : All (HasSize h) (parts_of self) = subst (All (HasSize h)) (sym c.requires.folded.parts) (sizes-folded k m ps some laid r) in
     let many : length (parts_of self) ≡ length ps = ap length c.requires.folded.parts ∙ length-map ps (folded_part r) in
-    let none : PartTables = record { table = []; scales = []; shifts = []; room = 0 } in
+    let none : PartTables = record { table = []; scales = []; shifts = []; capacity = 0 } in
     let first : 0 < length (parts_of self) → length (get_or (parts_of self) 0 none).table ≡ h = λ u. (sizes 0 none u).table in
     let thick : 1 < length ps → h ≢ 1 = λ more one. let u : 1 < length (parts_of self) = omega (arith, many, more) in c.is_thin.ensures.thick c.if-is_thin.false u none (first (omega arith) ∙ one) in
     record {
       advanced = record {
-        rooms = record {
-          challenges = rooms.challenges;
-          left_equality = rooms.left_equality;
-          scales = rooms.scales;
-          shifts = rooms.shifts;
-          many = rooms.many;
-          many_room = rooms.many_room;
-          one = rooms.one;
-          one_room = rooms.one_room;
+        capacities = record {
+          challenges = capacities.challenges;
+          left_equality = capacities.left_equality;
+          scales = capacities.scales;
+          shifts = capacities.shifts;
+          many = capacities.many;
+          many_capacity = capacities.many_capacity;
+          one = capacities.one;
+          one_capacity = capacities.one_capacity;
         };
-        bound = noted old self r (k + k) works.rooms.challenges c.requires.left c.requires.folded.others;
+        bound = noted old self r (k + k) works.capacities.challenges c.requires.left c.requires.folded.others;
         count = ap (λ (n : ℕ). n + 1) c.requires.folded.others.count;
         laid = subst (AreLaidOut k (m - 1)) (sym c.requires.folded.parts) (laid-folded k m ps some laid r thick);
         table = ap flat_table c.requires.folded.parts ∙ flat-folded k m ps some laid (λ p. p.table) r (λ p. refl) (λ n p h. h.table);

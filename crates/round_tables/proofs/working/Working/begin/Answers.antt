@@ -26,7 +26,7 @@ returns-clause-works c =
     coe 0 1 (i. GathersLeft K k_ops c.args.layer.now.gates.now c.args.layer.now.point_equality.items (c.values.ensures i) c.gather_first.new.scales c.gather_first.new.shifts) c.gather_first.ensures in
     let all : left_in_phase k new.count ≡ k = ap (left_in_phase k) laid.count ∙ (in_left_phase k 0 layer.least).0 ∙ omega arith in
     record {
-      rooms = laid.rooms;
+      capacities = laid.capacities;
       counted = omega (arith, laid.count);
       laid = subst (λ m. AreLaidOut k m (parts_of new)) (sym all) laid.laid;
       phase = coe 0 1 (i. IsPhase K k_ops k c.args.layer.now.gates.now c.args.layer.now.values.now.items (place_of c.args.layer.now) (take (sym laid.count i) new.challenges.items) (flat_table (parts_of new)) (sym scales i) (sym shifts i))

@@ -24,7 +24,7 @@ returns-clause-works g c =
     let r = c.args.r in
     let old = c.args.old.value in
     let works = c.requires.works in
-    let n : length (bound_of c.args.old.value) ≡ c.args.old.value.count = length-count old.challenges.items k old.count (sym old.challenges.ok.0 ∙ works.rooms.challenges) works.counted in
+    let n : length (bound_of c.args.old.value) ≡ c.args.old.value.count = length-count old.challenges.items k old.count (sym old.challenges.ok.0 ∙ works.capacities.challenges) works.counted in
     let advanced = c.advance.new.self in
     let filled = c.fill_left.new.self in
     let new = c.turn.new.self in
@@ -39,7 +39,7 @@ returns-clause-works g c =
     let gathers : GathersRight K k_ops c.args.layer.now.gates.now c.args.layer.now.point_equality.items c.fill_left.new.self.left_equality.items (get_or (flat_table (parts_of c.advance.new.self)) 0 zero_k) (flat_scales (parts_of c.turn.new.self)) (flat_shifts (parts_of c.turn.new.self)) =
     coe 0 1 (i. GathersRight K k_ops c.args.layer.now.gates.now c.args.layer.now.point_equality.items c.fill_left.new.self.left_equality.items (get_or (flat_table (c.fill_left.ensures.parts i)) 0 zero_k) (flat_scales (parts_of c.turn.new.self)) (flat_shifts (parts_of c.turn.new.self))) c.turn.ensures.gathers in
     record {
-      rooms = c.turn.ensures.rooms;
+      capacities = c.turn.ensures.capacities;
       counted = omega (arith, count);
       laid = subst (λ m. AreLaidOut k m (parts_of new)) (sym all) c.turn.ensures.laid;
       phase = rw noted (bound_middle k_ops k_laws k c.args.layer.now.gates.now c.args.layer.now.values.now.items (place_of c.args.layer.now) c.requires.layer.layer_is

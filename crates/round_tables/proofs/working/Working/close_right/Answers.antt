@@ -15,12 +15,12 @@ returns-clause-works c =
     let r = c.args.r in
     let old = c.args.old.value in
     let works = c.requires.works in
-    let n : length (bound_of c.args.old.value) ≡ c.args.old.value.count = length-count old.challenges.items k old.count (sym old.challenges.ok.0 ∙ works.rooms.challenges) works.counted in
+    let n : length (bound_of c.args.old.value) ≡ c.args.old.value.count = length-count old.challenges.items k old.count (sym old.challenges.ok.0 ∙ works.capacities.challenges) works.counted in
     let new = c.advance.new.self in
     let advanced = c.advance.ensures.advanced in
     let left = left-next k old.count new.count advanced.count (omega arith) (inr (omega arith)) in
     record {
-      rooms = advanced.rooms;
+      capacities = advanced.capacities;
       counted = omega (arith, advanced.count);
       laid = subst (λ m. AreLaidOut k m (parts_of new)) (sym left) advanced.laid;
       phase = rw advanced.bound (bound_right k_ops k_laws k c.args.layer.now.gates.now c.args.layer.now.values.now.items (place_of c.args.layer.now)

@@ -7,16 +7,16 @@ pub fill_parts-requires-clause-table : goal.fill_parts-requires-clause-table
 fill_parts-requires-clause-table c =
     let k = c.args.layer.now.k in
     ap length c.values.ensures ∙ c.requires.layer.layer_is.size ∙ sym (whole-parts k)
-    ∙ ap₂ (λ (a b : ℕ). a * b) (sym (ap length c.deref_mut.ensures.value ∙ c.requires.rooms.many)) (sym (c.power.ensures ∙ ap (λ (x : ℕ). 2 ^ (k - x)) c.cut_count.ensures.cuts))
+    ∙ ap₂ (λ (a b : ℕ). a * b) (sym (ap length c.deref_mut.ensures.value ∙ c.requires.capacities.many)) (sym (c.power.ensures ∙ ap (λ (x : ℕ). 2 ^ (k - x)) c.cut_count.ensures.cuts))
 
 pub fill_parts-requires-clause-scales : goal.fill_parts-requires-clause-scales
 fill_parts-requires-clause-scales c =
     let k = c.args.layer.now.k in
-    c.deref.ensures.len ∙ c.requires.rooms.scales ∙ sym (whole-parts k)
-    ∙ ap₂ (λ (a b : ℕ). a * b) (sym (ap length c.deref_mut.ensures.value ∙ c.requires.rooms.many)) (sym (c.power.ensures ∙ ap (λ (x : ℕ). 2 ^ (k - x)) c.cut_count.ensures.cuts))
+    c.deref.ensures.len ∙ c.requires.capacities.scales ∙ sym (whole-parts k)
+    ∙ ap₂ (λ (a b : ℕ). a * b) (sym (ap length c.deref_mut.ensures.value ∙ c.requires.capacities.many)) (sym (c.power.ensures ∙ ap (λ (x : ℕ). 2 ^ (k - x)) c.cut_count.ensures.cuts))
 
 pub fill_parts-requires-clause-shifts : goal.fill_parts-requires-clause-shifts
 fill_parts-requires-clause-shifts c =
     let k = c.args.layer.now.k in
-    c.deref-2.ensures.len ∙ c.requires.rooms.shifts ∙ sym (whole-parts k)
-    ∙ ap₂ (λ (a b : ℕ). a * b) (sym (ap length c.deref_mut.ensures.value ∙ c.requires.rooms.many)) (sym (c.power.ensures ∙ ap (λ (x : ℕ). 2 ^ (k - x)) c.cut_count.ensures.cuts))
+    c.deref-2.ensures.len ∙ c.requires.capacities.shifts ∙ sym (whole-parts k)
+    ∙ ap₂ (λ (a b : ℕ). a * b) (sym (ap length c.deref_mut.ensures.value ∙ c.requires.capacities.many)) (sym (c.power.ensures ∙ ap (λ (x : ℕ). 2 ^ (k - x)) c.cut_count.ensures.cuts))

@@ -64,7 +64,7 @@ returns-clause-part g c =
     let place = place_of c.args.layer.now in
     let bound = bound_of w in
     let from : ℕ = c.args.number * h in
-    let n : length (bound_of c.args.self.now) ≡ c.args.self.now.count = length-count w.challenges.items k w.count (sym w.challenges.ok.0 ∙ c.requires.works.rooms.challenges) c.requires.works.counted in
+    let n : length (bound_of c.args.self.now) ≡ c.args.self.now.count = length-count w.challenges.items k w.count (sym w.challenges.ok.0 ∙ c.requires.works.capacities.challenges) c.requires.works.counted in
     let width : h ≡ from + h - from = omega arith in
     from_values 3 c.pair_sum.result (part_of_round k_ops k gates values place bound from (from + h)) (lit< tt) c.pair_sum.ensures.three (length-part k_ops k gates values place bound from (from + h)) (λ e.
     c.pair_sum.ensures.sum e

@@ -19,7 +19,7 @@ returns-clause-history g c =
     let free : c.turn.inside.seat.me.0.held ≡ false = search rules in
     let l = lefts g.S.Storied.history g.S.Storied.owns g.S.Storied.fixed (g.S.Storied.fixed c.self.inside.table.shared.key.first.value) c.self.inside.table.shared.key.seats c.turn.inside.seat.id c.turn.inside.seat.me.0 _ (slots_items c.close_with-closed.result.slots) c.take-slot.result c.close_with-closed.ensures.values.2 some shares free c.take-slot.ensures.value in
     let seen : c.turn.inside.seat.me.0.seen ≡ c.args.turn.seen = search rules in
-    ap g.S.Storied.history (some_one g.S.Storied.history g.S.Storied.owns g.S.Storied.fixed (g.S.Storied.fixed c.self.inside.table.shared.key.first.value) c.in-Some.state l.state (sym c.in-Some.is ∙ l.is)) ∙ l.tells ∙ seen
+    ap g.S.Storied.history (some_one g.S.Storied.history g.S.Storied.owns g.S.Storied.fixed (g.S.Storied.fixed c.self.inside.table.shared.key.first.value) c.in-Some.state l.state (sym c.in-Some.is ∙ l.is)) ∙ l.shows ∙ seen
 
 pub returns-clause-fixed : goal.returns-clause-fixed
 returns-clause-fixed g c =

@@ -4,7 +4,7 @@ use Rattle.tallies.specs.Tallies.{times}
 use Rattle.turn_lock.specs.Lists.{unite, IsRising}
 use Rattle.turn_lock.proofs.United.{times-unite}
 use Rattle.turn_lock.proofs.Rising.{rising_unite}
-use Rattle.turn_lock.proofs.Moves.{joins, tells}
+use Rattle.turn_lock.proofs.Moves.{joins, shows}
 use Rattle.turn_lock.proofs.lock.TurnLock.join.Goals as goal
 
 pub join_seat-requires : goal.join_seat-requires
@@ -18,7 +18,7 @@ join_seat-requires g c = (
 )
 
 pub load-requires : goal.load-requires
-load-requires g c = (search rules, search rules, tells g.S.Storied.history g.S.Storied.owns g.S.Storied.fixed _ _ _ _ c.join_seat.new.seat.me)
+load-requires g c = (search rules, search rules, shows g.S.Storied.history g.S.Storied.owns g.S.Storied.fixed _ _ _ _ c.join_seat.new.seat.me)
 
 pub returns-clause-apart : goal.returns-clause-apart
 returns-clause-apart g c x = let mine : c.join_seat.new.seat.me.0.mine ≡ unite c.args.turn.now.mine c.args.other.mine = search rules in

@@ -1,5 +1,0 @@
-use Rattle.arr_parse.proofs.Naming.{tells_names}
-use Rattle.arr_parse.proofs.laws.numbers_tell_names.Goals as goal
-
-pub returns : goal.returns
-returns c = tells_names

@@ -1,5 +1,0 @@
-use Rattle.proof_two.proofs.Either.{any_front}
-use Rattle.proof_two.proofs.laws.no_front.Goals as goal
-
-pub returns : goal.returns
-returns c = any_front

@@ -1,0 +1,5 @@
+use Rattle.proof_two.proofs.Either.{any_front}
+use Rattle.proof_two.proofs.laws.no_prefix.Goals as goal
+
+pub returns : goal.returns
+returns c = any_front
