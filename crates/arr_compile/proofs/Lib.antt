@@ -1,7 +1,7 @@
-pub mod OneReading
-pub mod OneCircuit
-pub mod Computing
-pub mod SoundCircuits
-pub mod PlacesForgotten
-pub mod SumLevels
-pub mod WhiteSpace
+pub mod api
+mod OneReading
+mod OneCircuit
+mod Computing
+mod SoundCircuits
+mod PlacesForgotten
+mod WhiteSpace

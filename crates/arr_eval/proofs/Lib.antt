@@ -1,6 +1,5 @@
-pub mod InPlace
-pub mod Lists
-pub mod NumberLaws
-pub mod Places
-pub mod Runs
-pub mod Sized
+pub mod api
+mod InPlace
+mod Lists
+mod Places
+mod Runs

@@ -5,7 +5,7 @@ use Rattle.std.proofs.lemmas.List.FromFn.{map-range_with_len_more}
 use Rattle.std.proofs.lemmas.List.Sums.{fold_push}
 use Rattle.field_ext.specs.Field.{F, of, add_f}
 use Rattle.arr_eval.specs.Numbers.{sum_of, at_places, product_at, product_place}
-use Rattle.field_ext.proofs.Elements.{add-of}
+use Rattle.field_ext.proofs.api.Elements.{add-of}
 
 pub at_places-more : (f : ℕ → F) (count : ℕ) (x : F) (found more : List F) → found ≡ at_places count f → more ≡ found ++ (x ∷ []) → x ≡ f count → more ≡ at_places (count + 1) f
 at_places-more f count x found more so_far pushed value =

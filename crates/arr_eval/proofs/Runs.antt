@@ -8,7 +8,7 @@ use Rattle.arr_run.specs.declared.refused.CheckRefused.{CheckRefused}
 use Rattle.arr_run.specs.Agrees.{Answer, ◌>>=◌}
 use Rattle.arr_run.specs.Program.{end_of, run_of}
 use Rattle.arr_run.specs.Statement.{State}
-use Rattle.arr_run.proofs.Related.{GoTogether, GoOn, Begin, BothStates, programs}
+use Rattle.arr_run.proofs.api.Related.{GoTogether, GoOn, Begin, BothStates, programs}
 use Rattle.arr_check.specs.declared.shapes.Shapes.{Shapes}
 use Rattle.arr_check.specs.Shapes.{shapes}
 use Rattle.arr_check.specs.Program.{run_program}

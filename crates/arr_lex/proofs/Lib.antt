@@ -1,5 +1,5 @@
-pub mod Later
-pub mod Passed
-pub mod Runs
-pub mod Spaces
-pub mod Spans
+mod Later
+mod Passed
+mod Runs
+mod Spaces
+mod Spans

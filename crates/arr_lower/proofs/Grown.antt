@@ -4,14 +4,14 @@ use Rattle.std.proofs.lemmas.Bool.{cases_lt, lt-ltb, le-ltb, cond-true, cond-fal
 use Rattle.std.proofs.lemmas.List.{get_or_append_left, get_or_push, length_push, append-nil}
 use Rattle.std.proofs.lemmas.List.Sums.{passes_at_first, prefix_len-le-length}
 use Rattle.field_ext.specs.Field.{F, of}
-use Rattle.field_ext.proofs.Elements.{F_eq}
+use Rattle.field_ext.proofs.api.Elements.{F_eq}
 use Rattle.circuit_core.specs.declared.gate.Kind.{Kind}
 use Rattle.circuit_core.specs.Parts.{zero_f, combined}
 use Rattle.node_core.specs.declared.node.Node.{Node}
 use Rattle.node_core.specs.declared.node.Node.TheVariants.{Input, Constant, Operation}
 use Rattle.node_core.specs.Order.{made_in_order}
 use Rattle.node_core.specs.Nodes.{IsFineAt, node_value}
-use Rattle.node_core.proofs.InOrder.{get_or-made_in_order, get_or-made_append, get_or-made_push}
+use Rattle.node_core.proofs.api.InOrder.{get_or-made_in_order, get_or-made_append, get_or-made_push}
 use Rattle.arr_lower.specs.Operations.{MadeOne, is_constant, constant_place, constant_node, operation_node}
 
 module _ (inputs : List F) where

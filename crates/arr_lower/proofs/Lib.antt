@@ -1,11 +1,11 @@
-pub mod Adds
-pub mod Counted
-pub mod Grown
-pub mod LeavesMade
-pub mod MadeEach
-pub mod MadeInTurn
-pub mod Means
-pub mod Pairwise
-pub mod PlacesKept
-pub mod SumHalves
-pub mod SumsMade
+pub mod api
+mod Adds
+mod Grown
+mod LeavesMade
+mod MadeEach
+mod MadeInTurn
+mod Means
+mod Pairwise
+mod PlacesKept
+mod SumHalves
+mod SumsMade

@@ -3,8 +3,8 @@ use Rattle.std.proofs.Common.{◌≡◌, ℕ, ◌*◌, ◌-◌, List, [], ◌∷
 use Rattle.std.specs.List.{zip}
 use Rattle.std.proofs.lemmas.List.{append-nil}
 use Rattle.field_ext.specs.Field.{F, of, add_f, mul_f, neg_f, sub_f}
-use Rattle.field_ext.proofs.Elements.{of_same}
-use Rattle.field_ext.proofs.Prime.{same_rem}
+use Rattle.field_ext.proofs.api.Elements.{of_same}
+use Rattle.field_ext.proofs.api.Prime.{same_rem}
 use Rattle.circuit_core.specs.declared.gate.Kind.{Kind}
 use Rattle.circuit_core.specs.declared.gate.Kind.TheVariants.{Add, Mul}
 use Rattle.circuit_core.specs.Parts.{combined}

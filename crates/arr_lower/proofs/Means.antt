@@ -22,10 +22,10 @@ use Rattle.arr_run.specs.Agrees.{Answer, ◌>>=◌}
 use Rattle.arr_run.specs.Program.{end_of, run_of, input_count, numbers_of_input}
 use Rattle.arr_run.specs.Shape.{size_of, for_nodes, pair_shape}
 use Rattle.arr_run.specs.Statement.{State}
-use Rattle.arr_run.proofs.Answered.{if_ok}
-use Rattle.arr_run.proofs.InputNodes.{input_shape-declared}
-use Rattle.arr_run.proofs.Related.{Gives, GoTogether, GoOn, Begin, BothStates, programs}
-use Rattle.arr_run.proofs.Shapes.{same_shape-size, sum_shape-shape, product_shape-shape, for_minus_one-shape}
+use Rattle.arr_run.proofs.api.Answered.{if_ok}
+use Rattle.arr_run.proofs.api.InputNodes.{input_shape-declared}
+use Rattle.arr_run.proofs.api.Related.{Gives, GoTogether, GoOn, Begin, BothStates, programs}
+use Rattle.arr_run.proofs.api.Shapes.{same_shape-size, sum_shape-shape, product_shape-shape, for_minus_one-shape}
 use Rattle.field_ext.specs.Field.{F, of, mul_f, neg_f}
 use Rattle.circuit_core.specs.declared.gate.Kind.TheVariants.{Add, Mul}
 use Rattle.circuit_core.specs.Parts.{zero_f}
@@ -33,7 +33,7 @@ use Rattle.node_core.specs.declared.node.Node.{Node}
 use Rattle.node_core.specs.Nodes.{Nodes, IsFineAt, node_at, values}
 use Rattle.arr_eval.specs.Meaning.{Kept, numbers, meaning, outputs_of, signed, single, pair}
 use Rattle.arr_eval.specs.Numbers.{element, element_wise, sum_of, dot_of}
-use Rattle.arr_eval.proofs.Sized.{signed-size, element_wise-size, single-size, pair-size}
+use Rattle.arr_eval.proofs.api.Sized.{signed-size, element_wise-size, single-size, pair-size}
 use Rattle.arr_lower.specs.Lowering.{Kept as KeptNodes, kept_after, nodes, nodes_at_end, nodes_of}
 use Rattle.arr_lower.specs.Operations.{Made, MadeOne, one_made, leaf_nodes, constant_node, signed_nodes, pairwise_nodes, negated_nodes, sum_node, dot_node, single_nodes, pair_nodes}
 use Rattle.arr_lower.proofs.Grown.{value, IsFine, Grows, Stands, HasOne, grows-none, grows-then, constant-has}

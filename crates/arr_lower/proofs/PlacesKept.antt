@@ -12,7 +12,7 @@ use Rattle.std.proofs.lemmas.List.{length_push}
 use Rattle.std.proofs.lemmas.List.Folds.{position_or_len_push}
 use Rattle.std.proofs.lemmas.List.Sums.{prefix_len-le-length}
 use Rattle.field_ext.specs.Field.{F, of}
-use Rattle.field_ext.proofs.Elements.{F_eq}
+use Rattle.field_ext.proofs.api.Elements.{F_eq}
 use Rattle.node_core.specs.declared.node.Node.{Node}
 use Rattle.node_core.specs.declared.node.Node.TheVariants.{Constant}
 use Rattle.arr_lower.specs.ConstantPlaces.{Answers}

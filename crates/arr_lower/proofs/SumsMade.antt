@@ -8,7 +8,7 @@ use Rattle.field_ext.specs.Field.{F, of, mul_f}
 use Rattle.circuit_core.specs.declared.gate.Kind.TheVariants.{Add, Mul}
 use Rattle.node_core.specs.declared.node.Node.{Node}
 use Rattle.arr_eval.specs.Numbers.{element, sum_of, at_places, transposed_at, transpose_of, product_place, matmul_of}
-use Rattle.arr_eval.proofs.NumberLaws.{zero-add_f, sum_of-append}
+use Rattle.arr_eval.proofs.api.NumberLaws.{zero-add_f, sum_of-append}
 use Rattle.arr_lower.specs.Operations.{made_each, operation_node, first_half, sum_within, sum_node, dot_node, product_pairs, matmul_nodes, transposed_items}
 use Rattle.arr_lower.proofs.Grown.{Stands, HasOne, grows-none, stands-kept, constant-has, operation-has, one-then}
 use Rattle.arr_lower.proofs.MadeEach.{AllStand, HasEach, IsKept, Makes, Ready, ready-kept, ready-makes, each-has, all-kept}

@@ -1,17 +1,17 @@
-pub mod Due
-pub mod Finding
-pub mod FindsExpression
-pub mod FindsIndex
-pub mod FindsProgram
-pub mod IndexRows
-pub mod Loop
-pub mod Naming
-pub mod OneExpression
-pub mod OneProgram
-pub mod OneTree
-pub mod ProgramRead
-pub mod Rows
-pub mod StatementRows
-pub mod Symbols
-pub mod TreesRead
-pub mod Unplaced
+mod Due
+mod Finding
+mod FindsExpression
+mod FindsIndex
+mod FindsProgram
+mod IndexRows
+mod Loop
+mod Naming
+mod OneExpression
+mod OneProgram
+mod OneTree
+mod ProgramRead
+mod Rows
+mod StatementRows
+mod Symbols
+mod TreesRead
+mod Unplaced

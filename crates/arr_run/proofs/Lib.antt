@@ -1,12 +1,7 @@
-pub mod Answered
-pub mod ExpressionRows
-pub mod IndexRows
-pub mod Inserted
-pub mod Places
-pub mod Related
-pub mod StatementRows
-pub mod InputNodes
-pub mod Elements
-pub mod Shapes
-pub mod Within
-pub mod Counted
+pub mod api
+mod ExpressionRows
+mod IndexRows
+mod Inserted
+mod Places
+mod Elements
+mod Within

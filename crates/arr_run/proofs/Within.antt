@@ -10,7 +10,7 @@ use Rattle.arr_run.specs.Expression.{offset}
 use Rattle.arr_run.specs.Index.{index_value, index_at}
 use Rattle.arr_run.specs.Scope.{Names}
 use Rattle.arr_run.specs.Shape.{size_of}
-use Rattle.arr_run.proofs.Answered.{bind_ok, if_ok, same_ok}
+use Rattle.arr_run.proofs.api.Answered.{bind_ok, if_ok, same_ok}
 
 is_place-below : (value : ℤ) (dimension : ℕ) → is_place value dimension ≡ true → nat_abs value < dimension
 is_place-below (pos n) dimension e = grind (arith, nat_tests, e)

@@ -31,7 +31,7 @@ pub struct Ran {
 }
 
 /// The run of a program, or its first refusal.
-#[tactic(auto, using(crate::proofs::InputNodes::of_inputs))]
+#[tactic(auto, using(crate::proofs::api::InputNodes::of_inputs))]
 pub fn run<M: Machine>(
     alloc: Global,
     machine: &mut M,

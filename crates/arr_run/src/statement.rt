@@ -26,7 +26,7 @@ const MODULUS: i64 = 2_147_483_647;
 
 /// The run of one statement.
 #[cycle(statement)]
-#[tactic(auto, using(crate::proofs::StatementRows::of_statements))]
+#[tactic(auto, using(crate::proofs::api::StatementRows::of_statements))]
 pub fn run_statement<M: Machine>(
     scope: &mut Scope<M::Array>,
     counts: &mut Counts,
@@ -66,7 +66,7 @@ pub fn run_statement<M: Machine>(
 
 /// A loop.
 #[cycle(statement)]
-#[tactic(auto, using(crate::proofs::StatementRows::of_statements))]
+#[tactic(auto, using(crate::proofs::api::StatementRows::of_statements))]
 fn counted_loop<M: Machine>(
     scope: &mut Scope<M::Array>,
     counts: &mut Counts,
@@ -91,7 +91,7 @@ fn counted_loop<M: Machine>(
 
 /// The turns of a loop from the first on, below the end.
 #[cycle(statement)]
-#[tactic(auto, using(crate::proofs::StatementRows::of_statements, crate::proofs::StatementRows::of_turns))]
+#[tactic(auto, using(crate::proofs::api::StatementRows::of_statements, crate::proofs::api::StatementRows::of_turns))]
 fn all_turns<M: Machine>(
     scope: &mut Scope<M::Array>,
     counts: &mut Counts,
@@ -117,7 +117,7 @@ fn all_turns<M: Machine>(
 
 /// One turn of a loop.
 #[cycle(statement)]
-#[tactic(auto, using(crate::proofs::StatementRows::of_statements))]
+#[tactic(auto, using(crate::proofs::api::StatementRows::of_statements))]
 fn one_turn<M: Machine>(
     scope: &mut Scope<M::Array>,
     counts: &mut Counts,
@@ -142,7 +142,7 @@ fn one_turn<M: Machine>(
 
 /// The run of statements, one after another.
 #[cycle(statement)]
-#[tactic(auto, using(crate::proofs::StatementRows::of_statements))]
+#[tactic(auto, using(crate::proofs::api::StatementRows::of_statements))]
 fn run_all<M: Machine>(
     scope: &mut Scope<M::Array>,
     counts: &mut Counts,

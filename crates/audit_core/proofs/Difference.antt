@@ -4,22 +4,22 @@ use Rattle.std.proofs.lemmas.List.{get_or_past, get_or_read}
 use Rattle.std.proofs.lemmas.List.Elements.{All-cons, All-nil}
 use Rattle.field_ext.specs.Field.{F, K, k_ops, zero_k, sub_k, embed_k}
 use Rattle.field_ext.specs.Polynomial.{IsZero}
-use Rattle.field_ext.proofs.KLaws.{k_laws}
-use Rattle.field_ext.proofs.Solve.{var, nil, ◌⊕◌, minus, solve}
+use Rattle.field_ext.proofs.api.KLaws.{k_laws}
+use Rattle.field_ext.proofs.api.Solve.{var, nil, ◌⊕◌, minus, solve}
 use Rattle.circuit_core.specs.Parts.{width_of, padded_values, layer_values, zero_f}
 use Rattle.circuit_core.specs.Sound.{SoundCircuit}
 use Rattle.circuit_eval.specs.Tables.{table_of}
-use Rattle.wiring_poly.proofs.Identity.{take-front}
+use Rattle.wiring_poly.proofs.api.Identity.{take-front}
 use Rattle.gkr_layers.specs.Sumcheck.{difference}
-use Rattle.gkr_layers.proofs.Outputs.{outputs_padded}
-use Rattle.gkr_layers.proofs.Circuits.{read-embed, length-table}
-use Rattle.gkr_layers.proofs.Shapes.{outputs_room}
-use Rattle.circuit_core.proofs.Sizes.{size_of}
-use Rattle.circuit_eval.proofs.LayerTables.{length-table as length-true}
+use Rattle.gkr_layers.proofs.api.Outputs.{outputs_padded}
+use Rattle.gkr_layers.proofs.api.Circuits.{read-embed, length-table}
+use Rattle.gkr_layers.proofs.api.Shapes.{outputs_room}
+use Rattle.circuit_core.proofs.api.Sizes.{size_of}
+use Rattle.circuit_eval.proofs.api.LayerTables.{length-table as length-true}
 use Rattle.audit_core.specs.Audit.{AreOutputs}
-use Rattle.gkr_layers.proofs.Sound.{no_difference as equal_tables}
-use Rattle.gkr_layers.proofs.Shapes.{parts_of as real_parts}
-use Rattle.gkr_layers.proofs.Outputs.{behind-zero as padding-read}
+use Rattle.gkr_layers.proofs.api.Sound.{no_difference as equal_tables}
+use Rattle.gkr_layers.proofs.api.Shapes.{parts_of as real_parts}
+use Rattle.gkr_layers.proofs.api.Outputs.{behind-zero as padding-read}
 
 pub read-difference : (ys vs : List K) (g : ℕ) → length ys ≡ length vs → g < length vs → get_or (difference k_ops ys vs) g zero_k ≡ sub_k (get_or ys g zero_k) (get_or vs g zero_k)
 read-difference [] [] g e u = absurd (omega arith)

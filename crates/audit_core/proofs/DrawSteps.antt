@@ -3,12 +3,12 @@ use Rattle.std.proofs.Common.{◌≡◌, ℕ, suc, ◌+◌, ◌-◌, ◌<◌, �
 use Rattle.std.proofs.lemmas.List.{take_more, take_all, length-map, get_or-map}
 use Rattle.field_ext.specs.Field.{K}
 use Rattle.transcript_fs.specs.Source.{Source, draws, state_after}
-use Rattle.transcript_fs.proofs.Draws.{has_any, has_front, has_behind, draws-append, state-append}
+use Rattle.transcript_fs.proofs.api.Draws.{has_any, has_front, has_behind, draws-append, state-append}
 use Rattle.proof_wire.specs.declared.messages.LayerMessages.{LayerMessages}
 use Rattle.proof_wire.specs.declared.messages.Round.{Round}
 use Rattle.proof_wire.specs.Spelling.{coefficients_of}
 use Rattle.proof_wire.specs.Lists.{round_messages, messages_of, all_messages}
-use Rattle.gkr_prove.proofs.LayerSteps.{messages-more}
+use Rattle.gkr_prove.proofs.api.LayerSteps.{messages-more}
 use Rattle.audit_core.proofs.Flat.{number_most}
 
 module _ (source : Source) (s : List ℕ) (rounds : List Round) (last : List K) where

@@ -5,15 +5,15 @@ use Rattle.std.proofs.lemmas.Bool.{lt-ltb, le-ltb, eq-eqb, ne_eqb}
 use Rattle.std.proofs.lemmas.List.{get_or-drop}
 use Rattle.field_ext.specs.Field.{K, k_ops, zero_k}
 use Rattle.field_ext.specs.Polynomial.{value_at, SamePolynomial, coefficients}
-use Rattle.field_ext.proofs.KLaws.{k_laws}
+use Rattle.field_ext.proofs.api.KLaws.{k_laws}
 use Rattle.proof_wire.specs.declared.form.ProofForm.{ProofForm}
 use Rattle.gkr_layers.specs.Places.{Place}
 use Rattle.gkr_layers.specs.Places.Place.{At}
 use Rattle.gkr_layers.specs.Sumcheck.{difference, IsExceptionalFor, IsExceptionalFold}
 use Rattle.gkr_layers.specs.Layers.{GateLayer, next_place, message_count, IsExceptional}
 use Rattle.gkr_layers.specs.Acceptance.{CircuitClaim, true_table}
-use Rattle.gkr_layers.proofs.Lists.{from_one, from_other, to_one, to_other, drop-take}
-use Rattle.gkr_layers.proofs.Coefficients.{value-coefficients}
+use Rattle.gkr_layers.proofs.api.Lists.{from_one, from_other, to_one, to_other, drop-take}
+use Rattle.gkr_layers.proofs.api.Coefficients.{value-coefficients}
 use Rattle.audit_core.specs.Truth.{true_message}
 use Rattle.audit_core.specs.Audit.{IsDrawnExceptional}
 use Rattle.audit_core.proofs.Truth.{part_of, true_round, true_last, true_below, below_read, true_front, same_is, is_same}

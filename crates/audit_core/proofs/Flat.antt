@@ -6,7 +6,7 @@ use Rattle.proof_wire.specs.declared.messages.LayerMessages.{LayerMessages}
 use Rattle.proof_wire.specs.declared.messages.Round.{Round}
 use Rattle.proof_wire.specs.Spelling.{coefficients_of}
 use Rattle.proof_wire.specs.Lists.{round_messages, messages_of, all_messages}
-use Rattle.gkr_layers.proofs.Lists.{next-read}
+use Rattle.gkr_layers.proofs.api.Lists.{next-read}
 use Rattle.audit_core.specs.Found.{IsAt}
 
 -- the number of the first message of layer i

@@ -3,8 +3,8 @@ use Rattle.std.proofs.Common.{◌≡◌, ℕ, ◌+◌, ◌<◌, List, [], ◌∷
 use Rattle.std.proofs.lemmas.List.{take_more}
 use Rattle.std.proofs.lemmas.List.Elements.{All-head, All-tail, All-cons, All-nil}
 use Rattle.field_ext.specs.Polynomial.{IsZero}
-use Rattle.field_ext.proofs.KLaws.{k_laws}
-use Rattle.field_ext.proofs.Solve.{nil, var, ◌⊕◌, ◌⊗◌, minus, solve}
+use Rattle.field_ext.proofs.api.KLaws.{k_laws}
+use Rattle.field_ext.proofs.api.Solve.{nil, var, ◌⊕◌, ◌⊗◌, minus, solve}
 use Rattle.field_ext.specs.Field.{K, k_ops, zero_k}
 use Rattle.field_ext.specs.Multilinear.{folded, folded_all}
 

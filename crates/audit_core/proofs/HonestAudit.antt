@@ -5,7 +5,7 @@ use Rattle.circuit_core.specs.Parts.{leaf_value, padded_values, input_table}
 use Rattle.circuit_core.specs.Sound.{SoundCircuit, exponent_at, exponents}
 use Rattle.circuit_eval.specs.Tables.{table_of}
 use Rattle.transcript_fs.specs.Source.{Source, point_draws, state_after_point, draws, all_draws}
-use Rattle.transcript_fs.proofs.Draws.{point_front, point_rest}
+use Rattle.transcript_fs.proofs.api.Draws.{point_front, point_rest}
 use Rattle.proof_wire.specs.declared.form.ProofForm.{ProofForm}
 use Rattle.proof_wire.specs.declared.messages.Messages.{Messages}
 use Rattle.proof_wire.specs.Lists.{all_messages, HaveShape}
@@ -14,9 +14,9 @@ use Rattle.gkr_layers.specs.Sumcheck.{difference}
 use Rattle.gkr_layers.specs.Layers.{layers_of, lower_exponents, challenges_of}
 use Rattle.gkr_layers.specs.Acceptance.{CircuitClaim, claim_in}
 use Rattle.gkr_layers.specs.Honest.{AreHonest, AreHonestMessages}
-use Rattle.gkr_layers.proofs.Circuits.{over-embed}
-use Rattle.gkr_layers.proofs.Honest.{honest_proof}
-use Rattle.gkr_layers.proofs.Shapes as shapes
+use Rattle.gkr_layers.proofs.api.Circuits.{over-embed}
+use Rattle.gkr_layers.proofs.api.Honest.{honest_proof}
+use Rattle.gkr_layers.proofs.api.Shapes as shapes
 use Rattle.audit_core.specs.declared.found.Found.{Found}
 use Rattle.audit_core.specs.Audit.{AreOutputs, IsAuditOf, names_nothing}
 use Rattle.audit_core.specs.Found.{IsFoundBelow}

@@ -6,9 +6,9 @@ use Rattle.field_ext.specs.Field.{F, embed_k}
 use Rattle.circuit_core.specs.declared.gate.Leaf.{Leaf}
 use Rattle.circuit_core.specs.declared.gate.Leaf.TheVariants.{Input, Const}
 use Rattle.circuit_core.specs.Parts.{Parts, height, leaf_value, padded_values, layer_values, input_table, zero_f}
-use Rattle.circuit_core.proofs.LayerValues.{layer_values_last}
+use Rattle.circuit_core.proofs.api.LayerValues.{layer_values_last}
 use Rattle.circuit_eval.specs.Tables.{table_of}
-use Rattle.gkr_layers.proofs.Circuits.{read-embed}
+use Rattle.gkr_layers.proofs.api.Circuits.{read-embed}
 use Rattle.audit_core.specs.Leaves.{AreLeafValues, GiveValues}
 
 -- where one input is written, the leaf that reads it has that value

@@ -1,13 +1,13 @@
-pub mod Firsts
-pub mod Truth
-pub mod Exceptional
-pub mod Leaves
-pub mod Difference
-pub mod Folding
-pub mod Flat
-pub mod Placing
-pub mod DrawSteps
-pub mod Whole
-pub mod Theorem
-pub mod Unique
-pub mod HonestAudit
+mod Firsts
+mod Truth
+mod Exceptional
+mod Leaves
+mod Difference
+mod Folding
+mod Flat
+mod Placing
+mod DrawSteps
+mod Whole
+mod Theorem
+mod Unique
+mod HonestAudit

@@ -3,7 +3,7 @@ use Rattle.std.proofs.Common.{◌≡◌, ℕ, suc, ◌+◌, ◌-◌, ◌*◌, �
 use Rattle.circuit_core.specs.Parts.{Parts, height}
 use Rattle.circuit_core.specs.Sound.{exponent_at}
 use Rattle.gkr_layers.specs.Layers.{GateLayer, layers_below}
-use Rattle.gkr_layers.proofs.Circuits.{below_more, below_none}
+use Rattle.gkr_layers.proofs.api.Circuits.{below_more, below_none}
 use Rattle.audit_core.specs.Audit.{place_in}
 use Rattle.audit_core.proofs.Truth.{at_round, at_last, at_below}
 

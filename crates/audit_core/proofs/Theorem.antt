@@ -3,7 +3,7 @@ use Rattle.std.proofs.Common.{◌≡◌, ℕ, ◌+◌, ◌-◌, ◌<◌, inl, in
 use Rattle.std.proofs.lemmas.List.{get_or-drop}
 use Rattle.field_ext.specs.Field.{F, K, k_ops, zero_k}
 use Rattle.field_ext.specs.Polynomial.{SamePolynomial, coefficients}
-use Rattle.field_ext.proofs.KLaws.{k_same}
+use Rattle.field_ext.proofs.api.KLaws.{k_same}
 use Rattle.circuit_core.specs.Parts.{input_table}
 use Rattle.circuit_core.specs.Sound.{SoundCircuit, exponent_at, exponents}
 use Rattle.transcript_fs.specs.Given.{given, numbers_of}
@@ -17,13 +17,13 @@ use Rattle.gkr_layers.specs.Sumcheck.{round_polynomial}
 use Rattle.gkr_layers.specs.Layers.{GateLayer, layers_of, values_over, next_place, lower_exponents, message_count, challenges_of}
 use Rattle.gkr_layers.specs.Acceptance.{CircuitClaim, claim_in, verdict_of, challenge_count}
 use Rattle.gkr_layers.specs.Honest.{AreHonest}
-use Rattle.gkr_layers.proofs.Honest.{honest_of_circuit}
-use Rattle.gkr_layers.proofs.Shapes as shapes
+use Rattle.gkr_layers.proofs.api.Honest.{honest_of_circuit}
+use Rattle.gkr_layers.proofs.api.Shapes as shapes
 use Rattle.audit_core.specs.declared.report.Audit.{Audit}
 use Rattle.audit_core.specs.First.{NamesFirst}
 use Rattle.audit_core.specs.Truth.{true_message, IsFalseMessage}
 use Rattle.audit_core.specs.Audit.{IsAuditOf, IsDrawnExceptional, place_in}
-use Rattle.gkr_verify.proofs.GivenDraws.{given-coordinates, given-rest, given-all}
+use Rattle.gkr_verify.proofs.api.GivenDraws.{given-coordinates, given-rest, given-all}
 use Rattle.audit_core.proofs.Truth.{size_at, size_round, size_last, size_below, true_round, true_last, true_below, true_size, same_is}
 use Rattle.audit_core.proofs.Whole.{sized_at}
 

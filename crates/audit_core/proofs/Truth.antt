@@ -12,9 +12,9 @@ use Rattle.gkr_layers.specs.Forms.{last_polynomial, place_between}
 use Rattle.gkr_layers.specs.Sumcheck.{round_polynomial}
 use Rattle.gkr_layers.specs.Layers.{GateLayer, values_over, next_place, message_count}
 use Rattle.gkr_layers.specs.Honest.{AreHonest}
-use Rattle.gkr_layers.proofs.Lists.{drop-take}
-use Rattle.gkr_layers.proofs.Degree.{length-round_polynomial, length-last}
-use Rattle.gkr_layers.proofs.Coefficients.{length-coefficients}
+use Rattle.gkr_layers.proofs.api.Lists.{drop-take}
+use Rattle.gkr_layers.proofs.api.Degree.{length-round_polynomial, length-last}
+use Rattle.gkr_layers.proofs.api.Coefficients.{length-coefficients}
 use Rattle.audit_core.specs.Truth.{true_message}
 
 -- what is in place n of a layer of k coordinates and of those below it: one thing for a round, one for the last message, one below

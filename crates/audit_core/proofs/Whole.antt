@@ -8,8 +8,8 @@ use Rattle.field_ext.specs.Field.{F, K, k_ops, zero_k}
 use Rattle.field_ext.specs.Polynomial.{coefficients}
 use Rattle.circuit_core.specs.Parts.{Parts, height, input_table}
 use Rattle.circuit_core.specs.Sound.{SoundCircuit, exponent_at}
-use Rattle.circuit_core.proofs.Sizes.{size_of}
-use Rattle.circuit_core.proofs.Faultless.{none_from_test, height_bounds}
+use Rattle.circuit_core.proofs.api.Sizes.{size_of}
+use Rattle.circuit_core.proofs.api.Faultless.{none_from_test, height_bounds}
 use Rattle.circuit_core.specs.declared.gate.CircuitGate.{CircuitGate}
 use Rattle.proof_wire.specs.declared.form.ProofForm.{ProofForm}
 use Rattle.proof_wire.specs.declared.messages.Round.{Round}
@@ -21,9 +21,9 @@ use Rattle.gkr_layers.specs.Sumcheck.{difference, IsExceptionalFold}
 use Rattle.gkr_layers.specs.Layers.{GateLayer, layers_from, layers_of, lower_exponents, message_count, total_exponent, challenges_of}
 use Rattle.gkr_layers.specs.Acceptance.{CircuitClaim, claim_in, true_table, challenge_count}
 use Rattle.gkr_layers.specs.Honest.{AreHonest}
-use Rattle.gkr_layers.proofs.Lists.{next-read}
-use Rattle.gkr_layers.proofs.Circuits.{circuit_count}
-use Rattle.gkr_layers.proofs.Shapes.{length-all, length-messages}
+use Rattle.gkr_layers.proofs.api.Lists.{next-read}
+use Rattle.gkr_layers.proofs.api.Circuits.{circuit_count}
+use Rattle.gkr_layers.proofs.api.Shapes.{length-all, length-messages}
 use Rattle.audit_core.specs.declared.found.Found.{Found}
 use Rattle.audit_core.specs.First.{NamesFirst}
 use Rattle.audit_core.specs.Truth.{IsFalseMessage}

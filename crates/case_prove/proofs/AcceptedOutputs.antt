@@ -18,7 +18,7 @@ use Rattle.proof_wire.specs.declared.form.ProofForm.{ProofForm}
 use Rattle.case_prove.specs.Started.{start_of}
 use Rattle.case_prove.specs.Verified.{IsClaim, IsVerdictOn}
 use Rattle.case_prove.specs.Sound.{HasMeaning, HasExceptionalChallenge}
-use Rattle.case_prove.proofs.ProvedOutputs.{InputsAre, IsComputed}
+use Rattle.case_prove.proofs.api.ProvedOutputs.{InputsAre, IsComputed}
 
 -- what is known of the circuits of programs, and of the verifier
 pub record IsKnown : Type 0 where

@@ -14,7 +14,7 @@ use Rattle.proof_wire.specs.Lists.{all_messages, HaveShape}
 use Rattle.gkr_layers.specs.declared.verdict.Verdict.TheVariants.{Accepted}
 use Rattle.gkr_layers.specs.Layers.{challenges_of}
 use Rattle.gkr_layers.specs.Honest.{AreHonestMessages}
-use Rattle.gkr_layers.proofs.Shapes.{drawn}
+use Rattle.gkr_layers.proofs.api.Shapes.{drawn}
 use Rattle.audit_core.specs.declared.report.Audit.{Audit}
 use Rattle.audit_core.specs.Audit.{AreOutputs, IsAuditOf, names_nothing}
 use Rattle.case_text.specs.Content.{Content}
@@ -25,9 +25,9 @@ use Rattle.case_prove.specs.Started.{start_of}
 use Rattle.case_prove.proofs.AcceptedOutputs.{meant}
 use Rattle.case_prove.specs.Verified.{Says}
 use Rattle.case_prove.proofs.OneSaying.{says_one}
-use Rattle.case_prove.proofs.ProvedCases.{HonestIsAccepted, OneCircuit, kind_says}
-use Rattle.case_prove.proofs.ReadProofs.{one_value}
-use Rattle.case_prove.proofs.ProvedOutputs.{OneTree, InputsAre, IsComputed, sound, meaning_there}
+use Rattle.case_prove.proofs.api.ProvedCases.{HonestIsAccepted, OneCircuit, kind_says}
+use Rattle.case_prove.proofs.api.ReadProofs.{one_value}
+use Rattle.case_prove.proofs.api.ProvedOutputs.{OneTree, InputsAre, IsComputed, sound, meaning_there}
 
 -- the circuit of an audited case
 abbrev circuit_of : (c : Content) (audit : Audit) → IsAudited c audit → SoundCircuit

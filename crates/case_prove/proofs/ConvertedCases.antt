@@ -14,19 +14,19 @@ use Rattle.proof_two.specs.declared.kind.ProofVersion.TheVariants.{One, Two}
 use Rattle.proof_two.specs.Kinds.{kind_spelling}
 use Rattle.proof_two.specs.Lists.{shortened}
 use Rattle.proof_two.specs.Spelling.{spelling_two}
-use Rattle.proof_two.proofs.Shortened.{short_shape}
+use Rattle.proof_two.proofs.api.Shortened.{short_shape}
 use Rattle.gkr_layers.specs.declared.verdict.Verdict.{Verdict}
 use Rattle.gkr_layers.specs.declared.verdict.Verdict.TheVariants.{Accepted}
 use Rattle.gkr_layers.specs.Equations.{first_failure}
 use Rattle.gkr_verify.specs.ShortProof.{sums_of}
-use Rattle.gkr_verify.proofs.Filled.{sums-fill}
+use Rattle.gkr_verify.proofs.api.Filled.{sums-fill}
 use Rattle.case_text.specs.Content.{Content}
 use Rattle.case_prove.specs.Converted.{IsConverted}
 use Rattle.case_prove.specs.Started.{start_of}
 use Rattle.case_prove.specs.Verified.{HasProof, IsVerdictOn, Says, transcript_verdict}
 use Rattle.case_prove.proofs.OneSaying.{apart, says_form, says_one}
-use Rattle.case_prove.proofs.ProvedCases.{OneCircuit}
-use Rattle.case_prove.proofs.ReadProofs.{one_value}
+use Rattle.case_prove.proofs.api.ProvedCases.{OneCircuit}
+use Rattle.case_prove.proofs.api.ReadProofs.{one_value}
 
 -- a case with its messages by lines in a version says these messages, where the sums hold if it has to
 pub version_says : (version : ProofVersion) (program : List ℕ) (inputs outputs : List F) (told : Option (List F)) (p : Parts) (m : Messages) → HaveShape Line (drop 1 (exponents p)) m.layers

@@ -9,7 +9,7 @@ use Rattle.case_text.specs.Content.{Content, Fits}
 use Rattle.case_text.specs.Spelling.{Spells, lower_case_text}
 use Rattle.case_text.specs.declared.form.Form.TheVariants.{Full}
 use Rattle.case_prove.specs.Converted.{IsConverted}
-use Rattle.case_prove.proofs.ProvedOutputs.{sound}
+use Rattle.case_prove.proofs.api.ProvedOutputs.{sound}
 use Rattle.case_prove.proofs.ProvedSizes.{few_outputs, fits, kind_length}
 use Rattle.case_prove.proofs.ProvedText.{short, spells}
 

@@ -13,21 +13,21 @@ use Rattle.proof_wire.specs.Forms.{form_of}
 use Rattle.proof_wire.specs.Lists.{HaveShape}
 use Rattle.proof_wire.specs.Spelling.{spelling}
 use Rattle.proof_wire.specs.Trouble.{TroubleIs}
-use Rattle.proof_wire.proofs.Apart as wire_apart
-use Rattle.proof_wire.proofs.OneTrouble as wire_trouble
-use Rattle.proof_wire.proofs.Troubles as wire_troubles
+use Rattle.proof_wire.proofs.api.Apart as wire_apart
+use Rattle.proof_wire.proofs.api.OneTrouble as wire_trouble
+use Rattle.proof_wire.proofs.api.Troubles as wire_troubles
 use Rattle.proof_two.specs.declared.pairs.Pairs.{Pairs}
 use Rattle.proof_two.specs.declared.versions.AnyProof.TheVariants.{One, Two}
 use Rattle.proof_two.specs.Kinds.{TroubleIn}
 use Rattle.proof_two.specs.Spelling.{spelling_two}
 use Rattle.proof_two.specs.Versions.{TroubleIsAny, is_two}
-use Rattle.proof_two.proofs.Apart as two_apart
-use Rattle.proof_two.proofs.Either.{any_faultless, any_trouble}
+use Rattle.proof_two.proofs.api.Apart as two_apart
+use Rattle.proof_two.proofs.api.Either.{any_faultless, any_trouble}
 use Rattle.gkr_verify.specs.ShortProof.{filled}
 use Rattle.case_text.specs.Content.{Content}
 use Rattle.case_prove.specs.Started.{start_of}
 use Rattle.case_prove.specs.Verified.{Says, proof_form}
-use Rattle.case_prove.proofs.ReadProofs.{one_value}
+use Rattle.case_prove.proofs.api.ReadProofs.{one_value}
 
 -- the form that the fourth byte of some bytes names
 abbrev form_there : Option (List ℕ) → ProofForm

@@ -10,23 +10,23 @@ use Rattle.std.proofs.lemmas.List.Sums.{sum_by-cons}
 use Rattle.field_ext.specs.Field.{F}
 use Rattle.circuit_core.specs.Parts.{Parts, height}
 use Rattle.circuit_core.specs.Sound.{SoundCircuit, exponent_at, exponents}
-use Rattle.circuit_core.proofs.Faultless.{none_from_test, height_bounds, width_power, exponents_bounded}
+use Rattle.circuit_core.proofs.api.Faultless.{none_from_test, height_bounds, width_power, exponents_bounded}
 use Rattle.proof_wire.specs.declared.form.ProofForm.{ProofForm}
 use Rattle.proof_wire.specs.declared.form.ProofForm.TheVariants.{Line, Pair}
 use Rattle.proof_wire.specs.Forms.{last_degree}
 use Rattle.proof_wire.specs.Spelling.{coefficient_count, length_of}
 use Rattle.proof_wire.specs.declared.messages.Messages.{Messages}
 use Rattle.proof_wire.specs.Lists.{HaveShape}
-use Rattle.proof_wire.proofs.Lengths as wire_lengths
+use Rattle.proof_wire.proofs.api.Lengths as wire_lengths
 use Rattle.proof_two.specs.declared.kind.ProofKind.{ProofKind}
 use Rattle.proof_two.specs.declared.kind.ProofKind.TheVariants.{ByLines, ByPairs}
 use Rattle.proof_two.specs.declared.kind.ProofVersion.TheVariants.{One, Two}
 use Rattle.proof_two.specs.Kinds.{form_in, kind_spelling}
 use Rattle.proof_two.specs.Lists.{shortened}
 use Rattle.proof_two.specs.Spelling.{element_count}
-use Rattle.proof_two.proofs.Lengths as two_lengths
-use Rattle.proof_two.proofs.Shortened.{short_shape}
-use Rattle.gkr_layers.proofs.Shapes.{outputs_room}
+use Rattle.proof_two.proofs.api.Lengths as two_lengths
+use Rattle.proof_two.proofs.api.Shortened.{short_shape}
+use Rattle.gkr_layers.proofs.api.Shapes.{outputs_room}
 use Rattle.case_text.specs.Content.{Fits}
 
 pub few_outputs : (c : SoundCircuit) → c.parts.outputs ≤ 65535

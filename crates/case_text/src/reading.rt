@@ -174,7 +174,7 @@ pub fn case_of(alloc: Global, form: Form, bytes: &[u8]) -> Result<(Case, &[u8]),
 }
 
 /// Takes a case, after which nothing comes.
-#[tactic(auto, using(crate::proofs::Whole::rest_follows))]
+#[tactic(auto, using(crate::proofs::api::Whole::rest_follows))]
 fn whole(alloc: Global, form: Form, bytes: &[u8]) -> Result<Case, ReadError>
     ensures { Gives (λ c. c) result (case_in form bytes.now) }
 {
@@ -199,7 +199,7 @@ fn placed(alloc: Global, form: Form, bytes: &[u8]) -> Result<Case, CaseRefused>
 ///
 /// `Bad` comes where they spell none, with the place of the first byte that isn't taken and what was due there.
 /// `Memory` comes where memory for its lists runs out.
-#[tactic(auto, using(crate::proofs::Readings::case_found, crate::proofs::Readings::case_only))]
+#[tactic(auto, using(crate::proofs::api::Readings::case_found, crate::proofs::api::Readings::case_only))]
 pub fn read_case(alloc: Global, bytes: &[u8], form: Form) -> Result<Case, CaseRefused>
     // What is read is spelled so.
     ensures found { IfOk result (λ c. Spells form bytes.now c) }

@@ -8,7 +8,7 @@ use Rattle.std.specs.List.Sorted.{IsPermutation}
 use Rattle.std.proofs.lemmas.List.{append-nil}
 use Rattle.std.proofs.lemmas.List.Elements.{All-head, All-tail}
 use Rattle.tallies.specs.Tallies.{total, times, once_below, HasEachOnce}
-use Rattle.tallies.proofs.Once.{times-append, split_at, once_suc, drawn_full, once_permutation, empty}
+use Rattle.tallies.proofs.api.Once.{times-append, split_at, once_suc, drawn_full, once_permutation, empty}
 use Rattle.chunk_board.specs.ClaimMachine.{Worker, Phase, start, ClaimStep, IsAt, pieces_of, outputs_of, IsRun, AllStopped, AllWorked, drawn_by, result_at, sum_with}
 use Rattle.chunk_board.proofs.Machine.{reached_sound}
 

@@ -1,6 +1,5 @@
-pub mod Machine
-pub mod Interleavings
-pub mod Steps
-pub mod Emptying
-pub mod PartSteps
-pub mod PartEnds
+pub mod api
+mod Machine
+mod Interleavings
+mod Steps
+mod PartEnds

@@ -10,8 +10,8 @@ use mathlib.Core.Option.{some, some-injective, some-ne-none}
 use lib.ListN.{get_elem?}
 use Rattle.atomic_table.proofs.Lists.{set_else}
 use Rattle.tallies.specs.Tallies.{times, once_below}
-use Rattle.tallies.proofs.Totals.{total_set, total_snoc, one_le, each_set, each_snoc}
-use Rattle.tallies.proofs.Once.{times-append, draws, drawn_all}
+use Rattle.tallies.proofs.api.Totals.{total_set, total_snoc, one_le, each_set, each_snoc}
+use Rattle.tallies.proofs.api.Once.{times-append, draws, drawn_all}
 use Rattle.chunk_board.specs.ClaimMachine.{Worker, worker, Phase, start, ClaimStep, Claim, Work, Split, Join, claiming, keeping, given, joining, gone, pieces_of, IsStep, IsRun, drawn_by, stopped_shares, IsRule, AreResults}
 
 module _ (n shares next : ℕ) (ws : List Worker) (i : ℕ) (v : Worker) (some_share : 0 < v.shares) (going : v.stopped ≡ false) (at : get_elem? ws i ≡ some v) (b : IsRule n shares next ws) where

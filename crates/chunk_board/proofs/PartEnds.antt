@@ -9,13 +9,13 @@ use Rattle.std.proofs.lemmas.List.{length-map}
 use Rattle.atomic_table.specs.Table.{opening, Final, Seen}
 use Rattle.atomic_table.proofs.Lists.{at_map}
 use Rattle.tallies.specs.Tallies.{total, times, once_below}
-use Rattle.tallies.proofs.Totals.{whole}
-use Rattle.tallies.proofs.Once.{counted_once}
+use Rattle.tallies.proofs.api.Totals.{whole}
+use Rattle.tallies.proofs.api.Once.{counted_once}
 use Rattle.chunk_board.specs.declared.part_rule.PartHand.{PartHand}
 use Rattle.chunk_board.specs.declared.part_rule.PartPlan.{PartPlan}
 use Rattle.chunk_board.specs.PartHands.{Homes, holding, worker_in, number_of, FitsHomes, IsPartBoard, IsHomeOrHeld, KeptParts, newcomer}
-use Rattle.chunk_board.proofs.PartSteps.{rule, drawn_in}
-use Rattle.chunk_board.proofs.Emptying.{at_there, within}
+use Rattle.chunk_board.proofs.api.PartSteps.{rule, drawn_in}
+use Rattle.chunk_board.proofs.api.Emptying.{at_there, within}
 
 not_yet : (k next n : ℕ) → next ≤ k → once_below k (min next n) ≡ 0
 not_yet k next n h = grind (arith, nat_tests)

@@ -9,8 +9,8 @@ use lib.ListN.{get_elem?}
 use Rattle.atomic_table.specs.Table.{State, Me, step, keeps, Allows}
 use Rattle.atomic_table.proofs.Lists.{at_set, at_map, set_again, set_here}
 use Rattle.tallies.specs.Tallies.{total, times, once_below}
-use Rattle.tallies.proofs.Totals.{one_le, inside, whole}
-use Rattle.tallies.proofs.Once.{few}
+use Rattle.tallies.proofs.api.Totals.{one_le, inside, whole}
+use Rattle.tallies.proofs.api.Once.{few}
 use Rattle.chunk_board.specs.declared.rule.Hand.{Hand}
 use Rattle.chunk_board.specs.declared.rule.Plan.{Plan}
 use Rattle.chunk_board.specs.ClaimMachine.{Worker, worker, phase, start, ClaimStep, Claim, Split, Join, claiming, gone, IsStep, IsRun, AllDrawn, stopped_shares, IsRule, AreResults}

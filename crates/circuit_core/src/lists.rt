@@ -184,7 +184,7 @@ impl Lists {
         self.first_leaf_fault()
     }
 
-    #[tactic(auto, using(crate::proofs::First::firsts))]
+    #[tactic(auto, using(crate::proofs::api::First::firsts))]
     fn first_width_fault(&self) -> Option<BadCircuit>
         ensures { result ≡ first_below (height self.now + 1) (width_fault greatest self.now) }
     {
@@ -196,7 +196,7 @@ impl Lists {
         None
     }
 
-    #[tactic(auto, using(crate::proofs::First::firsts))]
+    #[tactic(auto, using(crate::proofs::api::First::firsts))]
     fn first_zero_fault(&self) -> Option<BadCircuit>
         ensures { result ≡ first_at_gate self.now (zero_fault self.now) }
     {
@@ -208,7 +208,7 @@ impl Lists {
         None
     }
 
-    #[tactic(auto, using(crate::proofs::First::firsts))]
+    #[tactic(auto, using(crate::proofs::api::First::firsts))]
     fn layer_zero_fault(&self, layer: usize) -> Option<BadCircuit>
         requires { layer < height self.now }
         ensures { result ≡ first_below (width_of self.now layer) (zero_fault self.now layer) }
@@ -221,7 +221,7 @@ impl Lists {
         None
     }
 
-    #[tactic(auto, using(crate::proofs::First::firsts))]
+    #[tactic(auto, using(crate::proofs::api::First::firsts))]
     fn first_operand_fault(&self) -> Option<BadCircuit>
         ensures { result ≡ first_at_gate self.now (operand_fault self.now) }
     {
@@ -233,7 +233,7 @@ impl Lists {
         None
     }
 
-    #[tactic(auto, using(crate::proofs::First::firsts))]
+    #[tactic(auto, using(crate::proofs::api::First::firsts))]
     fn layer_operand_fault(&self, layer: usize) -> Option<BadCircuit>
         requires { layer < height self.now }
         ensures { result ≡ first_below (width_of self.now layer) (operand_fault self.now layer) }
@@ -246,7 +246,7 @@ impl Lists {
         None
     }
 
-    #[tactic(auto, using(crate::proofs::First::firsts))]
+    #[tactic(auto, using(crate::proofs::api::First::firsts))]
     fn first_leaf_fault(&self) -> Option<BadCircuit>
         ensures { result ≡ first_below (length self.now.leaves) (leaf_fault self.now) }
     {
@@ -274,7 +274,7 @@ impl Lists {
 }
 
 /// The k with `width = 2^k`, where a layer may have this width.
-#[tactic(auto, using(crate::proofs::First::firsts))]
+#[tactic(auto, using(crate::proofs::api::First::firsts))]
 pub fn exponent_of(width: usize) -> Option<u32>
     ensures { result ≡ exponent_of greatest width }
 {

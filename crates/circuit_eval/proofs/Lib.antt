@@ -1,1 +1,1 @@
-pub mod LayerTables
+pub mod api

@@ -1,1 +1,1 @@
-pub mod Outs
+mod Outs

@@ -3,10 +3,10 @@ use Rattle.std.proofs.Common.{◌≡◌, ◌≢◌, ℕ, zero, suc, ◌+◌, ◌
 use mathlib.Core.Logic.{dite}
 use native.Mathlib.Decide.{ℕ_discrete}
 use Rattle.std.proofs.lemmas.Option.{slice_get_past, slice_get-get_or}
-use Rattle.chunk_board.proofs.Emptying.{there_last, there_before}
+use Rattle.chunk_board.proofs.api.Emptying.{there_last, there_before}
 use Rattle.part_relay.specs.Relays.{RelayView, SenderView}
 use Rattle.crew.specs.Crews.{ServeAll, AllHome, AreOut}
-use Rattle.chunk_board.proofs.PartSteps.{no_some}
+use Rattle.chunk_board.proofs.api.PartSteps.{no_some}
 
 one_some : {A : Type 0} {a b : A} → Some a ≡ Some b → a ≡ b
 one_some e = cc

@@ -2,8 +2,8 @@
 use Rattle.std.proofs.Common.{◌≡◌, ℕ, ◌+◌, ◌*◌, ap, subst, arith}
 use Rattle.field_ext.specs.Ring.{Laws}
 use Rattle.field_ext.specs.Field.{prime, F, of, add_f, mul_f, neg_f, f_ops}
-use Rattle.field_ext.proofs.Prime.{same_rem}
-use Rattle.field_ext.proofs.Elements.{of_self, of_same, add-of, mul-of, neg-of}
+use Rattle.field_ext.proofs.api.Prime.{same_rem}
+use Rattle.field_ext.proofs.api.Elements.{of_self, of_same, add-of, mul-of, neg-of}
 
 F_ind : (P : F → Type 0) → ((n : ℕ) → P (of n)) → (a : F) → P a
 F_ind P h a = subst P (of_self a) (h a.value)

@@ -3,7 +3,7 @@ use Rattle.std.proofs.Common.{◌≡◌, ℕ, zero, suc, ◌+◌, ◌*◌, ◌/�
 use Rattle.std.proofs.Math.Nat.{zero-mod, div-add-mod, add-mul-mod_self_left, mul-mod_right, add-mod, le_of_mul-le-mul_left}
 use Rattle.std.proofs.lemmas.Bool.{cases_lt, cases_eq}
 use Rattle.std.proofs.lemmas.Nat.{mul-mod_first}
-use Rattle.field_ext.proofs.Prime.{apart, same_rem}
+use Rattle.field_ext.proofs.api.Prime.{apart, same_rem}
 
 step_squares : (m q a b r s t k1 k2 u v : ℕ) → b * q + r ≡ a → m * k1 ≡ a * a + s * s → m * k2 ≡ b * b + t * t → a * b + m * u ≡ s * t + m * v →
     r * r + (s + q * t) * (s + q * t) + m * (2 * q * v) ≡ 0 + m * (k1 + q * q * k2 + 2 * q * u)

@@ -1,11 +1,3 @@
-pub mod Prime
-pub mod Inverse
-pub mod Elements
-pub mod Words
-pub mod FLaws
-pub mod KLaws
-pub mod Embedding
-pub mod ElementBytes
-pub mod Rings
-pub mod Solve
-pub mod Sums
+pub mod api
+mod Inverse
+mod FLaws

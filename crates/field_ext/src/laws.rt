@@ -6,14 +6,14 @@ ghost use Rattle.field_ext.specs.Ring.{Laws};
 ghost use Rattle.field_ext.specs.Bytes.{bytes_of};
 
 /// The elements of F_p are a commutative ring, and those of K are.
-#[tactic(auto, using(crate::proofs::FLaws::f_laws, crate::proofs::KLaws::k_laws))]
+#[tactic(auto, using(crate::proofs::FLaws::f_laws, crate::proofs::api::KLaws::k_laws))]
 pub fn ring()
     ensures prime { Laws F f_ops }
     ensures extension { Laws K k_ops }
 {}
 
 /// A product of elements other than zero is not zero.
-#[tactic(auto, using(crate::proofs::KLaws::k_no_zero_divisors))]
+#[tactic(auto, using(crate::proofs::api::KLaws::k_no_zero_divisors))]
 pub fn no_zero_divisors()
     ensures { (x y : K) → mul_k x y ≡ zero_k → (x ≡ zero_k) ⊎ (y ≡ zero_k) }
 {}

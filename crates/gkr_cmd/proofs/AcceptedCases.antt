@@ -16,7 +16,7 @@ use Rattle.gkr_words.specs.declared.words.CaseCommand.TheVariants.{Verify}
 use Rattle.gkr_words.specs.declared.words.Command.TheVariants.{OfCase}
 use Rattle.gkr_cmd.specs.Replies.{IsCommandReply, IsOfCase, IsVerifyAnswer, status_of}
 use Rattle.gkr_cmd.specs.Reported.{verdict_line}
-use Rattle.case_prove.proofs.AcceptedProofs.{meets, verdict_on}
+use Rattle.case_prove.proofs.api.AcceptedProofs.{meets, verdict_on}
 use Rattle.gkr_cmd.proofs.OneReply.{Found, found, long, no_case, of_case}
 use Rattle.gkr_cmd.proofs.ProofRefusals.{refusal_undone}
 use Rattle.gkr_cmd.proofs.VerifyAnswers.{Answer, answer, no_verdict, verdict}

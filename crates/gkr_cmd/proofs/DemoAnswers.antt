@@ -14,7 +14,7 @@ use Rattle.gkr_cmd.proofs.CircuitAnswers.{IsOne}
 use Rattle.proof_two.specs.declared.kind.ProofKind.TheVariants.{ByLines}
 use Rattle.proof_two.specs.declared.kind.ProofVersion.TheVariants.{One}
 use Rattle.gkr_cmd.proofs.ProveAnswers.{IsOneProved}
-use Rattle.case_prove.proofs.ReadProofs.{one_value as same_some}
+use Rattle.case_prove.proofs.api.ReadProofs.{one_value as same_some}
 
 head_is : {A : Type 0} (x y : A) (xs ys : List A) → x ∷ xs ≡ y ∷ ys → x ≡ y
 head_is x y xs ys e = cc

@@ -9,13 +9,13 @@ use Rattle.field_ext.specs.Field.{of}
 use Rattle.circuit_core.specs.Sound.{greatest}
 use Rattle.gkr_cmd.specs.Demo.{demo_case, demo_size}
 use Rattle.gkr_cmd.specs.Runs.{HasCircuit}
-use Rattle.circuit_core.proofs.Faultless.{unless_true}
-use Rattle.circuit_core.proofs.First.{none_from_each}
+use Rattle.circuit_core.proofs.api.Faultless.{unless_true}
+use Rattle.circuit_core.proofs.api.First.{none_from_each}
 use Rattle.layer_compile.specs.Circuits.{circuit_of, refusal_of, too_wide}
 use Rattle.layer_compile.specs.Levels.{height_of}
 use Rattle.layer_compile.specs.Rows.{row, is_at}
-use Rattle.layer_compile.proofs.Refusals.{accepted}
-use Rattle.arr_compile.proofs.SumLevels.{IsLow, length-adds, leaf-low, leaves-low, matmul-low, sum-low}
+use Rattle.layer_compile.proofs.api.Refusals.{accepted}
+use Rattle.arr_compile.proofs.api.SumLevels.{IsLow, length-adds, leaf-low, leaves-low, matmul-low, sum-low}
 use Rattle.arr_ast.specs.declared.expression.SingleFunction.TheVariants.{Sum}
 use Rattle.arr_ast.specs.declared.expression.PairFunction.TheVariants.{MatMul}
 use Rattle.arr_ast.specs.declared.program.Dimensions.TheVariants as dimensions
@@ -34,14 +34,14 @@ use Rattle.arr_run.specs.Program.{after_input, after_top, if_any_output, input_s
 use Rattle.arr_run.specs.Scope.{Names, binding_of}
 use Rattle.arr_run.specs.Shape.{size_of, pair_shape, single_shape}
 use Rattle.arr_run.specs.Statement.{State, state, if_free}
-use Rattle.arr_run.proofs.Answered.{bind_ok, same_ok}
-use Rattle.arr_run.proofs.InputNodes.{input_shape-declared}
+use Rattle.arr_run.proofs.api.Answered.{bind_ok, same_ok}
+use Rattle.arr_run.proofs.api.InputNodes.{input_shape-declared}
 use Rattle.node_core.specs.declared.node.Node.{Node}
 use Rattle.node_core.specs.declared.node.Node.TheVariants.{Input}
 use Rattle.node_core.specs.Nodes.{Nodes}
 use Rattle.arr_lower.specs.Operations.{Made, MadeOne, matmul_nodes, sum_node}
 use Rattle.arr_lower.specs.Lowering.{Kept, nodes, nodes_at_end, nodes_of}
-use Rattle.arr_lower.proofs.Counted.{has_nodes}
+use Rattle.arr_lower.proofs.api.Counted.{has_nodes}
 use Rattle.gkr_cmd.proofs.DemoPrograms.{demo_tree, tree_of, digits_of, square_at, name_at, size_at, alone, total_at, accepted as text_accepted}
 
 abbrev count : ℕ → ℕ

@@ -13,7 +13,7 @@ use Rattle.arr_run.specs.Program.{input_count}
 use Rattle.arr_compile.specs.Programs.{IsRead}
 use Rattle.arr_compile.specs.Circuits.{IsCompiled, Computes}
 use Rattle.arr_eval.specs.Meaning.{meaning}
-use Rattle.arr_lower.proofs.Counted.{is-list}
+use Rattle.arr_lower.proofs.api.Counted.{is-list}
 use Rattle.gkr_layers.specs.declared.verdict.Verdict.TheVariants.{Accepted}
 use Rattle.case_text.specs.Content.{Content, Fits}
 use Rattle.case_text.specs.Sizes.{Sizes}
@@ -25,7 +25,7 @@ use Rattle.proof_two.specs.declared.kind.ProofVersion.TheVariants.{One}
 use Rattle.case_prove.specs.Proved.{IsProved}
 use Rattle.case_prove.specs.Verified.{IsVerdictOn}
 use Rattle.gkr_cmd.specs.Demo.{HasFirst, IsDemo, square_text, demo_case, demo_size, demo_program, demo_inputs}
-use Rattle.case_prove.proofs.ReadProofs.{one_value as same_some}
+use Rattle.case_prove.proofs.api.ReadProofs.{one_value as same_some}
 
 -- ---- the case has a text
 

@@ -21,7 +21,7 @@ use Rattle.case_prove.specs.declared.refused.Refused.TheVariants as refusals
 use Rattle.gkr_cmd.specs.declared.status.Status.TheVariants.{Done}
 use Rattle.gkr_cmd.specs.Replies.{IsProofRefusal, status_of}
 use Rattle.gkr_cmd.proofs.CircuitAnswers.{IsOne, reply_to, same_counts, counted_or_not}
-use Rattle.case_prove.proofs.ReadProofs.{one_value}
+use Rattle.case_prove.proofs.api.ReadProofs.{one_value}
 
 -- a proof says messages in one form alone, and there the same messages, or it has one first trouble
 pub record IsOneProof : Type 0 where

@@ -18,7 +18,7 @@ use Rattle.gkr_words.specs.declared.words.Command.{Command}
 use Rattle.gkr_words.specs.declared.words.Command.TheVariants.{OfCase}
 use Rattle.gkr_cmd.specs.Replies.{IsCommandReply, IsOfCase, status_of}
 use Rattle.case_prove.specs.Answers.{IsProveAnswer}
-use Rattle.case_prove.proofs.AcceptedProofs.{meets}
+use Rattle.case_prove.proofs.api.AcceptedProofs.{meets}
 use Rattle.gkr_cmd.proofs.OneReply.{Found, found, long, no_case, of_case}
 use Rattle.gkr_cmd.proofs.ProveAnswers.{Answer, answer, refused, miscounted, proved}
 use Rattle.gkr_cmd.proofs.OneReply.{same_case as one_case}

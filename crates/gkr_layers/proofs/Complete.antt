@@ -4,8 +4,8 @@ use Rattle.field_ext.specs.Ring.{Ops, Laws}
 use Rattle.field_ext.specs.Field.{K, k_ops}
 use Rattle.field_ext.specs.Polynomial.{value_at, coefficients}
 use Rattle.field_ext.specs.Sums.{sum_cube}
-use Rattle.field_ext.proofs.KLaws.{k_laws}
-use Rattle.mle_table.proofs.SumLaws.{sum_cube-same}
+use Rattle.field_ext.proofs.api.KLaws.{k_laws}
+use Rattle.mle_table.proofs.api.SumLaws.{sum_cube-same}
 use Rattle.gkr_layers.specs.Sumcheck.{RoundsHold, round_polynomial}
 use Rattle.gkr_layers.specs.Layers.{GateLayer, values_over, FitTogether, message_count, next_place, LayersHold}
 use Rattle.gkr_layers.specs.Places.{Place, IsOver, value_over, weighted_summand_from, weighted_summand_at}
@@ -13,10 +13,10 @@ use Rattle.proof_wire.specs.declared.form.ProofForm.{ProofForm}
 use Rattle.proof_wire.specs.Forms.{last_degree}
 use Rattle.gkr_layers.specs.Forms.{last_polynomial}
 use Rattle.gkr_layers.specs.Honest.{AreHonest}
-use Rattle.gkr_layers.proofs.Coefficients.{value-coefficients}
-use Rattle.gkr_layers.proofs.PlaceSums.{place_sum, value-round_polynomial}
-use Rattle.gkr_layers.proofs.Degree.{length-round_polynomial, length-last}
-use Rattle.gkr_layers.proofs.Forms.{place_over, value-last, said_left_by_values, said_right_by_values}
+use Rattle.gkr_layers.proofs.api.Coefficients.{value-coefficients}
+use Rattle.gkr_layers.proofs.api.PlaceSums.{place_sum, value-round_polynomial}
+use Rattle.gkr_layers.proofs.api.Degree.{length-round_polynomial, length-last}
+use Rattle.gkr_layers.proofs.api.Forms.{place_over, value-last, said_left_by_values, said_right_by_values}
 
 module _ {A : Type 0} (o : Ops A) (l : Laws A o) where
   -- rounds whose values are sums over the coordinates that are left

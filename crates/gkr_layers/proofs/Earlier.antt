@@ -5,7 +5,7 @@ use Rattle.field_ext.specs.Field.{K, k_ops, zero_k}
 use Rattle.gkr_layers.specs.Sumcheck.{IsExceptionalFor, difference, IsExceptionalFold, round_polynomial}
 use Rattle.gkr_layers.specs.Layers.{GateLayer, values_over, next_place, IsExceptional}
 use Rattle.gkr_layers.specs.Acceptance.{CircuitClaim, true_table}
-use Rattle.gkr_layers.proofs.Lists.{from_one, from_other, to_one, to_other, drop-take}
+use Rattle.gkr_layers.proofs.api.Lists.{from_one, from_other, to_one, to_other, drop-take}
 use Rattle.gkr_layers.specs.Places.{Place}
 use Rattle.gkr_layers.specs.Places.Place.{At}
 use Rattle.proof_wire.specs.declared.form.ProofForm.{ProofForm}

@@ -8,20 +8,20 @@ use Rattle.std.proofs.lemmas.Bool.{cases_lt, cases_eq}
 use Rattle.std.specs.Prelude.{sum}
 use Rattle.field_ext.specs.Field.{K, k_ops}
 use Rattle.field_ext.specs.Polynomial.{HasAtMost}
-use Rattle.field_ext.proofs.KLaws.{k_laws, k_same, k_no_zero_divisors}
+use Rattle.field_ext.proofs.api.KLaws.{k_laws, k_same, k_no_zero_divisors}
 use Rattle.gkr_layers.specs.Sumcheck.{IsExceptionalFor, difference, IsExceptionalFold, round_polynomial}
 use Rattle.gkr_layers.specs.Layers.{GateLayer, values_over, total_exponent, next_place, IsExceptional, message_count}
 use Rattle.gkr_layers.proofs.Soundness.{few_exceptional}
 use Rattle.gkr_layers.proofs.Output.{few_output}
 use Rattle.gkr_layers.specs.Acceptance.{CircuitClaim, true_table, output_place, challenge_count}
-use Rattle.gkr_layers.proofs.Lists.{drop-take}
+use Rattle.gkr_layers.proofs.api.Lists.{drop-take}
 use Rattle.gkr_layers.specs.Places.{Place}
 use Rattle.proof_wire.specs.declared.form.ProofForm.{ProofForm}
 use Rattle.proof_wire.specs.Forms.{last_degree}
 use Rattle.gkr_layers.specs.Forms.{last_polynomial}
 use Rattle.proof_wire.specs.declared.form.ProofForm.TheVariants.{Line, Pair}
 use Rattle.gkr_layers.specs.Soundness.{IsExceptionalChallenge, layer_bounds, bounds_of, bounds, bound, sum_of_bounds, HaveDegrees}
-use Rattle.gkr_layers.proofs.Degree.{length-round_polynomial, length-last}
+use Rattle.gkr_layers.proofs.api.Degree.{length-round_polynomial, length-last}
 
 few_none : (d : ℕ) → HasAtMost d (λ (v : K). ⊥)
 few_none d [] distinct all = omega arith

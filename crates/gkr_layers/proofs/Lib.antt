@@ -1,23 +1,10 @@
-pub mod Lists
-pub mod RoundPoly
-pub mod PlaceSums
-pub mod Soundness
-pub mod Lines
-pub mod Degree
-pub mod Coefficients
-pub mod Output
-pub mod Circuits
-pub mod Widths
-pub mod Forms
-pub mod SoundLayers
-pub mod Accepted
-pub mod Answers
-pub mod Earlier
-pub mod Few
-pub mod Sound
-pub mod Shapes
-pub mod Outputs
-pub mod Complete
-pub mod Honest
-pub mod Unique
-pub mod Passing
+pub mod api
+mod Soundness
+mod Output
+mod Widths
+mod SoundLayers
+mod Earlier
+mod Few
+mod Complete
+mod Unique
+mod Passing

@@ -6,12 +6,12 @@ use Rattle.field_ext.specs.Polynomial.{IsZero, Distinct, HasAtMost}
 use Rattle.field_ext.specs.Sums.{sum_below}
 use Rattle.field_ext.specs.Multilinear.{eq_poly, extension_at, folded, folded_all}
 use Rattle.gkr_layers.specs.Sumcheck.{difference, IsExceptionalFold}
-use Rattle.field_ext.proofs.Rings.{zero_add, add_cancel}
-use Rattle.field_ext.proofs.Solve.{var, nil, ◌⊕◌, ◌⊗◌, minus, solve}
-use Rattle.poly_roots.proofs.Roots.{few_roots}
-use Rattle.mle_table.proofs.Fold.{fold_law}
-use Rattle.mle_table.proofs.Points.{ext-nil}
-use Rattle.mle_table.proofs.Steps.{length-fold}
+use Rattle.field_ext.proofs.api.Rings.{zero_add, add_cancel}
+use Rattle.field_ext.proofs.api.Solve.{var, nil, ◌⊕◌, ◌⊗◌, minus, solve}
+use Rattle.poly_roots.proofs.api.Roots.{few_roots}
+use Rattle.mle_table.proofs.api.Fold.{fold_law}
+use Rattle.mle_table.proofs.api.Points.{ext-nil}
+use Rattle.mle_table.proofs.api.Steps.{length-fold}
 
 module _ {A : Type 0} (o : Ops A) (l : Laws A o) (same : (x y : A) → (x ≡ y) ⊎ (x ≡ y → ⊥)) where
   abbrev Z : A → Type 0

@@ -6,13 +6,13 @@ use Rattle.field_ext.specs.Polynomial.{HasAtMost}
 use Rattle.gkr_layers.specs.declared.verdict.Verdict.TheVariants.{Accepted}
 use Rattle.gkr_layers.specs.Acceptance.{true_table, verdict_of}
 use Rattle.gkr_layers.specs.Soundness.{IsExceptionalChallenge, HaveDegrees}
-use Rattle.field_ext.proofs.KLaws.{k_same}
+use Rattle.field_ext.proofs.api.KLaws.{k_same}
 use Rattle.gkr_layers.specs.Examples.{number, zero_for_five, false_round_messages, false_round_challenges, false_line_messages, false_line_challenges, thirteen_for_twelve, true_product_messages, zero_challenges, five_for_five, true_pair_messages, true_pair_challenges, zero_for_five_by_pair, false_pair_messages, false_pair_challenges}
 use Rattle.gkr_layers.specs.Places.{value_over}
 use Rattle.gkr_layers.specs.Places.Place.{AtBoth}
 use Rattle.proof_wire.specs.declared.form.ProofForm.TheVariants.{Pair}
 use Rattle.gkr_layers.proofs.Few.{few_challenges}
-use Rattle.gkr_layers.proofs.Accepted.{equal, unequal}
+use Rattle.gkr_layers.proofs.api.Accepted.{equal, unequal}
 
 pub round_accepted : verdict_of zero_for_five false_round_messages false_round_challenges ≡ Accepted
 unfolding of

@@ -9,12 +9,12 @@ use Rattle.wiring_poly.specs.Wiring.{values_above}
 use Rattle.gkr_layers.specs.Sumcheck.{RoundsHold, IsExceptionalFor, round_polynomial}
 use Rattle.gkr_layers.specs.Layers.{GateLayer, values_over, FitTogether, message_count, next_place, LayersHold, IsExceptional}
 use Rattle.gkr_layers.proofs.Soundness.{SomeExceptional, sound_rounds}
-use Rattle.gkr_layers.proofs.Lists.{to_one, to_other}
+use Rattle.gkr_layers.proofs.api.Lists.{to_one, to_other}
 use Rattle.gkr_layers.specs.Places.{Place, IsOver, value_over, weighted_summand_from, weighted_summand_at}
 use Rattle.proof_wire.specs.declared.form.ProofForm.{ProofForm}
 use Rattle.gkr_layers.specs.Forms.{said_left, said_right, last_polynomial, place_between}
-use Rattle.gkr_layers.proofs.PlaceSums.{place_sum, value-round_polynomial}
-use Rattle.gkr_layers.proofs.Forms.{place_over, value-last, true_left, true_right}
+use Rattle.gkr_layers.proofs.api.PlaceSums.{place_sum, value-round_polynomial}
+use Rattle.gkr_layers.proofs.api.Forms.{place_over, value-last, true_left, true_right}
 
 module _ {A : Type 0} (o : Ops A) (l : Laws A o) (same : (x y : A) → (x ≡ y) ⊎ (x ≡ y → ⊥)) where
   -- the place of an exceptional round

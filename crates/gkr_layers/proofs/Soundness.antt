@@ -7,11 +7,11 @@ use Rattle.field_ext.specs.Ring.{Ops, Laws}
 use Rattle.field_ext.specs.Polynomial.{value_at, sum_of, IsZero, SamePolynomial, HasAtMost}
 use Rattle.field_ext.specs.Sums.{sum_cube}
 use Rattle.gkr_layers.specs.Sumcheck.{RoundsHold, IsExceptionalFor}
-use Rattle.field_ext.proofs.Rings.{mul_zero, neg-zero, add_cancel, zero_add}
-use Rattle.poly_roots.proofs.Values.{value-sum}
-use Rattle.poly_roots.proofs.Roots.{few_roots}
-use Rattle.mle_table.proofs.SumLaws.{sum_cube-same}
-use Rattle.gkr_layers.proofs.RoundPoly.{value-neg}
+use Rattle.field_ext.proofs.api.Rings.{mul_zero, neg-zero, add_cancel, zero_add}
+use Rattle.poly_roots.proofs.api.Values.{value-sum}
+use Rattle.poly_roots.proofs.api.Roots.{few_roots}
+use Rattle.mle_table.proofs.api.SumLaws.{sum_cube-same}
+use Rattle.gkr_layers.proofs.api.RoundPoly.{value-neg}
 
 module _ {A : Type 0} (o : Ops A) where
   pub length-sum : (p q : List A) (n : ℕ) → length p ≤ n → length q ≤ n → length (sum_of o p q) ≤ n

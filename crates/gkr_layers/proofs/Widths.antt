@@ -3,7 +3,7 @@ use Rattle.std.proofs.Common.{◌≡◌, ℕ, ◌+◌, ◌<◌, ◌≤◌, ap, a
 use Rattle.circuit_core.specs.Parts.{Parts, height}
 use Rattle.circuit_core.specs.Sound.{exponent_at}
 use Rattle.gkr_layers.specs.Layers.{layers_of, layers_below, total_exponent}
-use Rattle.gkr_layers.proofs.Circuits.{below_more, below_none}
+use Rattle.gkr_layers.proofs.api.Circuits.{below_more, below_none}
 
 pub width_more : (p : Parts) (i width : ℕ) → i < height p → width + total_exponent (layers_below p i) ≡ total_exponent (layers_of p) → width + exponent_at p (i + 1) + total_exponent (layers_below p (i + 1)) ≡ total_exponent (layers_of p)
 width_more p i width u h =

@@ -51,7 +51,7 @@ pub fn degrees()
 {}
 
 /// The answer is `Accepted` exactly where every equation holds.
-#[tactic(auto, using(crate::proofs::Accepted::accepted_exactly))]
+#[tactic(auto, using(crate::proofs::api::Accepted::accepted_exactly))]
 pub fn accepted_exactly()
     ensures { (stated : CircuitClaim) (qs : List (List K)) (rs : List K)
         → length qs ≡ message_count stated.layers → length rs ≡ challenge_count stated

@@ -2,7 +2,7 @@
 use Rattle.std.proofs.Common.{◌≡◌, ℕ, suc, ◌+◌, ◌-◌, ◌<◌, List, IsTrue, subst, arith}
 use Rattle.field_ext.specs.Field.{K}
 use Rattle.transcript_fs.specs.Source.{Source}
-use Rattle.transcript_fs.proofs.Draws.{has_any}
+use Rattle.transcript_fs.proofs.api.Draws.{has_any}
 
 module _ (source : Source) (s : List ℕ) (message : List K) (n i : ℕ) (u : i < n) (h : IsTrue (source.has s (n - i))) where
   absorbed : IsTrue (source.has (source.absorb s message) (suc (n - (i + 1))))

@@ -7,7 +7,7 @@ use Rattle.circuit_core.specs.declared.gate.CircuitGate.{CircuitGate}
 use Rattle.gkr_layers.specs.Sumcheck.{round_polynomial}
 use Rattle.gkr_layers.specs.Forms.{last_polynomial, place_between}
 use Rattle.proof_wire.specs.Forms.{last_degree}
-use Rattle.wiring_poly.proofs.Identity.{take-front}
+use Rattle.wiring_poly.proofs.api.Identity.{take-front}
 use Rattle.transcript_fs.specs.Source.{Source, draws, state_after}
 use Rattle.gkr_layers.specs.Honest.{AreHonestRounds, IsHonestLayer}
 use Rattle.gkr_layers.specs.Layers.{next_place}

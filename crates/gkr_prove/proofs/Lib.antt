@@ -1,4 +1,3 @@
-pub mod HasSteps
-pub mod HonestSteps
-pub mod LayerSteps
-pub mod TableShapes
+pub mod api
+mod HasSteps
+mod HonestSteps

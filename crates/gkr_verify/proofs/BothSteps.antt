@@ -4,13 +4,13 @@ use Rattle.field_ext.specs.Ring.{Ops, Laws}
 use Rattle.field_ext.specs.Field.{K, k_ops, add_k, mul_k, zero_k}
 use Rattle.field_ext.specs.Sums.{sum_below}
 use Rattle.field_ext.specs.Multilinear.{eq_poly}
-use Rattle.field_ext.proofs.Solve.{var, nil, ◌⊕◌, ◌⊗◌, solve}
+use Rattle.field_ext.proofs.api.Solve.{var, nil, ◌⊕◌, ◌⊗◌, solve}
 use Rattle.circuit_core.specs.declared.gate.Kind.{Kind}
 use Rattle.circuit_core.specs.declared.gate.Kind.TheVariants.{Add, Mul}
 use Rattle.circuit_core.specs.declared.gate.CircuitGate.{CircuitGate}
 use Rattle.wiring_poly.specs.Wiring.{by_kind, sum_gates}
-use Rattle.wiring_poly.proofs.GateSteps.{summed_none, summed_more, summed_all}
-use Rattle.field_ext.proofs.KLaws.{k_laws}
+use Rattle.wiring_poly.proofs.api.GateSteps.{summed_none, summed_more, summed_all}
+use Rattle.field_ext.proofs.api.KLaws.{k_laws}
 
 module _ {A : Type 0} (o : Ops A) (l : Laws A o) where
   -- the factors h and k of a block at both points, with the weight a of the second, at shares of 0

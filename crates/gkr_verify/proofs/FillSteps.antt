@@ -5,7 +5,7 @@ use Rattle.std.proofs.lemmas.List.{drop_more, length-map}
 use Rattle.field_ext.specs.Field.{K, k_ops}
 use Rattle.field_ext.specs.Polynomial.{value_at}
 use Rattle.transcript_fs.specs.Source.{Source, draws, state_after}
-use Rattle.transcript_fs.proofs.Draws.{draws-append, state-append, has_any, has_front, has_behind}
+use Rattle.transcript_fs.proofs.api.Draws.{draws-append, state-append, has_any, has_front, has_behind}
 use Rattle.proof_wire.specs.declared.messages.Round.{Round}
 use Rattle.proof_wire.specs.declared.messages.LayerMessages.{LayerMessages}
 use Rattle.proof_wire.specs.Spelling.{coefficients_of}

@@ -8,8 +8,8 @@ use Rattle.transcript_fs.specs.Source.{Source, draws, state_after}
 use Rattle.gkr_layers.specs.declared.verdict.Verdict.TheVariants.{End}
 use Rattle.gkr_layers.specs.Equations.{Equation, end_equation, claim_after, sum_equations, equations, Answered, answer}
 use Rattle.gkr_verify.proofs.Choices.{first_holds, first_fails}
-use Rattle.transcript_fs.proofs.Draws.{draws-append, length-draws}
-use Rattle.gkr_layers.proofs.Lists.{front-take, next-read, rest-drop}
+use Rattle.transcript_fs.proofs.api.Draws.{draws-append, length-draws}
+use Rattle.gkr_layers.proofs.api.Lists.{front-take, next-read, rest-drop}
 use Rattle.gkr_layers.specs.Places.{Place, weighted_summand_from}
 use Rattle.proof_wire.specs.declared.form.ProofForm.{ProofForm}
 use Rattle.gkr_layers.specs.Forms.{said_left, said_right, place_between}

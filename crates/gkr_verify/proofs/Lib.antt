@@ -1,10 +1,9 @@
-pub mod GivenDraws
-pub mod Choices
-pub mod RoundSteps
-pub mod LayerSteps
-pub mod InputSteps
-pub mod TableSteps
-pub mod BothSteps
-pub mod FillSteps
-pub mod Filled
-pub mod SumSteps
+pub mod api
+mod Choices
+mod RoundSteps
+mod LayerSteps
+mod InputSteps
+mod TableSteps
+mod BothSteps
+mod FillSteps
+mod SumSteps

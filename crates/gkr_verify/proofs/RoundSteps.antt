@@ -7,7 +7,7 @@ use Rattle.proof_wire.specs.Lists.{round_messages}
 use Rattle.field_ext.specs.Field.{K, k_ops, add_k, zero_k, one_k, same_k}
 use Rattle.field_ext.specs.Polynomial.{value_at}
 use Rattle.transcript_fs.specs.Source.{Source, draws, state_after}
-use Rattle.transcript_fs.proofs.Draws.{has_any}
+use Rattle.transcript_fs.proofs.api.Draws.{has_any}
 use Rattle.gkr_verify.proofs.Choices.{first_holds, first_fails}
 use Rattle.gkr_layers.specs.declared.verdict.Verdict.TheVariants.{Sum}
 use Rattle.gkr_layers.specs.Equations.{Equation, claim_after, sum_equations, answer}

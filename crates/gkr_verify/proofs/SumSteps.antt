@@ -5,9 +5,9 @@ use Rattle.field_ext.specs.Field.{K}
 use Rattle.circuit_core.specs.declared.gate.CircuitGate.{CircuitGate}
 use Rattle.circuit_core.specs.Parts.{height}
 use Rattle.circuit_core.specs.Sound.{SoundCircuit, exponent_at, exponents}
-use Rattle.circuit_core.proofs.Sizes.{size_of}
+use Rattle.circuit_core.proofs.api.Sizes.{size_of}
 use Rattle.transcript_fs.specs.Source.{Source, draws, state_after, state_after_point}
-use Rattle.transcript_fs.proofs.Draws.{state-append, has_after_point, has_front, has_behind}
+use Rattle.transcript_fs.proofs.api.Draws.{state-append, has_after_point, has_front, has_behind}
 use Rattle.proof_wire.specs.declared.messages.LayerMessages.{LayerMessages}
 use Rattle.proof_wire.specs.declared.messages.Messages.{Messages}
 use Rattle.proof_wire.specs.declared.form.ProofForm.TheVariants.{Line}
@@ -16,9 +16,9 @@ use Rattle.gkr_layers.specs.declared.verdict.Verdict.{Verdict}
 use Rattle.gkr_layers.specs.declared.verdict.Verdict.TheVariants.{Accepted}
 use Rattle.gkr_layers.specs.Equations.{Equation, Answered, sum_equations, first_failure, answer}
 use Rattle.gkr_layers.specs.Layers.{challenges_of, layers_from, layers_of, lower_exponents, message_count}
-use Rattle.gkr_layers.proofs.Answers.{answer-verdict}
-use Rattle.gkr_layers.proofs.Shapes.{have_shape, length-all}
-use Rattle.gkr_verify.proofs.Filled.{sums_front, sums_stop}
+use Rattle.gkr_layers.proofs.api.Answers.{answer-verdict}
+use Rattle.gkr_layers.proofs.api.Shapes.{have_shape, length-all}
+use Rattle.gkr_verify.proofs.api.Filled.{sums_front, sums_stop}
 use Rattle.gkr_verify.specs.ShortProof.{next_claim, state_at_last, sums_from}
 
 -- an answer that holds whatever follows names the first failure

@@ -5,11 +5,11 @@ use Rattle.std.proofs.lemmas.Bool.{cases_eq}
 use Rattle.field_ext.specs.Ring.{Ops, Laws}
 use Rattle.field_ext.specs.Field.{F, K, k_ops, zero_k, mul_k, add_k, embed_k}
 use Rattle.field_ext.specs.Sums.{sum_below}
-use Rattle.field_ext.proofs.KLaws.{k_laws}
-use Rattle.field_ext.proofs.Rings.{zero_add, zero_mul}
+use Rattle.field_ext.proofs.api.KLaws.{k_laws}
+use Rattle.field_ext.proofs.api.Rings.{zero_add, zero_mul}
 use Rattle.circuit_core.specs.Parts.{padded_values, zero_f}
-use Rattle.gkr_layers.proofs.Circuits.{read-embed}
-use Rattle.gkr_layers.proofs.Outputs.{behind-zero}
+use Rattle.gkr_layers.proofs.api.Circuits.{read-embed}
+use Rattle.gkr_layers.proofs.api.Outputs.{behind-zero}
 
 module _ {A : Type 0} (o : Ops A) (l : Laws A o) where
   one_more : (n : ℕ) (f : ℕ → A) (sum next : A) → next ≡ o.add sum (f n) → sum ≡ sum_below o n f → next ≡ sum_below o (n + 1) f

@@ -7,7 +7,7 @@ use Rattle.std.proofs.lemmas.List.Sums.{position_or_len_is, prefix_len-le-length
 use Rattle.job_core.specs.declared.entry.JobState.{JobState}
 use Rattle.job_core.specs.declared.entry.JobState.TheVariants.{Queued}
 use Rattle.job_core.specs.JobMachine.{is_queued, before_queued, AreNotQueued}
-use Rattle.job_core.proofs.Places.{some_here, some_eq, get_within}
+use Rattle.job_core.proofs.api.Places.{some_here, some_eq, get_within}
 
 queued_at : (js : List JobState) (j : ℕ) (d : JobState) → slice_get js j ≡ Some Queued → is_queued (get_or js j d) ≡ true
 queued_at js j d at = ap is_queued (some_eq (get_or js j d) Queued (sym (some_here js j d (get_within js Queued j at)) ∙ at))

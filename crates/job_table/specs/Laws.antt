@@ -6,9 +6,9 @@ use Rattle.std.specs.List.{slice_get}
 use Rattle.std.proofs.lemmas.Bool.Decides.{nat_tests}
 use Rattle.tallies.specs.Tallies.{times, Apart}
 use Rattle.turn_lock.specs.Lists.{unite}
-use Rattle.tallies.proofs.Once.{times-append}
-use Rattle.turn_lock.proofs.United.{times-unite}
-use Rattle.job_core.proofs.Places.{get_front, get_within}
+use Rattle.tallies.proofs.api.Once.{times-append}
+use Rattle.turn_lock.proofs.api.United.{times-unite}
+use Rattle.job_core.proofs.api.Places.{get_front, get_within}
 use Rattle.job_table.specs.declared.event.Event.{Event}
 use Rattle.job_table.specs.declared.event.Event.TheVariants.{Take, Finish}
 use Rattle.job_table.specs.Passes.{Pairs}

@@ -1,2 +1,2 @@
-pub mod Stored
-pub mod Totals
+mod Stored
+mod Totals

@@ -1,13 +1,12 @@
-pub mod UsedAbove
-pub mod LevelsOf
-pub mod Places
-pub mod Lists
-pub mod Standing
-pub mod RowValues
-pub mod NoFault
-pub mod UsesOf
-pub mod InRows
-pub mod Next
-pub mod Merging
-pub mod PlacesOf
-pub mod Refusals
+pub mod api
+mod UsedAbove
+mod LevelsOf
+mod Places
+mod Lists
+mod Standing
+mod RowValues
+mod UsesOf
+mod InRows
+mod Next
+mod Merging
+mod PlacesOf

@@ -6,12 +6,12 @@ use Rattle.std.proofs.lemmas.Bool.Decides.{eqb_tells}
 use Rattle.std.proofs.lemmas.List.{get_or-map, get_or-append_right, get_or-replicate, get_or_past, length-map, length-replicate, map-append}
 use Rattle.std.proofs.lemmas.List.Elements.{All-same, All-weaker}
 use Rattle.field_ext.specs.Field.{F, of, add_f}
-use Rattle.field_ext.proofs.Elements.{of_self, of-value}
+use Rattle.field_ext.proofs.api.Elements.{of_self, of-value}
 use Rattle.circuit_core.specs.Parts.{combined, gate_value, leaf_value, padded_values, values_of, layer_values, zero_f, zero_gate}
 use Rattle.node_core.specs.declared.node.Node.{Node}
 use Rattle.node_core.specs.declared.node.Node.TheVariants.{Input, Constant, Operation}
 use Rattle.node_core.specs.Nodes.{Nodes, IsNodeList, node_at, node_value, values}
-use Rattle.node_core.proofs.NodeValues.{value_at}
+use Rattle.node_core.proofs.api.NodeValues.{value_at}
 use Rattle.layer_compile.specs.Levels.{level, levels, level_of, height_of}
 use Rattle.layer_compile.specs.Rows.{is_at, row, place, IsAbove}
 use Rattle.layer_compile.specs.Circuits.{size_for, padded, placed, gate_above, layers_from, leaf_of, circuit_of, output_values}

@@ -6,9 +6,9 @@ use Rattle.field_ext.specs.Ring.{Ops, Laws}
 use Rattle.field_ext.specs.Polynomial.{value_at}
 use Rattle.field_ext.specs.Multilinear.{extension_at, folded, folded_all}
 use Rattle.gkr_layers.specs.Sumcheck.{point_between}
-use Rattle.field_ext.proofs.Solve.{var, nil, ◌⊕◌, ◌⊗◌, minus, solve}
-use Rattle.mle_table.proofs.Fold.{fold-at}
-use Rattle.mle_table.proofs.Points.{ext-nil, ext-folded_all}
+use Rattle.field_ext.proofs.api.Solve.{var, nil, ◌⊕◌, ◌⊗◌, minus, solve}
+use Rattle.mle_table.proofs.api.Fold.{fold-at}
+use Rattle.mle_table.proofs.api.Points.{ext-nil, ext-folded_all}
 use Rattle.line_reduce.specs.Rows.{row_value, between}
 
 module _ {A : Type 0} (o : Ops A) (l : Laws A o) where

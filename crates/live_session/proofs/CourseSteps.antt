@@ -10,9 +10,9 @@ use Rattle.field_ext.specs.Field.{F, K, k_ops, zero_k}
 use Rattle.field_ext.specs.Polynomial.{coefficients}
 use Rattle.circuit_core.specs.Parts.{Parts, height, input_table}
 use Rattle.circuit_core.specs.Sound.{exponent_at}
-use Rattle.gkr_layers.proofs.Circuits.{below_more, below_none}
-use Rattle.gkr_layers.proofs.Forms.{place_over}
-use Rattle.gkr_layers.proofs.Lists.{drop-take, front-take, next-read}
+use Rattle.gkr_layers.proofs.api.Circuits.{below_more, below_none}
+use Rattle.gkr_layers.proofs.api.Forms.{place_over}
+use Rattle.gkr_layers.proofs.api.Lists.{drop-take, front-take, next-read}
 use Rattle.gkr_layers.specs.Forms.{last_polynomial, place_between}
 use Rattle.gkr_layers.specs.Layers.{GateLayer, layer_at, layers_below, layers_of, next_place}
 use Rattle.gkr_layers.specs.Places.{Place, IsOver}
@@ -27,7 +27,7 @@ use Rattle.live_session.specs.Proving.{honest_for, honest_messages, layer_messag
 use Rattle.live_session.specs.declared.course.Course.{Course}
 use Rattle.live_session.specs.declared.course.Stage.{Stage}
 use Rattle.live_session.specs.declared.course.Stage.TheVariants.{Before, Within, After}
-use Rattle.live_session.proofs.HonestList.{length-honest, length-layer, line_at, next_message, round_at, whole_layer}
+use Rattle.live_session.proofs.api.HonestList.{length-honest, length-layer, line_at, next_message, round_at, whole_layer}
 
 message_more : (qs : List (List K)) (q : List K) → message_bytes (qs ++ q ∷ []) ≡ message_bytes qs ++ flat_map bytes_of q
 message_more qs q = flat_map-append (flat_map bytes_of) qs (q ∷ []) ∙ ap (λ (xs : List ℕ). message_bytes qs ++ xs) (append-nil (flat_map bytes_of q))

@@ -5,7 +5,7 @@ use Rattle.std.proofs.Math.Seq.{take-append-add}
 use Rattle.field_ext.specs.Field.{K}
 use Rattle.live_session.specs.Elements.{leading}
 use Rattle.live_session.specs.Intake.{IsIntake}
-use Rattle.live_session.proofs.ElementSteps.{leading-more}
+use Rattle.live_session.proofs.api.ElementSteps.{leading-more}
 
 -- what is kept of more bytes
 pub kept_more : (bytes more : List ℕ) (count capacity : ℕ) → count ≤ capacity → length bytes ≡ count → bytes ++ take (min (capacity - count) (length more)) more ≡ take capacity (bytes ++ more)

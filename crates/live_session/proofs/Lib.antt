@@ -1,9 +1,5 @@
-pub mod ElementSteps
-pub mod IntakeSteps
-pub mod LayoutSteps
-pub mod SpelledSteps
-pub mod VerifierSteps
-pub mod SessionLaws
-pub mod HonestList
-pub mod CourseSteps
-pub mod ProverSteps
+pub mod api
+mod IntakeSteps
+mod SpelledSteps
+mod SessionLaws
+mod CourseSteps

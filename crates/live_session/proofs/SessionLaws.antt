@@ -7,7 +7,7 @@ use Rattle.circuit_core.specs.Sound.{exponent_at}
 use Rattle.gkr_layers.specs.Acceptance.{claim_of, verdict_of}
 use Rattle.live_session.specs.Layout.{messages_in, sizes_of, whole}
 use Rattle.live_session.specs.Verifying.{Session, element_count, fed_all, joined, kept, last_byte, lower, progress_in, verifier_sent}
-use Rattle.live_session.proofs.VerifierSteps.{kept_elements, progress_kept}
+use Rattle.live_session.proofs.api.VerifierSteps.{kept_elements, progress_kept}
 
 -- what is left out of a prefix is left out with more after it
 take-kept : (n : ℕ) (xs ys : List ℕ) → take n (take n xs ++ ys) ≡ take n (xs ++ ys)

@@ -4,17 +4,17 @@ use Rattle.std.specs.List.{flat_map}
 use Rattle.std.proofs.lemmas.List.{drop_at, take_at}
 use Rattle.std.proofs.lemmas.List.Concat.{flat_map-cons}
 use Rattle.field_ext.specs.Field.{K}
-use Rattle.gkr_layers.proofs.Lists.{front-take, next-read, rest-drop}
+use Rattle.gkr_layers.proofs.api.Lists.{front-take, next-read, rest-drop}
 use Rattle.gkr_layers.specs.Layers.{GateLayer, lower_exponents, message_count}
 use Rattle.gkr_layers.specs.Soundness.{HaveDegrees}
-use Rattle.proof_wire.proofs.Lengths.{rounds_length}
+use Rattle.proof_wire.proofs.api.Lengths.{rounds_length}
 use Rattle.proof_wire.specs.declared.form.ProofForm.TheVariants.{Line}
 use Rattle.proof_wire.specs.declared.messages.LayerMessages.{LayerMessages}
 use Rattle.proof_wire.specs.declared.messages.Round.{Round}
 use Rattle.proof_wire.specs.Lists.{HaveShape, all_messages, round_messages}
 use Rattle.proof_wire.specs.Spelling.{all_coefficients, coefficient_count, coefficients_of, layer_coefficients}
 use Rattle.live_session.specs.Layout.{messages_in, triples}
-use Rattle.live_session.proofs.LayoutSteps.{due_more}
+use Rattle.live_session.proofs.api.LayoutSteps.{due_more}
 
 triples-rounds : (rounds : List Round) → triples (flat_map coefficients_of rounds) ≡ round_messages rounds
 triples-rounds [] = refl

@@ -1,7 +1,7 @@
 -- The exponent of a power of two is one alone
 use Rattle.std.proofs.Common.{◌≡◌, ℕ, ◌+◌, ◌*◌, ◌^◌, ◌<◌, ◌≤◌, inl, inr, arith, pow-suc, add-one, ap, ◌∙◌}
 use Rattle.std.proofs.lemmas.Bool.{cases_lt}
-use Rattle.mle_table.proofs.EqualitySteps.{pow_up}
+use Rattle.mle_table.proofs.api.EqualitySteps.{pow_up}
 
 next : (k : ℕ) → 2 ^ (k + 1) ≡ 2 * 2 ^ k
 next k = let e : 2 ^ (k + 1) ≡ 2 ^ k * 2 = ap (λ (n : ℕ). 2 ^ n) (add-one k) ∙ pow-suc 2 k in omega (arith, e)

@@ -8,7 +8,7 @@ use prog.Atomic.{either}
 use Rattle.std.proofs.lemmas.Bool.Decides.{nat_tests}
 use Rattle.atomic_table.specs.Table.{State, Me, Act, Valid, stepped, carried_after, step, keeps, takes, gives, put_back, Allows, Enters, opening}
 use Rattle.atomic_table.proofs.Lists.{at_set, at_snoc, at_longer, set_here, set_else, set_again}
-use Rattle.tallies.proofs.Totals.{inside}
+use Rattle.tallies.proofs.api.Totals.{inside}
 use Rattle.part_relay.specs.declared.rule.View.{View}
 use Rattle.part_relay.specs.declared.rule.Plan.{Plan}
 use Rattle.part_relay.specs.Views as views

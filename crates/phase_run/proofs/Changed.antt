@@ -8,7 +8,7 @@ use Rattle.std.proofs.lemmas.Bool.Decides.{nat_tests}
 use Rattle.std.proofs.lemmas.List.{map-append}
 use Rattle.std.proofs.lemmas.List.Elements.{All-cons, All-head, All-tail}
 use Rattle.tallies.specs.Tallies.{times}
-use Rattle.tallies.proofs.Once.{permutation_once}
+use Rattle.tallies.proofs.api.Once.{permutation_once}
 use Rattle.phase_run.specs.Work.{ArePartsWorked}
 
 module _ {T : Type 0} (f : ℕ → T → T) (parts : List T) where

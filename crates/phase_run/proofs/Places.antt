@@ -11,7 +11,7 @@ use Rattle.std.proofs.lemmas.Bool.Decides.{nat_tests}
 use Rattle.std.proofs.lemmas.List.{length-map, get_or_default, get_or-replicate, map-append}
 use Rattle.std.proofs.lemmas.List.Elements.{All-pop}
 use Rattle.tallies.specs.Tallies.{times}
-use Rattle.tallies.proofs.Once.{times-append, permutation_once}
+use Rattle.tallies.proofs.api.Once.{times-append, permutation_once}
 use Rattle.phase_run.specs.Work.{AllPlaced}
 
 abbrev pub key_of : {X : Type 0} → ℕ × X → ℕ

@@ -1,10 +1,10 @@
 -- The laws of polynomials at the field
 use Rattle.std.proofs.Common.{◌≡◌, ℕ, ◌+◌, ◌≤◌, List, length, get_or}
 use Rattle.field_ext.specs.Field.{K, k_ops, zero_k, mul_k}
-use Rattle.field_ext.proofs.KLaws.{k_laws, k_no_zero_divisors}
+use Rattle.field_ext.proofs.api.KLaws.{k_laws, k_no_zero_divisors}
 use Rattle.field_ext.specs.Polynomial.{value_at, power, IsZero, HasAtMost}
 use Rattle.field_ext.specs.Sums.{sum_below}
-use Rattle.poly_roots.proofs.Roots.{few_roots}
+use Rattle.poly_roots.proofs.api.Roots.{few_roots}
 use Rattle.poly_roots.proofs.Powers.{value_by_powers}
 
 pub k_few_roots : (d : ℕ) (cs : List K) → length cs ≤ d + 1 → ¬ IsZero k_ops cs → HasAtMost d (λ e. value_at k_ops cs e ≡ zero_k)

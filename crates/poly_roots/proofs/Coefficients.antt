@@ -3,7 +3,7 @@ use Rattle.std.proofs.Common.{◌≡◌, ℕ, zero, suc, ◌+◌, ◌<◌, ◌�
 use Rattle.std.proofs.lemmas.List.{drop_more, take_more, take_all, get_or_past, length-map}
 use Rattle.field_ext.specs.Ring.{Ops, Laws}
 use Rattle.field_ext.specs.Polynomial.{value_at, sum_of, product_of}
-use Rattle.field_ext.proofs.Rings.{zero_add, mul_zero, zero_mul}
+use Rattle.field_ext.proofs.api.Rings.{zero_add, mul_zero, zero_mul}
 
 module _ {A : Type 0} (o : Ops A) (l : Laws A o) where
   pub value-zero : (cs : List A) → value_at o cs o.zero ≡ get_or cs 0 o.zero

@@ -1,5 +1,4 @@
-pub mod Roots
-pub mod Values
-pub mod Coefficients
-pub mod AtField
-pub mod Powers
+pub mod api
+mod Coefficients
+mod AtField
+mod Powers

@@ -3,8 +3,8 @@ use Rattle.std.proofs.Common.{◌≡◌, ℕ, zero, suc, List, [], ◌∷◌, le
 use Rattle.field_ext.specs.Ring.{Ops, Laws}
 use Rattle.field_ext.specs.Polynomial.{value_at, power}
 use Rattle.field_ext.specs.Sums.{sum_below}
-use Rattle.field_ext.proofs.Rings.{mul_zero, mul_left_comm}
-use Rattle.field_ext.proofs.Sums.{sum_below-front}
+use Rattle.field_ext.proofs.api.Rings.{mul_zero, mul_left_comm}
+use Rattle.field_ext.proofs.api.Sums.{sum_below-front}
 
 module _ {A : Type 0} (o : Ops A) (l : Laws A o) where
   sum_scaled : (n : ℕ) (c : A) (f : ℕ → A) → sum_below o n (λ k. o.mul c (f k)) ≡ o.mul c (sum_below o n f)

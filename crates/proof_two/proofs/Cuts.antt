@@ -9,8 +9,8 @@ use Rattle.proof_two.specs.declared.pairs.LayerPairs.{LayerPairs}
 use Rattle.proof_two.specs.Spelling.{all_elements, element_count, layer_elements}
 use Rattle.proof_two.specs.Lists.{HasPairs, HavePairs}
 use Rattle.proof_two.proofs.Counts.{count_more}
-use Rattle.proof_wire.proofs.Cuts.{lower}
-use Rattle.proof_wire.proofs.Cuts.{within}
+use Rattle.proof_wire.proofs.api.Cuts.{lower}
+use Rattle.proof_wire.proofs.api.Cuts.{within}
 
 pub next_count : (ks : List ℕ) (j k from : ℕ) → j < length ks - 1 → k ≡ get_or ks (j + 1) 0 → from ≡ element_count (take j (drop 1 ks)) → from + (4 * k + (k + 1)) ≡ element_count (take (j + 1) (drop 1 ks))
 next_count ks j k from h e f =

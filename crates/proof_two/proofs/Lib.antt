@@ -1,9 +1,6 @@
-pub mod Counts
-pub mod Lengths
-pub mod Reading
-pub mod Apart
-pub mod Cuts
-pub mod Troubles
-pub mod OneTrouble
-pub mod Either
-pub mod Shortened
+pub mod api
+mod Counts
+mod Reading
+mod Cuts
+mod Troubles
+mod OneTrouble

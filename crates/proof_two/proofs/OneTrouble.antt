@@ -4,9 +4,9 @@ use Rattle.proof_wire.specs.declared.refused.BadProof.{BadProof}
 use Rattle.proof_wire.specs.declared.refused.BadProof.TheVariants.{Magic, Short, Range, Long}
 use Rattle.proof_two.specs.Spelling.{magic_two}
 use Rattle.proof_two.specs.Trouble.{ForeignTwo, EndsEarlyTwo, OutOfRangeTwo, GoesOnTwo, OpensTwo, TroubleIsTwo}
-use Rattle.proof_wire.proofs.OneTrouble.{order}
-use Rattle.proof_wire.proofs.OneTrouble.{alike}
-use Rattle.proof_wire.proofs.OneTrouble.{same_short}
+use Rattle.proof_wire.proofs.api.OneTrouble.{order}
+use Rattle.proof_wire.proofs.api.OneTrouble.{alike}
+use Rattle.proof_wire.proofs.api.OneTrouble.{same_short}
 
 opened : (bytes : List ℕ) (at : ℕ) → OpensTwo bytes → ForeignTwo bytes at → ⊥
 opened bytes at o f = f.differs (alike bytes magic_two 4 (length bytes) at o f.early f.there)

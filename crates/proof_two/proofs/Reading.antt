@@ -9,10 +9,10 @@ use Rattle.field_ext.specs.Bytes.{bytes_of, real_half, imaginary_half}
 use Rattle.proof_wire.specs.declared.form.ProofForm.TheVariants.{Line}
 use Rattle.proof_wire.specs.Forms.{magic}
 use Rattle.proof_wire.specs.Trouble.{InRange, element_at}
-use Rattle.proof_wire.proofs.Reading.{spelled_in_range}
+use Rattle.proof_wire.proofs.api.Reading.{spelled_in_range}
 use Rattle.proof_two.specs.Spelling.{magic_two}
 use Rattle.proof_two.specs.Trouble.{BeginWithTwo, OpensTwo}
-use Rattle.proof_wire.proofs.Reading.{last_or_before}
+use Rattle.proof_wire.proofs.api.Reading.{last_or_before}
 
 pub front_none : (bytes : List ℕ) → 4 ≤ length bytes → OpensTwo bytes → BeginWithTwo [] bytes
 front_none bytes h o = record { spelled = o ∙ take_all (length bytes) magic_two h; good = λ i u. absurd (omega (arith, u)) }

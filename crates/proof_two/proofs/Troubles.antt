@@ -11,7 +11,7 @@ use Rattle.proof_two.specs.declared.pairs.Pairs.{Pairs}
 use Rattle.proof_two.specs.Spelling.{all_elements, magic_two, spelling_two}
 use Rattle.proof_two.specs.Lists.{HavePairs}
 use Rattle.proof_two.specs.Trouble.{RefusedForTwo, TroubleIsTwo}
-use Rattle.proof_two.proofs.Lengths.{count_is, spelling_length}
+use Rattle.proof_two.proofs.api.Lengths.{count_is, spelling_length}
 use Rattle.proof_two.proofs.Reading.{spelled_in_range_two}
 
 begins : (ys : List ℕ) (i : ℕ) → i < 4 → get_or (magic_two ++ ys) i 0 ≡ get_or magic_two i 0

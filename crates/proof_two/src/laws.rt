@@ -14,7 +14,7 @@ ghost use Rattle.proof_two.specs.Trouble.{TroubleIsTwo};
 ghost use Rattle.proof_two.specs.Versions.{HasAnyShape, TroubleIsAny, any_spelling, is_two};
 
 /// All proofs of version 2 of a shape have the same length.
-#[tactic(auto, using(crate::proofs::Lengths::spelling_length))]
+#[tactic(auto, using(crate::proofs::api::Lengths::spelling_length))]
 pub fn one_length()
     ensures { (ks : List ℕ) (pairs : Pairs) → HavePairs (drop 1 ks) pairs.layers
         → length (spelling_two pairs) ≡ length_two ks }

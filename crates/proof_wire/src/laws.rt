@@ -10,7 +10,7 @@ ghost use Rattle.proof_wire.specs.Lists.{HaveShape};
 ghost use Rattle.proof_wire.specs.Trouble.{TroubleIs};
 
 /// All proofs of a form and a shape have the same length.
-#[tactic(auto, using(crate::proofs::Lengths::spelling_length))]
+#[tactic(auto, using(crate::proofs::api::Lengths::spelling_length))]
 pub fn one_length()
     ensures { (form : ProofForm) (ks : List ℕ) (messages : Messages)
         → HaveShape form (drop 1 ks) messages.layers

@@ -6,14 +6,14 @@ use Rattle.std.specs.List.{slice_get}
 use Rattle.std.proofs.lemmas.Bool.Decides.{nat_tests}
 use Rattle.std.proofs.lemmas.List.{length-map}
 use Rattle.tallies.specs.Tallies.{times, once_below, HasEachOnce}
-use Rattle.tallies.proofs.Once.{times-append, split_at, once_suc}
+use Rattle.tallies.proofs.api.Once.{times-append, split_at, once_suc}
 use Rattle.job_core.specs.declared.entry.Entry.{Entry}
 use Rattle.job_core.specs.declared.entry.Entry.TheVariants as entry
 use Rattle.job_core.specs.declared.entry.JobState.{JobState}
 use Rattle.job_core.specs.declared.entry.JobState.TheVariants as state
-use Rattle.job_core.proofs.Places.{no_some, some_eq, get_map}
-use Rattle.job_core.proofs.Runs.{three_less, submit_below}
-use Rattle.job_core.proofs.Lasting.{withdraw_withdrawn, withdrawn_withdraws}
+use Rattle.job_core.proofs.api.Places.{no_some, some_eq, get_map}
+use Rattle.job_core.proofs.api.Runs.{three_less, submit_below}
+use Rattle.job_core.proofs.api.Lasting.{withdraw_withdrawn, withdrawn_withdraws}
 use Rattle.job_table.specs.declared.event.Event.{Event}
 use Rattle.job_table.specs.declared.event.Event.TheVariants.{Submit, Take, Finish, Withdraw}
 use Rattle.job_table.specs.declared.event.Outcome.TheVariants as outcomes
@@ -21,7 +21,7 @@ use Rattle.job_table.specs.declared.slot.Seen.{Seen}
 use Rattle.job_table.specs.declared.slot.Seen.TheVariants as seen
 use Rattle.job_table.specs.History.{entry_of, entries_of, jobs_of, Has, Submits}
 use Rattle.job_table.specs.Slots.{IsSeen}
-use Rattle.job_table.proofs.Kept.{one_case}
+use Rattle.job_table.proofs.api.Kept.{one_case}
 use Rattle.prove_serve.specs.declared.job.Job.{Job}
 use Rattle.prove_serve.specs.declared.job.Reply.{Reply}
 use Rattle.prove_serve.specs.declared.outcome.HistoryOutcome.{HistoryOutcome}
@@ -30,7 +30,7 @@ use Rattle.prove_serve.specs.Script.{IsOf, AreNumbered}
 use Rattle.prove_serve.specs.Sound.{IsMarked, IsServed}
 use Rattle.prove_serve.specs.History.{AnswerFits, EndsSo, IsHistoryOf}
 use Rattle.prove_serve.specs.Reported.{AreReported, reported, place_of}
-use Rattle.tallies.proofs.Once.{one_at_most as below_once}
+use Rattle.tallies.proofs.api.Once.{one_at_most as below_once}
 
 -- ---- lists of numbers
 

@@ -3,7 +3,7 @@ use Rattle.std.proofs.Common.{◌≡◌, ◌≢◌, ◌⊎◌, inl, inr, ⊎_eli
 use mathlib.Core.Logic.{dite}
 use native.Mathlib.Decide.{ℕ_discrete}
 use Rattle.std.specs.List.{slice_get}
-use Rattle.job_core.proofs.Places.{some_eq, get_longer, get_last, get_snoc_else, get_set_same, get_set_else, get_within}
+use Rattle.job_core.proofs.api.Places.{some_eq, get_longer, get_last, get_snoc_else, get_set_same, get_set_else, get_within}
 use Rattle.job_table.specs.declared.event.Outcome.{Outcome}
 use Rattle.job_table.specs.declared.slot.Seen.{Seen}
 use Rattle.job_table.specs.declared.slot.Seen.TheVariants.{Done}

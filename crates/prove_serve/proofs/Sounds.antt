@@ -8,9 +8,9 @@ use native.Mathlib.Decide.{ℕ_discrete, dec_le}
 use Rattle.std.specs.List.{slice_get}
 use Rattle.tallies.specs.Tallies.{times}
 use Rattle.turn_lock.specs.Lists.{unite, longer, shorter}
-use Rattle.tallies.proofs.Once.{times-append}
-use Rattle.turn_lock.proofs.United.{times-unite}
-use Rattle.job_core.proofs.Places.{some_eq, get_last, get_within, get_map}
+use Rattle.tallies.proofs.api.Once.{times-append}
+use Rattle.turn_lock.proofs.api.United.{times-unite}
+use Rattle.job_core.proofs.api.Places.{some_eq, get_last, get_within, get_map}
 use Rattle.job_table.specs.declared.event.Event.{Event}
 use Rattle.job_table.specs.declared.event.Event.TheVariants.{Submit, Take, Finish, Withdraw}
 use Rattle.job_table.specs.declared.event.Outcome.{Outcome}
@@ -20,7 +20,7 @@ use Rattle.job_table.specs.Slots.{OutcomeFits, IsOutcome, IsSeen}
 use Rattle.job_table.specs.declared.slot.Seen.{Seen}
 use Rattle.job_table.specs.declared.slot.Seen.TheVariants.{Done}
 use Rattle.job_table.specs.declared.event.Outcome.TheVariants.{Answer, Memory}
-use Rattle.job_table.proofs.Calls.{same_front, prefix_length, prefix_more, both_begin, not_there, seen_longer}
+use Rattle.job_table.proofs.api.Calls.{same_front, prefix_length, prefix_more, both_begin, not_there, seen_longer}
 use Rattle.prove_serve.specs.declared.job.Job.{Job}
 use Rattle.prove_serve.specs.declared.job.Reply.{Reply}
 use Rattle.prove_serve.specs.Script.{IsOf, AreOf, AreNumbered, AreVacant, ArePlaced, AreOutcomes, plain, unmarked}

@@ -10,9 +10,9 @@ use Rattle.tallies.specs.Tallies.{times, once_below}
 use Rattle.turn_lock.specs.Lists.{unite, longer, shorter}
 use Rattle.job_core.specs.JobMachine.{are_steps, replay}
 use Rattle.job_core.specs.declared.entry.JobState.TheVariants as state
-use Rattle.job_core.proofs.Places.{some_eq, get_within, get_last, get_snoc_else, get_map}
-use Rattle.job_core.proofs.Runs.{no_fewer_on, submit_below}
-use Rattle.job_core.proofs.Lasting.{replay_rest}
+use Rattle.job_core.proofs.api.Places.{some_eq, get_within, get_last, get_snoc_else, get_map}
+use Rattle.job_core.proofs.api.Runs.{no_fewer_on, submit_below}
+use Rattle.job_core.proofs.api.Lasting.{replay_rest}
 use Rattle.job_table.specs.declared.event.Event.{Event}
 use Rattle.job_table.specs.declared.event.Event.TheVariants.{Submit, Take, Finish, Withdraw}
 use Rattle.job_table.specs.declared.event.Outcome.{Outcome}
@@ -20,9 +20,9 @@ use Rattle.job_table.specs.History.{entry_of, entries_of, jobs_of, Has, Submits,
 use Rattle.job_table.specs.Passes.{TableView, PassView, Within, Looks, Adds, IsPassOf, NoneQueued, NoneRunning}
 use Rattle.job_table.specs.Slots.{AreEnds}
 use Rattle.job_table.specs.declared.slot.Seen.{Seen}
-use Rattle.job_table.proofs.Kept.{jobs_snoc}
-use Rattle.job_table.proofs.Counts.{grown, total_none, total_plus, total_stays, last_step}
-use Rattle.job_table.proofs.Calls.{at_prefix, prefix_more, total_longer, total_more, total_unite, both_begin, seen_longer}
+use Rattle.job_table.proofs.api.Kept.{jobs_snoc}
+use Rattle.job_table.proofs.api.Counts.{grown, total_none, total_plus, total_stays, last_step}
+use Rattle.job_table.proofs.api.Calls.{at_prefix, prefix_more, total_longer, total_more, total_unite, both_begin, seen_longer}
 use Rattle.prove_serve.proofs.Sounds.{acts_looks, acts_adds, right_withdraw}
 use Rattle.prove_serve.specs.declared.job.Job.{Job}
 use Rattle.prove_serve.specs.declared.script.Duty.{Duty}

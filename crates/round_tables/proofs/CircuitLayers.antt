@@ -5,9 +5,9 @@ use Rattle.mle_table.specs.Shape.{TableValues}
 use Rattle.circuit_core.specs.declared.gate.CircuitGate.{CircuitGate}
 use Rattle.circuit_core.specs.Parts.{IsOver, height}
 use Rattle.circuit_core.specs.Sound.{SoundCircuit, exponent_at}
-use Rattle.circuit_core.proofs.Sizes.{size_of, gates_size, gates_over}
+use Rattle.circuit_core.proofs.api.Sizes.{size_of, gates_size, gates_over}
 use Rattle.circuit_eval.specs.Tables.{FitLayers}
-use Rattle.circuit_eval.proofs.LayerTables.{same_exponent}
+use Rattle.circuit_eval.proofs.api.LayerTables.{same_exponent}
 
 module _ (c : SoundCircuit) (i : ℕ) (u : i < height c.parts) where
   pub table_exponent : (values : List (List K)) → FitLayers c.parts values → (table : TableValues) → table.items ≡ get_or values (i + 1) [] → table.k ≡ exponent_at c.parts (i + 1)

@@ -3,7 +3,7 @@ use Rattle.std.proofs.Common.{◌≡◌, ℕ, ◌+◌, ◌<◌, ◌≤◌, ◌�
 use Rattle.std.proofs.lemmas.Bool.{cases_lt}
 use Rattle.std.proofs.lemmas.List.{get_or_past}
 use Rattle.field_ext.specs.Ring.{Ops, Laws}
-use Rattle.field_ext.proofs.Solve.{var, nil, ◌⊕◌, ◌⊗◌, solve}
+use Rattle.field_ext.proofs.api.Solve.{var, nil, ◌⊕◌, ◌⊗◌, solve}
 use Rattle.circuit_core.specs.declared.gate.Kind.{Kind}
 use Rattle.circuit_core.specs.declared.gate.Kind.TheVariants.{Add, Mul}
 use Rattle.circuit_core.specs.declared.gate.CircuitGate.{CircuitGate}

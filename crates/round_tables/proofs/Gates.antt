@@ -1,14 +1,14 @@
 -- What the gates send to the places of a table
 use Rattle.std.proofs.Common.{◌≡◌, ℕ, ◌+◌, ◌^◌, ◌<◌, List, [], ◌∷◌, length, Bool, true, false, if◌then◌else◌, ◌==◌, All, refl, sym, ◌∙◌, ap, ap₂}
 use Rattle.field_ext.specs.Ring.{Ops, Laws}
-use Rattle.field_ext.proofs.Solve.{var, nil, ◌⊕◌, ◌⊗◌, solve}
+use Rattle.field_ext.proofs.api.Solve.{var, nil, ◌⊕◌, ◌⊗◌, solve}
 use Rattle.field_ext.specs.Multilinear.{eq_poly, extension_at}
-use Rattle.mle_table.proofs.SumLaws.{sum_below-same}
+use Rattle.mle_table.proofs.api.SumLaws.{sum_below-same}
 use Rattle.circuit_core.specs.declared.gate.Kind.{Kind}
 use Rattle.circuit_core.specs.declared.gate.Kind.TheVariants.{Add, Mul}
 use Rattle.circuit_core.specs.declared.gate.CircuitGate.{CircuitGate}
 use Rattle.wiring_poly.specs.Wiring.{by_kind, sum_gates, gate_output}
-use Rattle.wiring_poly.proofs.Identity.{sum_gates-all}
+use Rattle.wiring_poly.proofs.api.Identity.{sum_gates-all}
 use Rattle.round_tables.specs.Tables.{Gathers, scale_of, shift_of}
 use Rattle.round_tables.proofs.Sums.{sum_below-pick, sum_gates-scale, sum_below-gates}
 

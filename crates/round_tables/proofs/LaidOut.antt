@@ -8,9 +8,9 @@ use Rattle.std.proofs.lemmas.List.{length-map}
 use Rattle.std.proofs.lemmas.List.Elements.{All-map}
 use Rattle.std.proofs.Math.Nat.{pow-suc}
 use Rattle.field_ext.specs.Field.{K, k_ops, zero_k}
-use Rattle.field_ext.proofs.KLaws.{k_laws}
+use Rattle.field_ext.proofs.api.KLaws.{k_laws}
 use Rattle.field_ext.specs.Multilinear.{folded}
-use Rattle.mle_table.proofs.Fold.{fold-at}
+use Rattle.mle_table.proofs.api.Fold.{fold-at}
 use Rattle.round_tables.specs.Tables.{pair_at}
 use Rattle.round_tables.specs.PartTables.{PartTables, HasSize, halved, folded_part, cuts, cuts_left, flat, flat_table, flat_scales, flat_shifts, AreLaidOut}
 use Rattle.round_tables.specs.LayerSum.{left_in_phase}

@@ -1,7 +1,7 @@
 -- Sums whose halves are not reduced yet, and how large the halves are
 use Rattle.std.proofs.Common.{◌≡◌, ℕ, ◌+◌, ◌-◌, ◌*◌, ◌^◌, ◌≤◌, arith, sym, ◌∙◌, ap}
 use Rattle.field_ext.specs.Field.{F, K, of, add_f, add_k, zero_k}
-use Rattle.field_ext.proofs.Elements.{add-of, of_self}
+use Rattle.field_ext.proofs.api.Elements.{add-of, of_self}
 use Rattle.round_tables.specs.declared.lazy_sum.LazySum.{LazySum}
 use Rattle.round_tables.specs.LazySum.{element_of, IsBelow}
 

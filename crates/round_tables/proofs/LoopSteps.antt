@@ -3,11 +3,11 @@ use Rattle.std.proofs.Common.{◌≡◌, ◌≢◌, ℕ, suc, ◌+◌, ◌-◌, 
 use Rattle.std.proofs.lemmas.List.{drop_more, get_or_default}
 use Rattle.std.proofs.lemmas.Bool.{cases_eq, ne_eqb}
 use Rattle.field_ext.specs.Ring.{Ops, Laws}
-use Rattle.field_ext.proofs.Solve.{var, nil, ◌⊕◌, ◌⊗◌, minus, solve}
-use Rattle.field_ext.proofs.Rings.{zero_add}
+use Rattle.field_ext.proofs.api.Solve.{var, nil, ◌⊕◌, ◌⊗◌, minus, solve}
+use Rattle.field_ext.proofs.api.Rings.{zero_add}
 use Rattle.field_ext.specs.Sums.{sum_below}
 use Rattle.field_ext.specs.Multilinear.{folded}
-use Rattle.mle_table.proofs.Fold.{fold-at}
+use Rattle.mle_table.proofs.api.Fold.{fold-at}
 use Rattle.circuit_core.specs.declared.gate.CircuitGate.{CircuitGate}
 use Rattle.wiring_poly.specs.Wiring.{sum_gates}
 use Rattle.round_tables.specs.Tables.{pair_at, quadratic_at}

@@ -6,8 +6,8 @@ use Rattle.std.proofs.lemmas.List.Elements.{All-head, All-tail}
 use Rattle.field_ext.specs.Ring.{Ops, Laws}
 use Rattle.field_ext.specs.Sums.{sum_cube}
 use Rattle.field_ext.specs.Multilinear.{eq_poly, extension_at, folded}
-use Rattle.mle_table.proofs.SumLaws.{sum_cube-same}
-use Rattle.mle_table.proofs.Points.{ext-nil}
+use Rattle.mle_table.proofs.api.SumLaws.{sum_cube-same}
+use Rattle.mle_table.proofs.api.Points.{ext-nil}
 use Rattle.circuit_core.specs.declared.gate.CircuitGate.{CircuitGate}
 use Rattle.wiring_poly.specs.Wiring.{sum_gates}
 use Rattle.gkr_layers.specs.Places.{Place, weighted_summand_at}
@@ -17,7 +17,7 @@ use Rattle.round_tables.specs.LayerSum.{left_in_phase, after_phase}
 use Rattle.round_tables.specs.Phase.{IsLayer, IsPhase}
 use Rattle.round_tables.proofs.PhaseSums.{left_phase, right_phase}
 use Rattle.round_tables.proofs.RoundPairs.{ext-folded, stand-folded}
-use Rattle.mle_table.proofs.EqualitySteps.{doubling_fits}
+use Rattle.mle_table.proofs.api.EqualitySteps.{doubling_fits}
 use Rattle.mle_table.specs.Equality.{IsEqTable}
 use Rattle.circuit_core.specs.Parts.{IsOver}
 use Rattle.round_tables.proofs.PieceValues.{in_left_phase, in_right_phase}

@@ -3,18 +3,18 @@ use Rattle.std.proofs.Common.{◌≡◌, ℕ, ◌+◌, ◌^◌, ◌<◌, List, [
 use Rattle.field_ext.specs.Ring.{Ops, Laws}
 use Rattle.field_ext.specs.Sums.{sum_cube}
 use Rattle.field_ext.specs.Multilinear.{eq_poly, extension_at}
-use Rattle.mle_table.proofs.SumLaws.{sum_cube-same, sum_cube-scale}
-use Rattle.mle_table.proofs.Points.{sum-eq, ext-bits}
+use Rattle.mle_table.proofs.api.SumLaws.{sum_cube-same, sum_cube-scale}
+use Rattle.mle_table.proofs.api.Points.{sum-eq, ext-bits}
 use Rattle.circuit_core.specs.declared.gate.Kind.{Kind}
 use Rattle.circuit_core.specs.declared.gate.Kind.TheVariants.{Add, Mul}
 use Rattle.circuit_core.specs.declared.gate.CircuitGate.{CircuitGate}
 use Rattle.wiring_poly.specs.Wiring.{by_kind, sum_gates, gate_weight, summand, summand_at, gate_output}
 use Rattle.circuit_core.specs.Parts.{IsOver}
-use Rattle.wiring_poly.proofs.Identity.{summand_gates, sum_cube-gates, sum_gates-all, take-front, drop-front}
-use Rattle.field_ext.proofs.Solve.{var, nil, ◌⊕◌, ◌⊗◌, solve}
+use Rattle.wiring_poly.proofs.api.Identity.{summand_gates, sum_cube-gates, sum_gates-all, take-front, drop-front}
+use Rattle.field_ext.proofs.api.Solve.{var, nil, ◌⊕◌, ◌⊗◌, solve}
 use Rattle.gkr_layers.specs.Places.{Place, weighted_summand_at}
 use Rattle.gkr_layers.specs.Places.Place.{At, AtBoth}
-use Rattle.gkr_layers.proofs.PlaceSums.{weighted_linear}
+use Rattle.gkr_layers.proofs.api.PlaceSums.{weighted_linear}
 use Rattle.round_tables.specs.Weights.{position_weight}
 use Rattle.round_tables.specs.Tables.{Gathers, scale_of, shift_of}
 use Rattle.round_tables.proofs.Gates.{gathered_gates}

@@ -6,12 +6,12 @@ use Rattle.field_ext.specs.Ring.{Ops, Laws}
 use Rattle.field_ext.specs.Polynomial.{value_at, polynomial_ops, constant}
 use Rattle.field_ext.specs.Sums.{sum_below, sum_cube}
 use Rattle.field_ext.specs.Multilinear.{bits_of}
-use Rattle.mle_table.proofs.SumLaws.{sum_below-same}
+use Rattle.mle_table.proofs.api.SumLaws.{sum_below-same}
 use Rattle.circuit_core.specs.declared.gate.CircuitGate.{CircuitGate}
-use Rattle.wiring_poly.proofs.Hom.{sum_below-hom, sum_cube-hom}
-use Rattle.gkr_layers.proofs.RoundPoly.{value_hom, value-constant, at_point}
+use Rattle.wiring_poly.proofs.api.Hom.{sum_below-hom, sum_cube-hom}
+use Rattle.gkr_layers.proofs.api.RoundPoly.{value_hom, value-constant, at_point}
 use Rattle.gkr_layers.specs.Places.{Place, map_place, weighted_summand, weighted_summand_at}
-use Rattle.gkr_layers.proofs.PlaceSums.{weighted_summand-hom, place_constants}
+use Rattle.gkr_layers.proofs.api.PlaceSums.{weighted_summand-hom, place_constants}
 use Rattle.round_tables.specs.Tables.{pair_at, StandFor}
 use Rattle.round_tables.specs.LayerSum.{left_in_phase, after_phase, part_of_round}
 use Rattle.round_tables.proofs.RoundPairs.{stand-pair}

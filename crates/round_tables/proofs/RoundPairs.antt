@@ -1,11 +1,11 @@
 -- Tables that stand for a function, through a round
 use Rattle.std.proofs.Common.{◌≡◌, ℕ, zero, suc, ◌/◌, ◌^◌, ◌<◌, List, [], ◌∷◌, length, get_or, refl, sym, ◌∙◌, ap, ap₂}
 use Rattle.field_ext.specs.Ring.{Ops, Laws}
-use Rattle.field_ext.proofs.Solve.{Expr, var, nil, ◌⊕◌, ◌⊗◌, minus, solve}
+use Rattle.field_ext.proofs.api.Solve.{Expr, var, nil, ◌⊕◌, ◌⊗◌, minus, solve}
 use Rattle.field_ext.specs.Multilinear.{eq_poly, extension_at, bits_of, folded}
-use Rattle.mle_table.proofs.SumLaws.{sum_below-same}
-use Rattle.mle_table.proofs.Fold.{fold_law}
-use Rattle.mle_table.proofs.Points.{ext-bits}
+use Rattle.mle_table.proofs.api.SumLaws.{sum_below-same}
+use Rattle.mle_table.proofs.api.Fold.{fold_law}
+use Rattle.mle_table.proofs.api.Points.{ext-bits}
 use Rattle.round_tables.specs.Tables.{IsFolded, pair_at, quadratic_at, StandFor}
 
 module _ {A : Type 0} (o : Ops A) (l : Laws A o) where

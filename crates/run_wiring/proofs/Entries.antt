@@ -2,15 +2,15 @@
 use Rattle.std.proofs.Common.{◌≡◌, ◌≢◌, ℕ, zero, suc, ◌+◌, ◌-◌, ◌*◌, ◌/◌, ◌%◌, ◌^◌, ◌<◌, ◌≤◌, inl, inr, List, [], ◌∷◌, length, get_or, set, replicate, drop, if◌then◌else◌, ◌==◌, refl, sym, ◌∙◌, ap, ap₂, arith, get_or-set_same, get_or-set_other, pow-suc}
 use Rattle.std.proofs.lemmas.Bool.{cases_eq}
 use Rattle.field_ext.specs.Field.{K, k_ops, zero_k, one_k, add_k, mul_k, neg_k}
-use Rattle.field_ext.proofs.KLaws.{k_laws}
+use Rattle.field_ext.proofs.api.KLaws.{k_laws}
 use Rattle.field_ext.specs.Ring.{Ops, Laws}
 use Rattle.field_ext.specs.Sums.{sum_below}
-use Rattle.field_ext.proofs.Solve.{var, nil, unit, ◌⊕◌, ◌⊗◌, solve}
-use Rattle.field_ext.proofs.Rings.{zero_add, zero_mul, mul_zero}
-use Rattle.mle_table.proofs.EqualitySteps.{pow_up}
+use Rattle.field_ext.proofs.api.Solve.{var, nil, unit, ◌⊕◌, ◌⊗◌, solve}
+use Rattle.field_ext.proofs.api.Rings.{zero_add, zero_mul, mul_zero}
+use Rattle.mle_table.proofs.api.EqualitySteps.{pow_up}
 use Rattle.std.proofs.lemmas.List.{length-replicate}
-use Rattle.mle_table.proofs.SumLaws.{sum_below-same}
-use Rattle.wiring_poly.proofs.Sums.{sum_below-append, sum_below-zero}
+use Rattle.mle_table.proofs.api.SumLaws.{sum_below-same}
+use Rattle.wiring_poly.proofs.api.Sums.{sum_below-append, sum_below-zero}
 use Rattle.run_wiring.specs.Runs.{IsWithin}
 use Rattle.run_wiring.specs.declared.run.Run.{Run}
 use Rattle.run_wiring.specs.declared.carries.Carries.{Carries}

@@ -1,8 +1,8 @@
-pub mod Halving
-pub mod Padding
-pub mod RunSums
-pub mod Entries
-pub mod Weights
-pub mod LongestRuns
-pub mod SoundRuns
-pub mod LayersOfRuns
+mod Halving
+mod Padding
+mod RunSums
+mod Entries
+mod Weights
+mod LongestRuns
+mod SoundRuns
+mod LayersOfRuns

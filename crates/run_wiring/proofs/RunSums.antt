@@ -7,9 +7,9 @@ use Rattle.circuit_core.specs.Parts.{IsOver, zero_gate}
 use Rattle.std.specs.List.{range_with_len}
 use Rattle.field_ext.specs.Ring.{Ops, Laws}
 use Rattle.field_ext.specs.Sums.{sum_below}
-use Rattle.field_ext.proofs.Rings.{zero_add}
-use Rattle.mle_table.proofs.SumLaws.{sum_below-same}
-use Rattle.field_ext.proofs.Sums.{sum_below-front}
+use Rattle.field_ext.proofs.api.Rings.{zero_add}
+use Rattle.mle_table.proofs.api.SumLaws.{sum_below-same}
+use Rattle.field_ext.proofs.api.Sums.{sum_below-front}
 use Rattle.circuit_core.specs.declared.gate.CircuitGate.{CircuitGate}
 use Rattle.circuit_core.specs.declared.gate.Kind.{Kind}
 use Rattle.circuit_core.specs.declared.gate.Kind.TheVariants.{Add, Mul}

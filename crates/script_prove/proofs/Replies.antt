@@ -6,7 +6,7 @@ use Rattle.case_text.specs.Served.{Served}
 use Rattle.script_text.specs.declared.script.ScriptJob.{ScriptJob}
 use mathlib.Core.Logic.{dite}
 use native.Mathlib.Decide.{ℕ_discrete}
-use Rattle.job_core.proofs.Places.{some_eq, get_last, get_snoc_else, get_map}
+use Rattle.job_core.proofs.api.Places.{some_eq, get_last, get_snoc_else, get_map}
 use Rattle.prove_serve.specs.declared.outcome.HistoryOutcome.{HistoryOutcome}
 use Rattle.job_table.specs.declared.event.Outcome.{Outcome}
 use Rattle.prove_serve.specs.Script.{AreOutcomes}

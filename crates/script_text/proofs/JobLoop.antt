@@ -8,7 +8,7 @@ use Rattle.case_text.specs.declared.stop.ReadError.TheVariants as errors
 use Rattle.case_text.specs.Due.{Taking, stopped, word_at, in_order, choice_at}
 use Rattle.case_text.specs.Reading.{Fails}
 use Rattle.script_text.specs.Scripts.{follows, done, done_at, jobs_at}
-use Rattle.case_text.proofs.Each.{with_front, regroup}
+use Rattle.case_text.proofs.api.Each.{with_front, regroup}
 
 answer_is : (a b : Bool) → (let x : Result Bool Stop = Ok a in let y : Result Bool Stop = Ok b in x ≡ y) → a ≡ b
 answer_is a b e = cc

@@ -9,10 +9,10 @@ use Rattle.case_text.specs.declared.refusal.DueKind.TheVariants.{End}
 use Rattle.case_text.specs.Rules.{behind}
 use Rattle.case_text.specs.Due.{stopped, decimal_at}
 use Rattle.script_text.specs.Scripts.{positive_at}
-use Rattle.case_text.proofs.Exact.{StopsAt, GoesOn, Begins, IsExact, stops_at_end, stops_now, not_at_end}
-use Rattle.case_text.proofs.Leaves.{chosen}
-use Rattle.case_text.proofs.Choice.{stops_alike, head_is}
-use Rattle.case_text.proofs.Decimals.{IsSound, IsDecimal, decimal_exact}
+use Rattle.case_text.proofs.api.Exact.{StopsAt, GoesOn, Begins, IsExact, stops_at_end, stops_now, not_at_end}
+use Rattle.case_text.proofs.api.Leaves.{chosen}
+use Rattle.case_text.proofs.api.Choice.{stops_alike, head_is}
+use Rattle.case_text.proofs.api.Decimals.{IsSound, IsDecimal, decimal_exact}
 
 abbrev pub IsPositive : Rule → ℕ → List ℕ → Type 0
 IsPositive rule n text = (0 < n) × IsDecimal rule n text

@@ -5,9 +5,9 @@ use Rattle.case_text.specs.declared.refusal.CaseRefused.{CaseRefused}
 use Rattle.case_text.specs.declared.refusal.BadCase.{BadCase}
 use Rattle.case_text.specs.Reading.{Answers}
 use Rattle.case_text.specs.Places.{IsPlace}
-use Rattle.case_text.proofs.Exact.{IsExact, same_texts}
-use Rattle.case_text.proofs.Readings.{answers_found}
-use Rattle.case_text.proofs.Whole.{whole_one, whole_alone, refused_at, answer_found, answer_only}
+use Rattle.case_text.proofs.api.Exact.{IsExact, same_texts}
+use Rattle.case_text.proofs.api.Readings.{answers_found}
+use Rattle.case_text.proofs.api.Whole.{whole_one, whole_alone, refused_at, answer_found, answer_only}
 use Rattle.script_text.specs.declared.script.ScriptJob.{ScriptJob}
 use Rattle.script_text.specs.declared.script.MarkedJob.{MarkedJob}
 use Rattle.script_text.specs.Scripts.{IsJob, IsMarkedJob, SpellsHistoryScript, SpellsScript, history_script_reading, job_at, jobs_at, marked_job_at, script_reading}

@@ -14,13 +14,13 @@ use Rattle.case_text.specs.Spelling.{Spells, number}
 use Rattle.case_text.specs.Due.{Taking, ◌>>=◌, word_at, in_order, choice_at}
 use Rattle.case_text.specs.Reading.{case_at}
 use Rattle.script_text.specs.Scripts.{client_number, positive_at, IsJob, IsMarkedJob, AreJobs, done, done_at, job_at, job_of, jobs_at, mark, mark_at, mark_text, marked, marked_job_at}
-use Rattle.case_text.proofs.Exact.{IsExact, Joined, in_order_exact, done_exact, same_texts}
-use Rattle.case_text.proofs.Leaves.{IsWord, word_exact}
-use Rattle.case_text.proofs.Choice.{BeginsWith, Either, IsOther, choice_exact}
+use Rattle.case_text.proofs.api.Exact.{IsExact, Joined, in_order_exact, done_exact, same_texts}
+use Rattle.case_text.proofs.api.Leaves.{IsWord, word_exact}
+use Rattle.case_text.proofs.api.Choice.{BeginsWith, Either, IsOther, choice_exact}
 use Rattle.script_text.proofs.Positive.{IsPositive, positive_exact}
-use Rattle.case_text.proofs.OptionalLines.{alike_exact, joined_begins}
-use Rattle.case_text.proofs.Lines.{case_exact}
-use Rattle.case_text.proofs.Lines.{one_of_one as same_both}
+use Rattle.case_text.proofs.api.OptionalLines.{alike_exact, joined_begins}
+use Rattle.case_text.proofs.api.Lines.{case_exact}
+use Rattle.case_text.proofs.api.Lines.{one_of_one as same_both}
 
 client_exact : IsExact (IsPositive client_number) (positive_at client_number)
 client_exact = positive_exact client_number (record { some = omega arith; fits = omega arith; zero_closes = refl; other_closes = refl }) (omega arith)

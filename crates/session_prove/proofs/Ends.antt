@@ -9,14 +9,14 @@ use Rattle.field_ext.specs.Field.{K}
 use Rattle.circuit_core.specs.Faults.{fault_of}
 use Rattle.circuit_core.specs.Parts.{Parts, input_table, layer_values}
 use Rattle.circuit_core.specs.Sound.{SoundCircuit, exponent_at, greatest}
-use Rattle.gkr_layers.proofs.Honest.{honest_of_circuit}
+use Rattle.gkr_layers.proofs.api.Honest.{honest_of_circuit}
 use Rattle.gkr_layers.specs.Acceptance.{claim_of, verdict_of}
 use Rattle.gkr_layers.specs.Honest.{AreHonest}
 use Rattle.gkr_layers.specs.Layers.{challenges_of, layers_of, message_count}
 use Rattle.gkr_layers.specs.Places.Place.{At}
 use Rattle.gkr_layers.specs.declared.verdict.Verdict.TheVariants.{Accepted}
 use Rattle.gkr_layers.specs.declared.verdict.Verdict.{Verdict}
-use Rattle.gkr_verify.proofs.GivenDraws.{given-all, given-coordinates, given-rest}
+use Rattle.gkr_verify.proofs.api.GivenDraws.{given-all, given-coordinates, given-rest}
 use Rattle.proof_wire.specs.declared.form.ProofForm.TheVariants.{Line}
 use Rattle.transcript_fs.specs.Given.{given, numbers_of}
 use Rattle.live_session.specs.Layout.{messages_in, sizes_of, whole}
@@ -27,12 +27,12 @@ use Rattle.live_session.specs.declared.progress.LiveFault.{LiveFault}
 use Rattle.live_session.specs.declared.progress.LiveFault.TheVariants.{Extra, Range}
 use Rattle.live_session.specs.declared.progress.Progress.{Progress}
 use Rattle.live_session.specs.declared.progress.Progress.TheVariants.{Ended, Waiting}
-use Rattle.live_session.proofs.ElementSteps.{either}
-use Rattle.live_session.proofs.HonestList.{are_honest, length-honest}
-use Rattle.live_session.proofs.LayoutSteps.{length-sizes, whole-most, whole_all}
-use Rattle.live_session.proofs.ProverSteps.{told_end}
-use Rattle.live_session.proofs.VerifierSteps.{leading_take}
-use Rattle.proof_wire.proofs.Lengths.{bytes_length as length-bytes}
+use Rattle.live_session.proofs.api.ElementSteps.{either}
+use Rattle.live_session.proofs.api.HonestList.{are_honest, length-honest}
+use Rattle.live_session.proofs.api.LayoutSteps.{length-sizes, whole-most, whole_all}
+use Rattle.live_session.proofs.api.ProverSteps.{told_end}
+use Rattle.live_session.proofs.api.VerifierSteps.{leading_take}
+use Rattle.proof_wire.proofs.api.Lengths.{bytes_length as length-bytes}
 use Rattle.session_prove.specs.Exchange.{HasEnded}
 use Rattle.session_prove.proofs.Fronts.{in-front, whole-first}
 use Rattle.session_prove.proofs.Messages.{bytes-flat, cut-flat, earlier, elements-count, flat, message-sizes}

@@ -8,14 +8,14 @@ use Rattle.std.proofs.lemmas.List.{drop_at, take_all, take_at}
 use Rattle.std.proofs.lemmas.List.Concat.{flat_map-cons}
 use Rattle.field_ext.specs.Bytes.{bytes_of}
 use Rattle.field_ext.specs.Field.{K, prime}
-use Rattle.field_ext.proofs.ElementBytes.{imaginary_half_is, real_half_is}
+use Rattle.field_ext.proofs.api.ElementBytes.{imaginary_half_is, real_half_is}
 use Rattle.live_session.specs.Elements.{element_of, has_element, in_range, leading}
 use Rattle.live_session.specs.Layout.{whole}
-use Rattle.live_session.proofs.ElementSteps.{element_of-bytes, first_none, has_more, short}
-use Rattle.live_session.proofs.VerifierSteps.{leading_nothing}
+use Rattle.live_session.proofs.api.ElementSteps.{element_of-bytes, first_none, has_more, short}
+use Rattle.live_session.proofs.api.VerifierSteps.{leading_nothing}
 use Rattle.session_prove.proofs.Messages.{flat}
-use Rattle.live_session.proofs.LayoutSteps.{whole_step as step}
-use Rattle.live_session.proofs.LayoutSteps.{whole_stop as stop}
+use Rattle.live_session.proofs.api.LayoutSteps.{whole_step as step}
+use Rattle.live_session.proofs.api.LayoutSteps.{whole_stop as stop}
 
 -- ---- elements
 

@@ -9,7 +9,7 @@ use Rattle.std.proofs.lemmas.List.FromFn.{get_or-map-range_with_len, length-map-
 use Rattle.std.proofs.Math.Seq.{take-append-add}
 use Rattle.field_ext.specs.Bytes.{bytes_of}
 use Rattle.field_ext.specs.Field.{K, k_ops, zero_k}
-use Rattle.gkr_layers.proofs.Coefficients.{length-coefficients}
+use Rattle.gkr_layers.proofs.api.Coefficients.{length-coefficients}
 use Rattle.gkr_layers.specs.Forms.{last_polynomial, place_between}
 use Rattle.gkr_layers.specs.Layers.{GateLayer, lower_exponents, next_place, values_over}
 use Rattle.gkr_layers.specs.Places.{Place}
@@ -19,8 +19,8 @@ use Rattle.proof_wire.specs.declared.form.ProofForm.TheVariants.{Line}
 use Rattle.proof_wire.specs.Spelling.{coefficient_count}
 use Rattle.live_session.specs.Layout.{messages_in, sizes_of, triples}
 use Rattle.live_session.specs.Proving.{honest_messages, layer_messages, line_message, message_bytes, round_message}
-use Rattle.live_session.proofs.HonestList.{length-layer, prefix, whole_layer}
-use Rattle.live_session.proofs.LayoutSteps.{due_more}
+use Rattle.live_session.proofs.api.HonestList.{length-layer, prefix, whole_layer}
+use Rattle.live_session.proofs.api.LayoutSteps.{due_more}
 
 -- the elements of messages
 abbrev pub flat : List (List K) → List K

@@ -8,16 +8,16 @@ use Rattle.gkr_layers.specs.declared.verdict.Verdict.{Verdict}
 use Rattle.gkr_layers.specs.declared.verdict.Verdict.TheVariants.{Accepted}
 use Rattle.case_text.specs.Content.{Content}
 use Rattle.case_text.specs.declared.session.SessionSizes.{SessionSizes}
-use Rattle.case_prove.proofs.ProvedCases.{OneCircuit}
-use Rattle.case_prove.proofs.ProvedOutputs.{OneTree, one_meaning}
+use Rattle.case_prove.proofs.api.ProvedCases.{OneCircuit}
+use Rattle.case_prove.proofs.api.ProvedOutputs.{OneTree, one_meaning}
 use Rattle.live_session.specs.Proving.{verdict_known}
 use Rattle.live_session.specs.Verifying.{Session, element_count, elements_in, verdict_in, verifier_sent}
 use Rattle.live_session.specs.declared.progress.LiveFault.{LiveFault}
 use Rattle.live_session.specs.declared.progress.LiveFault.TheVariants.{Extra, Range}
 use Rattle.live_session.specs.declared.progress.Progress.{Progress}
 use Rattle.live_session.specs.declared.progress.Progress.TheVariants.{Ended, Waiting}
-use Rattle.live_session.proofs.ElementSteps.{either}
-use Rattle.live_session.proofs.ProverSteps.{stop_none}
+use Rattle.live_session.proofs.api.ElementSteps.{either}
+use Rattle.live_session.proofs.api.ProverSteps.{stop_none}
 use Rattle.session_prove.specs.Challenges.{challenges_in}
 use Rattle.session_prove.specs.Exchange.{sizes_of, whole_session}
 use Rattle.session_prove.specs.Sessions.{IsSession, session_on}

@@ -8,7 +8,7 @@ use Rattle.live_session.specs.Verifying.{Session, element_count, joined, kept}
 use Rattle.live_session.specs.declared.progress.LiveFault.{LiveFault}
 use Rattle.live_session.specs.declared.progress.ProverStop.{ProverStop}
 use Rattle.live_session.specs.declared.progress.ProverStop.TheVariants.{Extra, Memory, Range}
-use Rattle.live_session.proofs.ProverSteps.{stop_stays}
+use Rattle.live_session.proofs.api.ProverSteps.{stop_stays}
 
 -- the bytes that were taken, and so many more, are the first of all
 more-taken : (sent before more : List ℕ) (taken count : ℕ) → before ≡ take taken sent → more ≡ take count (drop taken sent) → before ++ more ≡ take (taken + count) sent

@@ -14,11 +14,11 @@ use Rattle.live_session.specs.Elements.{leading}
 use Rattle.live_session.specs.Layout.{sizes_of, whole}
 use Rattle.live_session.specs.Proving.{honest_for, message_bytes, prover_sent}
 use Rattle.live_session.specs.Verifying.{Session, element_count, lower, verifier_sent}
-use Rattle.live_session.proofs.ElementSteps.{either}
-use Rattle.live_session.proofs.HonestList.{length-honest}
-use Rattle.live_session.proofs.LayoutSteps.{length-sizes, whole-most}
-use Rattle.live_session.proofs.VerifierSteps.{bytes-take, leading_take}
-use Rattle.proof_wire.proofs.Lengths.{bytes_length as length-bytes}
+use Rattle.live_session.proofs.api.ElementSteps.{either}
+use Rattle.live_session.proofs.api.HonestList.{length-honest}
+use Rattle.live_session.proofs.api.LayoutSteps.{length-sizes, whole-most}
+use Rattle.live_session.proofs.api.VerifierSteps.{bytes-take, leading_take}
+use Rattle.proof_wire.proofs.api.Lengths.{bytes_length as length-bytes}
 use Rattle.session_prove.specs.Exchange.{whole_session}
 use Rattle.session_prove.proofs.Ends.{all-sent, bytes-count, goes-on, prover-at, sent-at, sent-count, words-length}
 use Rattle.session_prove.proofs.Fronts.{in-front, whole-mono}

@@ -5,8 +5,8 @@ use Rattle.case_text.specs.declared.refusal.CaseRefused.{CaseRefused}
 use Rattle.case_text.specs.declared.refusal.BadCase.{BadCase}
 use Rattle.case_text.specs.Reading.{Answers}
 use Rattle.case_text.specs.Places.{IsPlace}
-use Rattle.case_text.proofs.Readings.{answers_found}
-use Rattle.case_text.proofs.Whole.{answer_found, answer_only, refused_at, whole_alone, whole_one}
+use Rattle.case_text.proofs.api.Readings.{answers_found}
+use Rattle.case_text.proofs.api.Whole.{answer_found, answer_only, refused_at, whole_alone, whole_one}
 use Rattle.session_text.specs.Sessions.{SessionContent, SpellsSession, session_at, session_reading}
 use Rattle.session_text.proofs.SessionTexts.{SessionText, session_exact}
 

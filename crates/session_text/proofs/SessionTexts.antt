@@ -9,9 +9,9 @@ use Rattle.case_text.specs.Content.{AreValues, Content}
 use Rattle.case_text.specs.Spelling.{Spells, counted_text}
 use Rattle.case_text.specs.Due.{Taking, in_order, word_at}
 use Rattle.case_text.specs.Reading.{case_at, counted_at}
-use Rattle.case_text.proofs.Exact.{IsExact, Joined, done_exact, in_order_exact, same_texts}
-use Rattle.case_text.proofs.Leaves.{IsWord, word_exact}
-use Rattle.case_text.proofs.Lines.{IsCountedValues, case_exact, counted_exact}
+use Rattle.case_text.proofs.api.Exact.{IsExact, Joined, done_exact, in_order_exact, same_texts}
+use Rattle.case_text.proofs.api.Leaves.{IsWord, word_exact}
+use Rattle.case_text.proofs.api.Lines.{IsCountedValues, case_exact, counted_exact}
 use Rattle.session_text.specs.Sessions.{SessionContent, SpellsSession, done, session_at, words_at}
 
 -- ---- the words

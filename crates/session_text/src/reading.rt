@@ -30,7 +30,7 @@ fn session(alloc: Global, bytes: &[u8]) -> Result<(SessionCase, &[u8]), ReadErro
 }
 
 /// Takes a session, after which nothing comes.
-#[tactic(auto, using(case_text::proofs::Whole::rest_follows))]
+#[tactic(auto, using(case_text::proofs::api::Whole::rest_follows))]
 fn whole(alloc: Global, bytes: &[u8]) -> Result<SessionCase, ReadError>
     ensures { Gives (λ s. s) result (session_in bytes.now) }
 {

@@ -1,1 +1,1 @@
-pub mod Transposes
+pub mod api

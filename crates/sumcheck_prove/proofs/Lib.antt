@@ -1,4 +1,4 @@
-pub mod Summing
-pub mod Ahead
-pub mod FoldedParts
-pub mod Crossing
+mod Summing
+mod Ahead
+mod FoldedParts
+mod Crossing

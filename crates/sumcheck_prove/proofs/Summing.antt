@@ -2,13 +2,13 @@
 use Rattle.std.proofs.Common.{◌≡◌, ℕ, ◌+◌, ◌*◌, List, [], ◌∷◌, length, get_or, refl, sym, ◌∙◌, ap, ap₂, arith, add-one}
 use Rattle.field_ext.specs.Ring.{Ops, Laws}
 use Rattle.field_ext.specs.Field.{K, k_ops, add_k}
-use Rattle.field_ext.proofs.KLaws.{k_laws}
+use Rattle.field_ext.proofs.api.KLaws.{k_laws}
 use Rattle.field_ext.specs.Polynomial.{value_at, coefficients}
-use Rattle.field_ext.proofs.Solve.{var, nil, ◌⊕◌, ◌⊗◌, solve}
+use Rattle.field_ext.proofs.api.Solve.{var, nil, ◌⊕◌, ◌⊗◌, solve}
 use Rattle.field_ext.specs.Sums.{sum_below}
-use Rattle.gkr_layers.proofs.Coefficients.{length-coefficients, value-coefficients}
+use Rattle.gkr_layers.proofs.api.Coefficients.{length-coefficients, value-coefficients}
 use Rattle.round_tables.specs.LayerSum.{LayerSum, piece_poly, piece_pairs}
-use Rattle.round_tables.proofs.PartDegree.{length-part}
+use Rattle.round_tables.proofs.api.PartDegree.{length-part}
 
 pub three : {A : Type 0} (xs : List A) (x y z : A) → length xs ≡ 3 → x ≡ get_or xs 0 x → y ≡ get_or xs 1 y → z ≡ get_or xs 2 z → xs ≡ x ∷ y ∷ z ∷ []
 three [] x y z n a b c = absurd (omega arith)

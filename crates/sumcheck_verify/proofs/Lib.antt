@@ -1,1 +1,1 @@
-pub mod Middle
+pub mod api

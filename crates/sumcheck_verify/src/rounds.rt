@@ -93,7 +93,7 @@ impl Rounds {
 
     /// Takes the next round's message by its coefficients of 1 and of X squared, and answers that of X: the one with which the
     /// value at 0 plus the value at 1 is the claim. So there is no fault.
-    #[tactic(auto, using(crate::proofs::Middle::middle_adds, crate::proofs::Middle::middle_alone))]
+    #[tactic(auto, using(crate::proofs::api::Middle::middle_adds, crate::proofs::api::Middle::middle_alone))]
     pub fn take_two(&mut self, c0: Ext, c2: Ext) -> Ext
         requires { self.old.waiting ≡ false }
         ensures middle { result ≡ middle_for k_ops self.old.claim c0 c2 }

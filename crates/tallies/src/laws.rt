@@ -11,7 +11,7 @@ pub fn each_once_is_permutation()
 {}
 
 /// A list of numbers below n with none of them twice has n numbers at most.
-#[tactic(auto, using(crate::proofs::Once::few))]
+#[tactic(auto, using(crate::proofs::api::Once::few))]
 pub fn no_longer_than_its_range()
     ensures { (n : ℕ) (xs : List ℕ) → ((x : ℕ) → times x xs ≤ once_below x n) → length xs ≤ n }
 {}

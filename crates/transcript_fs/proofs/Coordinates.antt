@@ -3,7 +3,7 @@ use Rattle.std.proofs.Common.{◌≡◌, ℕ, suc, ◌+◌, ◌-◌, ◌<◌, �
 use Rattle.std.proofs.lemmas.List.{take_all}
 use Rattle.field_ext.specs.Field.{K}
 use Rattle.transcript_fs.specs.Source.{Source, point_draws, state_after_point}
-use Rattle.transcript_fs.proofs.Draws.{has_any}
+use Rattle.transcript_fs.proofs.api.Draws.{has_any}
 
 -- i of n coordinates are drawn
 pub record Drawing (source : Source) (s0 : List ℕ) (n i : ℕ) (s : List ℕ) (point : List K) : Type 0 where

@@ -1,3 +1,2 @@
-pub mod United
-pub mod Moves
-pub mod Rising
+pub mod api
+mod Moves

@@ -14,9 +14,9 @@ use Rattle.turn_lock.specs.declared.rule.View.{View}
 use Rattle.tallies.specs.Tallies.{total, times, once_below, Apart}
 use Rattle.turn_lock.specs.Lists.{unite}
 use Rattle.turn_lock.specs.Turns.{out, has_ticket, ticket_in, drew, Fits, Free, Held, IsLock, looked, Grows, mine_after, recorded, left, newcomer, kept, given, joined, spent, known_so}
-use Rattle.tallies.proofs.Totals.{total_set, total_snoc, one_le, two_le, total_le, each_set, each_other, each_snoc, inside, whole}
-use Rattle.tallies.proofs.Once.{times-append, once_more, not_here, one_at_most}
-use Rattle.turn_lock.proofs.United.{times-unite}
+use Rattle.tallies.proofs.api.Totals.{total_set, total_snoc, one_le, two_le, total_le, each_set, each_other, each_snoc, inside, whole}
+use Rattle.tallies.proofs.api.Once.{times-append, once_more, not_here, one_at_most}
+use Rattle.turn_lock.proofs.api.United.{times-unite}
 
 draws : (t serving next : ℕ) → serving ≤ next → ticket_in t serving (next + 1) ≡ ticket_in t serving next + cond (eqb t next) 1 0
 draws t serving next h = grind (arith, nat_tests)

@@ -1,6 +1,3 @@
-pub mod Hom
-pub mod Sums
-pub mod Identity
-pub mod Phases
-pub mod GateSteps
-pub mod AtField
+pub mod api
+mod Phases
+mod AtField

@@ -7,11 +7,11 @@ use Rattle.field_ext.specs.Multilinear.{eq_poly, extension_at, folded_all, bits_
 use Rattle.circuit_core.specs.declared.gate.CircuitGate.{CircuitGate}
 use Rattle.circuit_core.specs.Parts.{IsOver}
 use Rattle.wiring_poly.specs.Wiring.{sum_gates, gate_weight, summand, summand_at, gate_output}
-use Rattle.field_ext.proofs.Solve.{var, ◌⊗◌, solve}
-use Rattle.mle_table.proofs.SumLaws.{sum_cube-same, sum_cube-scale}
-use Rattle.mle_table.proofs.EqualitySteps.{eq-append}
-use Rattle.mle_table.proofs.Points.{sum-eq, ext-bits, ext-folded_all}
-use Rattle.wiring_poly.proofs.Identity.{summand_gates, sum_cube-split, sum_cube-sized, sum_cube-gates, sum_gates-all, take-front, drop-front}
+use Rattle.field_ext.proofs.api.Solve.{var, ◌⊗◌, solve}
+use Rattle.mle_table.proofs.api.SumLaws.{sum_cube-same, sum_cube-scale}
+use Rattle.mle_table.proofs.api.EqualitySteps.{eq-append}
+use Rattle.mle_table.proofs.api.Points.{sum-eq, ext-bits, ext-folded_all}
+use Rattle.wiring_poly.proofs.api.Identity.{summand_gates, sum_cube-split, sum_cube-sized, sum_cube-gates, sum_gates-all, take-front, drop-front}
 
 module _ {A : Type 0} (o : Ops A) (l : Laws A o) where
   share : (m n : ℕ) (c : A) (x y : ℕ) (h : List A → List A → A) →

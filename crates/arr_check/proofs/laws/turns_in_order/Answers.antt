@@ -1,4 +1,4 @@
-use Rattle.arr_run.proofs.StatementRows.{loop-in-order}
+use Rattle.arr_run.proofs.api.StatementRows.{loop-in-order}
 use Rattle.arr_check.specs.Shapes.{shapes}
 use Rattle.arr_check.proofs.laws.turns_in_order.Goals as goal
 

@@ -1,4 +1,4 @@
-use Rattle.arr_eval.proofs.NumberLaws.{sum_of-append}
+use Rattle.arr_eval.proofs.api.NumberLaws.{sum_of-append}
 use Rattle.arr_eval.proofs.laws.sum_in_parts.Goals as goal
 
 pub returns : goal.returns

@@ -1,4 +1,4 @@
-use Rattle.arr_run.proofs.StatementRows.{loop-in-order}
+use Rattle.arr_run.proofs.api.StatementRows.{loop-in-order}
 use Rattle.arr_eval.specs.Meaning.{numbers}
 use Rattle.arr_eval.proofs.laws.turns_in_order.Goals as goal
 

@@ -1,4 +1,4 @@
-use Rattle.arr_eval.proofs.Sized.{value-sized}
+use Rattle.arr_eval.proofs.api.Sized.{value-sized}
 use Rattle.arr_eval.proofs.laws.values_are_sized.Goals as goal
 
 pub returns : goal.returns

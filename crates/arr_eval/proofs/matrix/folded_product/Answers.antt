@@ -1,7 +1,7 @@
 use Rattle.std.proofs.Common.{◌*◌, ◌∙◌}
 use Rattle.field_ext.specs.Field.{of}
-use Rattle.field_ext.proofs.Elements.{of_same}
-use Rattle.field_ext.proofs.Words.{folded}
+use Rattle.field_ext.proofs.api.Elements.{of_same}
+use Rattle.field_ext.proofs.api.Words.{folded}
 use Rattle.arr_eval.proofs.matrix.folded_product.Goals as goal
 
 pub returns-clause-value : goal.returns-clause-value

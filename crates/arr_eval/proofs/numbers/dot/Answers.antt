@@ -1,5 +1,5 @@
 use Rattle.std.proofs.Common.{sym, ◌∙◌}
-use Rattle.arr_eval.proofs.NumberLaws.{dot_of-fold}
+use Rattle.arr_eval.proofs.api.NumberLaws.{dot_of-fold}
 use Rattle.arr_eval.proofs.numbers.dot.Goals as goal
 
 pub returns : goal.returns

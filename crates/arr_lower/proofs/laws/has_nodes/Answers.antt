@@ -1,4 +1,4 @@
-use Rattle.arr_lower.proofs.Counted.{has_nodes, accepted}
+use Rattle.arr_lower.proofs.api.Counted.{has_nodes, accepted}
 use Rattle.arr_lower.proofs.laws.has_nodes.Goals as goal
 
 pub returns-clause-some : goal.returns-clause-some

@@ -1,4 +1,4 @@
-use Rattle.arr_lower.proofs.Counted.{has_outputs}
+use Rattle.arr_lower.proofs.api.Counted.{has_outputs}
 use Rattle.arr_lower.proofs.laws.has_outputs.Goals as goal
 
 pub returns : goal.returns

@@ -1,4 +1,4 @@
-use Rattle.arr_lower.proofs.Counted.{is-list}
+use Rattle.arr_lower.proofs.api.Counted.{is-list}
 use Rattle.arr_lower.proofs.Means.{inputs-counted, nodes-fine, outputs-there}
 use Rattle.arr_lower.proofs.laws.nodes_in_order.Goals as goal
 

@@ -3,7 +3,7 @@ use Rattle.arr_ast.specs.ProgramTree.{program_tree}
 use Rattle.node_core.specs.declared.node.Node.{Node}
 use Rattle.node_core.specs.Nodes.{Nodes}
 use Rattle.arr_lower.specs.Lowering.{Kept, nodes_of}
-use Rattle.arr_lower.proofs.Counted.{is-list}
+use Rattle.arr_lower.proofs.api.Counted.{is-list}
 use Rattle.arr_lower.proofs.lowering.list_of.Goals as goal
 
 abbrev list_with : ℕ → List Node → List ℕ → Nodes

@@ -2,7 +2,7 @@ use Rattle.std.proofs.Common.{◌≡◌, ap, sym, ◌∙◌, arith}
 use Rattle.arr_ast.specs.ProgramTree.{program_tree}
 use Rattle.arr_run.specs.Program.{end_of}
 use Rattle.arr_lower.specs.Lowering.{Kept, nodes}
-use Rattle.arr_lower.proofs.Counted.{none_made, never_refused, nodes-at_end, inputs_few}
+use Rattle.arr_lower.proofs.api.Counted.{none_made, never_refused, nodes-at_end, inputs_few}
 use Rattle.arr_lower.proofs.lowering.lower.Goals as goal
 
 pub list_of-requires-clause-made : goal.list_of-requires-clause-made

@@ -6,7 +6,7 @@ use Rattle.arr_ast.specs.ProgramTree.{statement_tree}
 use Rattle.arr_ast.specs.declared.statement.Statement.{size-Statement}
 use Rattle.arr_run.specs.Agrees.{Answer, ◌>>=◌, each}
 use Rattle.arr_run.specs.Statement.{State, state, stepped, after_statement, counted_loop, turns, one_turn}
-use Rattle.arr_run.proofs.StatementRows.{after_block-made, body_smaller, turns-step}
+use Rattle.arr_run.proofs.api.StatementRows.{after_block-made, body_smaller, turns-step}
 use Rattle.arr_run.proofs.statement.+statement.Goals as goal
 
 pub all_turns-each-preserved : goal.all_turns-each-preserved

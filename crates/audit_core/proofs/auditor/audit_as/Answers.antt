@@ -7,7 +7,7 @@ use Rattle.transcript_fs.specs.Source.{Source, all_draws}
 use Rattle.proof_wire.specs.declared.messages.LayerMessages.{LayerMessages}
 use Rattle.proof_wire.specs.Lists.{all_messages}
 use Rattle.gkr_layers.specs.Layers.{layers_of}
-use Rattle.gkr_layers.proofs.Shapes.{have_shape, length-all, drawn}
+use Rattle.gkr_layers.proofs.api.Shapes.{have_shape, length-all, drawn}
 use Rattle.audit_core.specs.Audit.{IsAuditOf}
 use Rattle.audit_core.proofs.auditor.audit_as.Goals as goal
 

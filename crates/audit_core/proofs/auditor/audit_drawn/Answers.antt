@@ -13,8 +13,8 @@ use Rattle.gkr_layers.specs.Places.Place.{At}
 use Rattle.gkr_layers.specs.Sumcheck.{difference, IsExceptionalFold}
 use Rattle.gkr_layers.specs.Acceptance.{claim_in, challenge_count}
 use Rattle.gkr_layers.specs.Honest.{AreHonest}
-use Rattle.gkr_layers.proofs.Circuits.{over-embed}
-use Rattle.gkr_layers.proofs.Shapes.{have_shape, length-all}
+use Rattle.gkr_layers.proofs.api.Circuits.{over-embed}
+use Rattle.gkr_layers.proofs.api.Shapes.{have_shape, length-all}
 use Rattle.audit_core.specs.First.{NamesFirst}
 use Rattle.audit_core.specs.Truth.{IsFalseMessage}
 use Rattle.audit_core.specs.Audit.{IsDrawnExceptional, place_in}

@@ -9,8 +9,8 @@ use Rattle.proof_wire.specs.Lists.{all_messages}
 use Rattle.gkr_layers.specs.Layers.{layers_of, message_count}
 use Rattle.gkr_layers.specs.Places.Place.{At}
 use Rattle.gkr_layers.specs.Honest.{AreHonest}
-use Rattle.gkr_layers.proofs.Shapes.{have_shape, length-all}
-use Rattle.gkr_verify.proofs.GivenDraws.{given-has, given-coordinates, given-rest}
+use Rattle.gkr_layers.proofs.api.Shapes.{have_shape, length-all}
+use Rattle.gkr_verify.proofs.api.GivenDraws.{given-has, given-coordinates, given-rest}
 use Rattle.audit_core.proofs.auditor.true_messages.Goals as goal
 
 pub prove_as-requires-clause-has : goal.prove_as-requires-clause-has

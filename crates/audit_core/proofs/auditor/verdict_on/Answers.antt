@@ -8,8 +8,8 @@ use Rattle.transcript_fs.specs.Source.{all_draws}
 use Rattle.proof_wire.specs.Lists.{all_messages}
 use Rattle.gkr_layers.specs.Layers.{layers_of, message_count}
 use Rattle.gkr_layers.specs.Acceptance.{verdict_of}
-use Rattle.gkr_layers.proofs.Shapes.{have_shape, length-all}
-use Rattle.gkr_verify.proofs.GivenDraws.{given-has, given-all}
+use Rattle.gkr_layers.proofs.api.Shapes.{have_shape, length-all}
+use Rattle.gkr_verify.proofs.api.GivenDraws.{given-has, given-all}
 use Rattle.audit_core.proofs.auditor.verdict_on.Goals as goal
 
 pub check_as-requires-clause-has : goal.check_as-requires-clause-has

@@ -3,9 +3,9 @@ use Rattle.std.proofs.Common.{◌≡◌, ℕ, ◌++◌, List, length, take, IsTr
 use Rattle.std.proofs.lemmas.List.{take_all}
 use Rattle.field_ext.specs.Field.{K}
 use Rattle.circuit_core.specs.Sound.{exponent_at}
-use Rattle.wiring_poly.proofs.Identity.{written_back}
+use Rattle.wiring_poly.proofs.api.Identity.{written_back}
 use Rattle.transcript_fs.specs.Source.{Source, point_draws, state_after_point, draws, all_draws, state_after}
-use Rattle.transcript_fs.proofs.Draws.{has_front, has_after_point}
+use Rattle.transcript_fs.proofs.api.Draws.{has_front, has_after_point}
 use Rattle.proof_wire.specs.declared.messages.LayerMessages.{LayerMessages}
 use Rattle.proof_wire.specs.Lists.{messages_of, all_messages}
 use Rattle.audit_core.proofs.DrawSteps.{layer-drawn, layer-state, has_layer_here}

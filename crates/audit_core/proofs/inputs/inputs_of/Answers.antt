@@ -3,7 +3,7 @@ use Rattle.std.proofs.Common.{◌≡◌, List, [], length, get_or, ◌∙◌, ap
 use Rattle.field_ext.specs.Field.{F}
 use Rattle.circuit_core.specs.Parts.{Parts, height, input_table}
 use Rattle.circuit_eval.specs.Tables.{table_of}
-use Rattle.wiring_poly.proofs.Identity.{written_back}
+use Rattle.wiring_poly.proofs.api.Identity.{written_back}
 use Rattle.audit_core.specs.Leaves.{AreLeafValues, GiveValues}
 use Rattle.audit_core.proofs.Leaves.{leaf_values, same_table}
 use Rattle.audit_core.proofs.inputs.inputs_of.Goals as goal

@@ -3,11 +3,11 @@ use Rattle.std.proofs.Common.{length, map, sym, ◌∙◌, ap, arith}
 use Rattle.field_ext.specs.Field.{k_ops, embed_k}
 use Rattle.circuit_core.specs.Parts.{padded_values}
 use Rattle.circuit_core.specs.Sound.{exponent_at}
-use Rattle.circuit_core.proofs.Sizes.{size_of}
-use Rattle.circuit_eval.proofs.LayerTables.{same_exponent}
-use Rattle.wiring_poly.proofs.Identity.{written_back}
+use Rattle.circuit_core.proofs.api.Sizes.{size_of}
+use Rattle.circuit_eval.proofs.api.LayerTables.{same_exponent}
+use Rattle.wiring_poly.proofs.api.Identity.{written_back}
 use Rattle.gkr_layers.specs.Sumcheck.{difference}
-use Rattle.gkr_layers.proofs.Shapes.{outputs_room}
+use Rattle.gkr_layers.proofs.api.Shapes.{outputs_room}
 use Rattle.audit_core.proofs.Difference.{table_width}
 use Rattle.audit_core.proofs.outputs.claimed_less_true.Goals as goal
 

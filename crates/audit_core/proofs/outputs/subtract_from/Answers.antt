@@ -3,7 +3,7 @@ use Rattle.std.proofs.Common.{◌≡◌, List, length, map, sym, ◌∙◌, arit
 use Rattle.field_ext.specs.Field.{K, k_ops, zero_k, embed_k}
 use Rattle.circuit_core.specs.Parts.{padded_values}
 use Rattle.gkr_layers.specs.Sumcheck.{difference}
-use Rattle.gkr_layers.proofs.Circuits.{length-table}
+use Rattle.gkr_layers.proofs.api.Circuits.{length-table}
 use Rattle.audit_core.proofs.Difference.{read-difference, length-difference}
 use Rattle.audit_core.proofs.outputs.subtract_from.Goals as goal
 

@@ -11,7 +11,7 @@ use Rattle.proof_wire.specs.declared.form.ProofForm.TheVariants.{Line}
 use Rattle.proof_wire.specs.Lists.{all_messages}
 use Rattle.audit_core.specs.Audit.{IsAuditOf}
 use Rattle.case_text.specs.Content.{Content}
-use Rattle.case_prove.proofs.ReadProofs.{with_outputs}
+use Rattle.case_prove.proofs.api.ReadProofs.{with_outputs}
 use Rattle.case_prove.proofs.auditing.audit_claim.Goals as goal
 
 pub returns : goal.returns

@@ -11,7 +11,7 @@ use Rattle.gkr_verify.specs.ShortProof.{sums_of}
 use Rattle.transcript_fs.specs.Transcript.{transcript}
 use Rattle.case_text.specs.Content.{Content}
 use Rattle.case_prove.specs.Converted.{own_sums}
-use Rattle.case_prove.proofs.ReadProofs.{with_outputs}
+use Rattle.case_prove.proofs.api.ReadProofs.{with_outputs}
 use Rattle.case_prove.proofs.converting.convert_claim.Goals as goal
 
 pub returns-in-Some-2 : goal.returns-in-Some-2

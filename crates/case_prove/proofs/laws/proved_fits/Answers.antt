@@ -1,7 +1,7 @@
 use Rattle.std.proofs.Common.{sym, subst}
 use Rattle.proof_two.specs.Kinds.{kind_spelling}
 use Rattle.case_text.specs.Content.{Fits}
-use Rattle.case_prove.proofs.ProvedOutputs.{sound, meaning_there}
+use Rattle.case_prove.proofs.api.ProvedOutputs.{sound, meaning_there}
 use Rattle.case_prove.proofs.ProvedSizes.{fits, kind_length}
 use Rattle.case_prove.proofs.laws.proved_fits.Goals as goal
 

@@ -1,5 +1,5 @@
 use Rattle.proof_two.specs.Kinds.{form_in}
-use Rattle.case_prove.proofs.ProvedCases.{accepted}
+use Rattle.case_prove.proofs.api.ProvedCases.{accepted}
 use Rattle.case_prove.proofs.laws.proved_is_accepted.Goals as goal
 
 pub returns : goal.returns

@@ -1,5 +1,5 @@
 use Rattle.proof_two.specs.Kinds.{form_in}
-use Rattle.case_prove.proofs.ProvedCases.{one_proved}
+use Rattle.case_prove.proofs.api.ProvedCases.{one_proved}
 use Rattle.gkr_layers.specs.Places.Place.{At}
 use Rattle.case_prove.proofs.laws.proved_is_one.Goals as goal
 

@@ -2,7 +2,7 @@ use Rattle.std.proofs.Common.{◌<◌, ◌≤◌, length, sym, subst, arith}
 use Rattle.proof_two.specs.Kinds.{kind_spelling}
 use Rattle.case_text.specs.Content.{Content}
 use Rattle.case_text.specs.Spelling.{lower_case_text}
-use Rattle.case_prove.proofs.ProvedOutputs.{sound, meaning_there}
+use Rattle.case_prove.proofs.api.ProvedOutputs.{sound, meaning_there}
 use Rattle.case_prove.proofs.ProvedSizes.{few_outputs, kind_length}
 use Rattle.case_prove.proofs.ProvedText.{short}
 use Rattle.case_prove.proofs.laws.proved_is_short.Goals as goal

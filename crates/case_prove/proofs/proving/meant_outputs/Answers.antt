@@ -3,7 +3,7 @@ use Rattle.std.proofs.Common.{◌∙◌, ℕ, take, drop, ap, sym, refl}
 use Rattle.std.proofs.lemmas.Result.{IfOk-weaker}
 use Rattle.circuit_core.specs.Parts.{layer_values}
 use Rattle.circuit_core.specs.Sound.{SoundCircuit}
-use Rattle.case_prove.proofs.ProvedOutputs.{evaluated, outputs_read}
+use Rattle.case_prove.proofs.api.ProvedOutputs.{evaluated, outputs_read}
 use Rattle.case_prove.proofs.proving.meant_outputs.Goals as goal
 
 pub returns-clause-meaning : goal.returns-clause-meaning

@@ -9,7 +9,7 @@ use Rattle.proof_two.specs.Kinds.{form_in, kind_spelling}
 use Rattle.gkr_layers.specs.Honest.{AreHonestMessages}
 use Rattle.case_prove.specs.Started.{start_of}
 use Rattle.case_text.specs.Content.{Content}
-use Rattle.case_prove.proofs.ProvedCases.{same_content}
+use Rattle.case_prove.proofs.api.ProvedCases.{same_content}
 use Rattle.case_prove.proofs.ProvedSizes.{fits, few_outputs, kind_length}
 use Rattle.case_prove.proofs.proving.prove_laid_out.Goals as goal
 

@@ -1,6 +1,6 @@
 use Rattle.std.proofs.Common.{ap, ◌∙◌, ◌++◌, ◌∷◌, [], arith}
 use Rattle.field_ext.specs.Field.{F}
-use Rattle.case_prove.proofs.ProvedOutputs.{one_more}
+use Rattle.case_prove.proofs.api.ProvedOutputs.{one_more}
 use Rattle.case_prove.proofs.proving.real_parts.Goals as goal
 
 pub loop-position-preserved : goal.loop-position-preserved

@@ -5,7 +5,7 @@ use Rattle.field_ext.specs.Field.{F}
 use Rattle.circuit_core.specs.Parts.{Parts}
 use Rattle.case_text.specs.Content.{Content}
 use Rattle.case_prove.specs.Verified.{HasProof}
-use Rattle.case_prove.proofs.ReadProofs.{with_outputs}
+use Rattle.case_prove.proofs.api.ReadProofs.{with_outputs}
 use Rattle.case_prove.proofs.Statements.{of_start}
 use Rattle.case_prove.proofs.verification.check_claim.Goals as goal
 

@@ -3,7 +3,7 @@ use Rattle.std.specs.Option.{option_map}
 use Rattle.std.specs.Global.{Vec}
 use Rattle.field_ext.specs.Field.{F}
 use Rattle.case_text.specs.Reading.{case_at}
-use Rattle.case_text.proofs.Lines.{content, case_exact}
+use Rattle.case_text.proofs.api.Lines.{content, case_exact}
 use Rattle.case_text.proofs.reading.case_of.Goals as goal
 
 pub new-requires : goal.new-requires

@@ -4,7 +4,7 @@ use Rattle.field_ext.specs.Field.{of}
 use Rattle.case_text.specs.Rules.{value_rule}
 use Rattle.case_text.specs.Due.{Taking, ◌>>=◌, decimal_at}
 use Rattle.case_text.specs.Reading.{value_at, values_at}
-use Rattle.case_text.proofs.Each.{goes_on, ends, is_done, fails_on}
+use Rattle.case_text.proofs.api.Each.{goes_on, ends, is_done, fails_on}
 use Rattle.case_text.proofs.reading.values.Goals as goal
 
 pub returns-in_err-number : goal.returns-in_err-number

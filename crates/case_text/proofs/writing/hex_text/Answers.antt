@@ -1,5 +1,5 @@
 use Rattle.std.proofs.Common.{arith}
-use Rattle.case_text.proofs.HexWriting.{lower_is_hex}
+use Rattle.case_text.proofs.api.HexWriting.{lower_is_hex}
 use Rattle.case_text.proofs.writing.hex_text.Goals as goal
 
 pub returns-clause-hex : goal.returns-clause-hex

@@ -1,5 +1,5 @@
 use Rattle.std.proofs.lemmas.Result.{IfOk-weaker}
-use Rattle.case_text.proofs.HexWriting.{both, lower_spells}
+use Rattle.case_text.proofs.api.HexWriting.{both, lower_spells}
 use Rattle.case_text.proofs.writing.write_case.Goals as goal
 
 pub returns-clause-spells : goal.returns-clause-spells

@@ -4,7 +4,7 @@ use native.Mathlib.Decide.{ℕ_discrete}
 use mathlib.Core.Option.{some-injective}
 use lib.ListN.{get_elem?}
 use Rattle.std.specs.Slots.{slots_items, slots_filled}
-use Rattle.chunk_board.proofs.Emptying.{there_last, there_before, within}
+use Rattle.chunk_board.proofs.api.Emptying.{there_last, there_before, within}
 use Rattle.chunk_board.proofs.slots.brought_home.Goals as goal
 
 pub unreachable-requires : goal.unreachable-requires

@@ -1,6 +1,6 @@
 use Rattle.std.proofs.Common.{rules, ◌≡◌, ◌∷◌, ◌++◌, [], map, Some, sym, ap, ◌∙◌, arith}
 use Rattle.std.proofs.lemmas.List.{map-append}
-use Rattle.chunk_board.proofs.Emptying.{take_more, got, get_set_other}
+use Rattle.chunk_board.proofs.api.Emptying.{take_more, got, get_set_other}
 use Rattle.chunk_board.proofs.slots.emptied.Goals as goal
 
 pub unreachable-requires : goal.unreachable-requires

@@ -1,6 +1,6 @@
 use Rattle.std.proofs.Common.{◌≡◌, ◌∷◌, ◌++◌, [], map, replicate, vec_len, None, Some, suc, sym, ap, ◌∙◌, arith}
 use Rattle.std.proofs.lemmas.List.{append_assoc}
-use Rattle.chunk_board.proofs.Emptying.{fill_step}
+use Rattle.chunk_board.proofs.api.Emptying.{fill_step}
 use Rattle.chunk_board.proofs.slots.filled.Goals as goal
 
 pub loop-part-preserved : goal.loop-part-preserved

@@ -1,7 +1,7 @@
 -- A table of k coordinates has two to the power of k values
 use Rattle.std.proofs.Common.{◌∙◌, length, sym, ap}
 use Rattle.circuit_core.specs.Sound.{exponent_at}
-use Rattle.circuit_eval.proofs.LayerTables.{length-table, same_exponent}
+use Rattle.circuit_eval.proofs.api.LayerTables.{length-table, same_exponent}
 use Rattle.circuit_eval.proofs.laws.coordinates_by_layer.Goals as goal
 
 pub returns : goal.returns

@@ -1,7 +1,7 @@
 -- The tables of a circuit's values have the sizes of its layers
 use Rattle.std.proofs.Common.{length, ◌∙◌, ap, sym}
-use Rattle.circuit_core.proofs.Sizes.{size_of}
-use Rattle.circuit_eval.proofs.LayerTables.{length-table}
+use Rattle.circuit_core.proofs.api.Sizes.{size_of}
+use Rattle.circuit_eval.proofs.api.LayerTables.{length-table}
 use Rattle.circuit_eval.proofs.laws.tables_fit.Goals as goal
 
 pub returns : goal.returns

@@ -1,7 +1,7 @@
 -- All gates are passed
 use Rattle.std.proofs.Common.{arith}
 use Rattle.circuit_core.specs.Parts.{gate_value, zero_gate, zero_f}
-use Rattle.mle_table.proofs.Written.{written}
+use Rattle.mle_table.proofs.api.Written.{written}
 use Rattle.circuit_eval.proofs.layer.evaluate.Goals as goal
 
 pub returns : goal.returns

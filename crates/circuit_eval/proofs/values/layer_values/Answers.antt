@@ -3,9 +3,9 @@ use Rattle.std.proofs.Common.{◌≡◌, ◌<◌, ◌≤◌, ◌+◌, ◌-◌, �
 use Rattle.std.proofs.lemmas.List.{map-append, length-map, length_push}
 use Rattle.field_ext.specs.Field.{embed_k}
 use Rattle.circuit_core.specs.Parts.{IsOver, height, width_of}
-use Rattle.circuit_core.proofs.LayerValues.{layer_values_last}
+use Rattle.circuit_core.proofs.api.LayerValues.{layer_values_last}
 use Rattle.circuit_eval.specs.Tables.{AreTables}
-use Rattle.circuit_eval.proofs.LayerTables.{length-values, values_power, made, AreTold, told_push, turned, map-reverse}
+use Rattle.circuit_eval.proofs.api.LayerTables.{length-values, values_power, made, AreTold, told_push, turned, map-reverse}
 use Rattle.circuit_eval.proofs.values.layer_values.Goals as goal
 
 pub of_base-requires : goal.of_base-requires

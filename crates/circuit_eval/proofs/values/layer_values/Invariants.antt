@@ -1,7 +1,7 @@
 -- The tables so far are those of the layers passed, from the leaves
 use Rattle.std.proofs.Common.{◌≡◌, ◌+◌, map, length}
 use Rattle.circuit_core.specs.Parts.{height, layer_values}
-use Rattle.circuit_eval.proofs.LayerTables.{AreTold}
+use Rattle.circuit_eval.proofs.api.LayerTables.{AreTold}
 use Rattle.circuit_eval.proofs.values.layer_values.Given as goal
 
 abbrev pub invariant-loop-layer : goal.invariant-loop-layer

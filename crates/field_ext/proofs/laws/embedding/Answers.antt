@@ -1,4 +1,4 @@
-use Rattle.field_ext.proofs.Embedding.{embed-add, embed-mul, embed-neg}
+use Rattle.field_ext.proofs.api.Embedding.{embed-add, embed-mul, embed-neg}
 use Rattle.field_ext.proofs.laws.embedding.Goals as goal
 
 pub returns-clause-sums : goal.returns-clause-sums

@@ -1,7 +1,7 @@
 use Rattle.case_text.specs.declared.form.Form.TheVariants.{Full}
 use Rattle.gkr_cmd.specs.Replies.{IsVerifyAnswer}
 use Rattle.case_prove.specs.Verified.{HasAcceptedProof}
-use Rattle.case_prove.proofs.AcceptedProofs.{verdict_on}
+use Rattle.case_prove.proofs.api.AcceptedProofs.{verdict_on}
 use Rattle.gkr_cmd.proofs.VerifyAnswers.{verify_done}
 use Rattle.gkr_cmd.proofs.OneReply.{done}
 use Rattle.gkr_cmd.proofs.laws.accepted_is_done.Goals as goal

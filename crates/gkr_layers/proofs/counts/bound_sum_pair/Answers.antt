@@ -1,7 +1,7 @@
 use Rattle.std.proofs.Common.{arith}
 use Rattle.circuit_core.specs.Sound.{exponent_at}
 use Rattle.gkr_layers.specs.Layers.{layers_of}
-use Rattle.gkr_layers.proofs.Circuits.{length-layers}
+use Rattle.gkr_layers.proofs.api.Circuits.{length-layers}
 use Rattle.gkr_layers.proofs.Few.{pair_bounds_add}
 use Rattle.gkr_layers.proofs.counts.bound_sum_pair.Goals as goal
 

@@ -1,5 +1,5 @@
 use Rattle.std.proofs.Common.{arith}
-use Rattle.gkr_layers.proofs.Circuits.{circuit_count}
+use Rattle.gkr_layers.proofs.api.Circuits.{circuit_count}
 use Rattle.gkr_layers.proofs.counts.challenge_count.Goals as goal
 
 pub returns : goal.returns

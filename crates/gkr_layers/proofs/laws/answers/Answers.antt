@@ -1,4 +1,4 @@
-use Rattle.gkr_layers.proofs.Answers.{answer_from-verdict, all_taken}
+use Rattle.gkr_layers.proofs.api.Answers.{answer_from-verdict, all_taken}
 use Rattle.gkr_layers.proofs.laws.answers.Goals as goal
 
 pub returns-clause-verdict : goal.returns-clause-verdict

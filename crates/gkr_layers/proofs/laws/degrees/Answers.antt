@@ -1,5 +1,5 @@
 use Rattle.field_ext.specs.Field.{k_ops}
-use Rattle.gkr_layers.proofs.Degree.{length-round_polynomial, length-last}
+use Rattle.gkr_layers.proofs.api.Degree.{length-round_polynomial, length-last}
 use Rattle.gkr_layers.proofs.laws.degrees.Goals as goal
 
 pub returns-clause-rounds : goal.returns-clause-rounds

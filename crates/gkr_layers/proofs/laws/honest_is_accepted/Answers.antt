@@ -1,5 +1,5 @@
 -- The verifier accepts honest messages
-use Rattle.gkr_layers.proofs.Honest.{honest_of_circuit, honest_proof}
+use Rattle.gkr_layers.proofs.api.Honest.{honest_of_circuit, honest_proof}
 use Rattle.gkr_layers.proofs.laws.honest_is_accepted.Goals as goal
 
 pub returns-clause-forms : goal.returns-clause-forms

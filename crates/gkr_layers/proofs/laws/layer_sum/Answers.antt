@@ -1,6 +1,6 @@
 use Rattle.field_ext.specs.Field.{k_ops}
-use Rattle.field_ext.proofs.KLaws.{k_laws}
-use Rattle.gkr_layers.proofs.PlaceSums.{place_sum}
+use Rattle.field_ext.proofs.api.KLaws.{k_laws}
+use Rattle.gkr_layers.proofs.api.PlaceSums.{place_sum}
 use Rattle.gkr_layers.proofs.laws.layer_sum.Goals as goal
 
 pub returns : goal.returns

@@ -1,6 +1,6 @@
 use Rattle.circuit_core.specs.Parts.{leaf_value, padded_values}
 use Rattle.std.proofs.Common.{map, drop}
-use Rattle.gkr_layers.proofs.Circuits.{over-embed}
+use Rattle.gkr_layers.proofs.api.Circuits.{over-embed}
 use Rattle.gkr_layers.proofs.laws.one_value.Goals as goal
 
 pub returns : goal.returns

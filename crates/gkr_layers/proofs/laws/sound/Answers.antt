@@ -1,4 +1,4 @@
-use Rattle.gkr_layers.proofs.Shapes as shapes
+use Rattle.gkr_layers.proofs.api.Shapes as shapes
 use Rattle.gkr_layers.proofs.laws.sound.Goals as goal
 
 pub returns-clause-forms : goal.returns-clause-forms

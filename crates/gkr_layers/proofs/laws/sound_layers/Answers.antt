@@ -1,5 +1,5 @@
 use Rattle.field_ext.specs.Field.{k_ops}
-use Rattle.field_ext.proofs.KLaws.{k_laws, k_same}
+use Rattle.field_ext.proofs.api.KLaws.{k_laws, k_same}
 use Rattle.gkr_layers.proofs.SoundLayers.{sound_layers}
 use Rattle.gkr_layers.proofs.laws.sound_layers.Goals as goal
 

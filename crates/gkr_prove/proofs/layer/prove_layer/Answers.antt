@@ -3,7 +3,7 @@ use Rattle.std.proofs.Common.{◌≡◌, ℕ, ◌+◌, ◌++◌, List, [], ◌�
 use Rattle.std.proofs.lemmas.List.{length-map}
 use Rattle.field_ext.specs.Field.{K, k_ops}
 use Rattle.field_ext.specs.Polynomial.{coefficients}
-use Rattle.gkr_layers.proofs.Coefficients.{length-coefficients}
+use Rattle.gkr_layers.proofs.api.Coefficients.{length-coefficients}
 use Rattle.gkr_layers.specs.Forms.{last_polynomial, place_between}
 use Rattle.gkr_layers.specs.ClaimPlace.{place_of}
 use Rattle.proof_wire.specs.Forms.{last_degree}
@@ -11,7 +11,7 @@ use Rattle.round_tables.specs.LayerSum.{LayerSum}
 use Rattle.transcript_fs.specs.Source.{Source, draws, state_after}
 use Rattle.proof_wire.specs.Spelling.{coefficients_of}
 use Rattle.proof_wire.specs.Lists.{round_messages}
-use Rattle.transcript_fs.proofs.Draws.{has_behind, has_front}
+use Rattle.transcript_fs.proofs.api.Draws.{has_behind, has_front}
 use Rattle.gkr_layers.specs.Honest.{AreHonestRounds, IsHonestLayer}
 use Rattle.gkr_layers.specs.Layers.{next_place}
 use Rattle.gkr_prove.proofs.HonestSteps.{honest_layer, layer_place, state-more}

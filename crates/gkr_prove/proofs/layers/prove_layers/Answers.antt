@@ -8,12 +8,12 @@ use Rattle.gkr_layers.specs.Layers.{GateLayer, layers_of, lower_exponents, messa
 use Rattle.transcript_fs.specs.Source.{Source, draws, state_after}
 use Rattle.proof_wire.specs.declared.messages.LayerMessages.{LayerMessages}
 use Rattle.proof_wire.specs.Lists.{messages_of, all_messages, HasShape, HaveShape}
-use Rattle.transcript_fs.proofs.Draws.{length-draws, state-append}
-use Rattle.gkr_layers.proofs.Circuits.{below_more, below_none}
-use Rattle.gkr_layers.proofs.Shapes.{length-messages, has_layer, has_below}
+use Rattle.transcript_fs.proofs.api.Draws.{length-draws, state-append}
+use Rattle.gkr_layers.proofs.api.Circuits.{below_more, below_none}
+use Rattle.gkr_layers.proofs.api.Shapes.{length-messages, has_layer, has_below}
 use Rattle.gkr_layers.specs.Honest.{AreHonest, IsHonestLayer}
-use Rattle.gkr_prove.proofs.LayerSteps.{messages-more, table_values, layers_more, over-next}
-use Rattle.gkr_prove.proofs.TableShapes.{table_exponent, is_layer, few_gates, shape_more}
+use Rattle.gkr_prove.proofs.api.LayerSteps.{messages-more, table_values, layers_more, over-next}
+use Rattle.gkr_prove.proofs.api.TableShapes.{table_exponent, is_layer, few_gates, shape_more}
 use Rattle.gkr_prove.proofs.layers.prove_layers.Goals as goal
 use Rattle.gkr_layers.specs.Places.{Place, IsOver}
 use Rattle.gkr_layers.specs.ClaimPlace.{place_of}

@@ -3,13 +3,13 @@ use Rattle.std.proofs.Common.{◌≡◌, ℕ, ◌++◌, List, IsTrue, length, ta
 use Rattle.circuit_core.specs.Parts.{Parts, input_table}
 use Rattle.circuit_core.specs.Sound.{exponent_at, exponents}
 use Rattle.gkr_layers.specs.Layers.{layers_of, message_count}
-use Rattle.wiring_poly.proofs.Identity.{written_back}
+use Rattle.wiring_poly.proofs.api.Identity.{written_back}
 use Rattle.transcript_fs.specs.Source.{Source, point_draws, state_after_point, draws, state_after}
 use Rattle.proof_wire.specs.declared.messages.LayerMessages.{LayerMessages}
 use Rattle.proof_wire.specs.Lists.{all_messages, HaveShape}
-use Rattle.transcript_fs.proofs.Draws.{has_front, has_after_point}
+use Rattle.transcript_fs.proofs.api.Draws.{has_front, has_after_point}
 use Rattle.gkr_layers.specs.Honest.{AreHonest}
-use Rattle.gkr_layers.proofs.Shapes.{have_circuit_shape}
+use Rattle.gkr_layers.proofs.api.Shapes.{have_circuit_shape}
 use Rattle.gkr_prove.proofs.prover.prove_as.Goals as goal
 use Rattle.gkr_layers.specs.Places.{IsOver}
 use Rattle.gkr_layers.specs.Places.Place.{At}

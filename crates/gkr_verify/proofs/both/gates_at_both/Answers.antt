@@ -2,8 +2,8 @@ use Rattle.std.proofs.Common.{◌≡◌, ℕ, ◌+◌, ◌*◌, ◌^◌, ◌<◌
 use Rattle.std.proofs.lemmas.Grind.{div_ceil_times}
 use Rattle.field_ext.specs.Field.{K, k_ops, add_k, mul_k, zero_k}
 use Rattle.field_ext.specs.Multilinear.{eq_poly}
-use Rattle.field_ext.proofs.KLaws.{k_laws}
-use Rattle.mle_table.proofs.EqualitySteps.{pow_up}
+use Rattle.field_ext.proofs.api.KLaws.{k_laws}
+use Rattle.mle_table.proofs.api.EqualitySteps.{pow_up}
 use Rattle.circuit_core.specs.declared.gate.CircuitGate.{CircuitGate}
 use Rattle.circuit_core.specs.Parts.{zero_gate}
 use Rattle.wiring_poly.specs.Wiring.{by_kind}

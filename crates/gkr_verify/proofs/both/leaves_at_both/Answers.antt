@@ -4,7 +4,7 @@ use Rattle.std.proofs.lemmas.List.{get_or-map, length-map}
 use Rattle.field_ext.specs.Field.{F, K, k_ops, add_k, mul_k, embed_k, zero_k}
 use Rattle.field_ext.specs.Sums.{sum_below}
 use Rattle.field_ext.specs.Multilinear.{eq_poly}
-use Rattle.field_ext.proofs.KLaws.{k_laws}
+use Rattle.field_ext.proofs.api.KLaws.{k_laws}
 use Rattle.circuit_core.specs.declared.gate.Leaf.{Leaf}
 use Rattle.circuit_core.specs.Parts.{leaf_value, zero_f}
 use Rattle.gkr_verify.specs.Blocks.{with_factors}

@@ -4,13 +4,13 @@ use Rattle.field_ext.specs.Multilinear.{extension_at}
 use Rattle.circuit_core.specs.Parts.{padded_values}
 use Rattle.circuit_core.specs.Sound.{exponent_at}
 use Rattle.gkr_layers.specs.Layers.{layers_of, message_count}
-use Rattle.circuit_core.proofs.Sizes.{size_of}
+use Rattle.circuit_core.proofs.api.Sizes.{size_of}
 use Rattle.transcript_fs.specs.Source.{Source, point_draws, state_after_point, draws}
 use Rattle.gkr_layers.specs.Equations.{equations, answer}
 use Rattle.gkr_layers.specs.Acceptance.{CircuitClaim, claim_in}
 use Rattle.proof_wire.specs.Lists.{all_messages}
-use Rattle.transcript_fs.proofs.Draws.{has_front, has_after_point}
-use Rattle.gkr_layers.proofs.Shapes.{have_shape, messages_height, outputs_room}
+use Rattle.transcript_fs.proofs.api.Draws.{has_front, has_after_point}
+use Rattle.gkr_layers.proofs.api.Shapes.{have_shape, messages_height, outputs_room}
 use Rattle.gkr_verify.proofs.buffers.check_in.Goals as goal
 use Rattle.gkr_layers.specs.Places.Place.{At}
 

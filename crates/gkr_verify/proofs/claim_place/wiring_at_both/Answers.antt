@@ -1,5 +1,5 @@
 use Rattle.std.proofs.Common.{ℕ, ◌+◌, ◌^◌, ◌≤◌, length, arith, sym, ◌∙◌, ap, subst}
-use Rattle.circuit_core.proofs.Sizes.{size_of, gates_size}
+use Rattle.circuit_core.proofs.api.Sizes.{size_of, gates_size}
 use Rattle.gkr_verify.proofs.claim_place.wiring_at_both.Goals as goal
 
 pub gates_at_both-requires-clause-first : goal.gates_at_both-requires-clause-first

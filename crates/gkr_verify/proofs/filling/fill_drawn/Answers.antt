@@ -2,7 +2,7 @@ use Rattle.std.proofs.Common.{ℕ, List, IsTrue, drop, length, sym, ◌∙◌, s
 use Rattle.field_ext.specs.Field.{K}
 use Rattle.circuit_core.specs.Sound.{exponent_at, exponents}
 use Rattle.transcript_fs.specs.Source.{Source}
-use Rattle.transcript_fs.proofs.Draws.{has_front}
+use Rattle.transcript_fs.proofs.api.Draws.{has_front}
 use Rattle.proof_wire.specs.declared.messages.LayerMessages.{LayerMessages}
 use Rattle.proof_wire.specs.declared.form.ProofForm.TheVariants.{Line}
 use Rattle.proof_wire.specs.Lists.{all_messages, HaveShape}
@@ -10,7 +10,7 @@ use Rattle.proof_two.specs.declared.pairs.LayerPairs.{LayerPairs}
 use Rattle.proof_two.specs.Lists.{HavePairs}
 use Rattle.gkr_layers.specs.Layers.{layers_of, message_count}
 use Rattle.gkr_verify.specs.ShortProof.{filled_layers}
-use Rattle.gkr_verify.proofs.Filled.{filled-shape}
+use Rattle.gkr_verify.proofs.api.Filled.{filled-shape}
 use Rattle.gkr_verify.proofs.SumSteps.{has_messages}
 use Rattle.gkr_verify.proofs.filling.fill_drawn.Goals as goal
 

@@ -6,7 +6,7 @@ use Rattle.proof_wire.specs.declared.messages.Round.{Round}
 use Rattle.proof_wire.specs.Spelling.{coefficients_of}
 use Rattle.gkr_verify.specs.ShortProof.{filled_round}
 use Rattle.gkr_verify.proofs.FillSteps.{RoundsFilled, round_filled, round_has}
-use Rattle.proof_wire.proofs.Apart.{round_apart as round_by_coefficients}
+use Rattle.proof_wire.proofs.api.Apart.{round_apart as round_by_coefficients}
 use Rattle.gkr_verify.proofs.filling.fill_rounds.Goals as goal
 
 pub draw_after-requires : goal.draw_after-requires

@@ -3,9 +3,9 @@ use Rattle.field_ext.specs.Field.{k_ops, embed_k}
 use Rattle.field_ext.specs.Multilinear.{extension_at}
 use Rattle.circuit_core.specs.Parts.{padded_values}
 use Rattle.circuit_core.specs.Sound.{exponent_at}
-use Rattle.circuit_core.proofs.Sizes.{size_of}
+use Rattle.circuit_core.proofs.api.Sizes.{size_of}
 use Rattle.transcript_fs.specs.Source.{Source, point_draws}
-use Rattle.gkr_layers.proofs.Shapes.{outputs_room}
+use Rattle.gkr_layers.proofs.api.Shapes.{outputs_room}
 use Rattle.gkr_verify.proofs.filling.start.Goals as goal
 
 pub claim_there-claim-requires-clause-fits : goal.claim_there-claim-requires-clause-fits

@@ -1,7 +1,7 @@
 use Rattle.circuit_core.specs.Sound.{exponent_at}
 use Rattle.transcript_fs.specs.Source.{state_after_point}
 use Rattle.gkr_verify.specs.ShortProof.{output_claim}
-use Rattle.gkr_verify.proofs.Filled.{filled-shape, shortened-filled}
+use Rattle.gkr_verify.proofs.api.Filled.{filled-shape, shortened-filled}
 use Rattle.gkr_verify.proofs.laws.filled_shape.Goals as goal
 
 pub returns-clause-shape : goal.returns-clause-shape

@@ -1,4 +1,4 @@
-use Rattle.gkr_verify.proofs.Filled.{no_sum}
+use Rattle.gkr_verify.proofs.api.Filled.{no_sum}
 use Rattle.gkr_verify.proofs.laws.no_sum.Goals as goal
 
 pub returns : goal.returns

@@ -1,4 +1,4 @@
-use Rattle.gkr_verify.proofs.Filled.{sums-fill}
+use Rattle.gkr_verify.proofs.api.Filled.{sums-fill}
 use Rattle.gkr_verify.proofs.laws.sums_fill.Goals as goal
 
 pub returns : goal.returns

@@ -7,15 +7,15 @@ use Rattle.circuit_core.specs.Sound.{exponent_at}
 use Rattle.gkr_layers.specs.Places.{Place, weighted_summand_from}
 use Rattle.gkr_layers.specs.Forms.{said_left, said_right, place_between}
 use Rattle.gkr_layers.specs.ClaimPlace.{place_of}
-use Rattle.gkr_layers.proofs.Forms.{two_at_least}
-use Rattle.circuit_core.proofs.Sizes.{size_of}
+use Rattle.gkr_layers.proofs.api.Forms.{two_at_least}
+use Rattle.circuit_core.proofs.api.Sizes.{size_of}
 use Rattle.transcript_fs.specs.Source.{Source, draws, state_after}
 use Rattle.proof_wire.specs.Spelling.{coefficients_of}
 use Rattle.gkr_layers.specs.Equations.{sum_equations, claim_after, answer}
 use Rattle.gkr_verify.specs.Rounds.{sum_failure}
 use Rattle.proof_wire.specs.Lists.{round_messages}
 use Rattle.gkr_verify.proofs.LayerSteps.{round_fails, end_fails, end_holds}
-use Rattle.transcript_fs.proofs.Draws.{state-append, has_behind}
+use Rattle.transcript_fs.proofs.api.Draws.{state-append, has_behind}
 use Rattle.gkr_verify.proofs.layer.check_layer.Goals as goal
 use Rattle.gkr_layers.specs.declared.verdict.Verdict.TheVariants.{End}
 

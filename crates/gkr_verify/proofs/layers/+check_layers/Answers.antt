@@ -7,13 +7,13 @@ use Rattle.transcript_fs.specs.Source.{Source, draws}
 use Rattle.proof_wire.specs.declared.messages.LayerMessages.{LayerMessages}
 use Rattle.gkr_layers.specs.Equations.{equations, answer}
 use Rattle.proof_wire.specs.Lists.{all_messages, HaveShape}
-use Rattle.gkr_layers.proofs.Circuits.{below_more}
-use Rattle.gkr_layers.proofs.Shapes.{has_layer, has_below}
+use Rattle.gkr_layers.proofs.api.Circuits.{below_more}
+use Rattle.gkr_layers.proofs.api.Shapes.{has_layer, has_below}
 use Rattle.gkr_verify.proofs.layers.+check_layers.Goals as goal
 use Rattle.gkr_layers.specs.Places.{IsOver}
 use Rattle.gkr_layers.specs.Forms.{place_between}
 use Rattle.gkr_layers.specs.ClaimPlace.{place_of}
-use Rattle.gkr_layers.proofs.Forms.{place_over}
+use Rattle.gkr_layers.proofs.api.Forms.{place_over}
 
 pub check_layer-requires-clause-has : goal.check_layer-requires-clause-has
 check_layer-requires-clause-has g t c =

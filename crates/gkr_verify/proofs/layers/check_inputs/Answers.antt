@@ -2,10 +2,10 @@ use Rattle.std.proofs.Common.{ℕ, ◌^◌, map, arith, ◌∙◌, ap, sym}
 use Rattle.field_ext.specs.Field.{k_ops, embed_k}
 use Rattle.circuit_core.specs.Parts.{height, leaf_value, padded_values}
 use Rattle.circuit_core.specs.Sound.{exponent_at}
-use Rattle.circuit_core.proofs.Sizes.{size_of}
+use Rattle.circuit_core.proofs.api.Sizes.{size_of}
 use Rattle.gkr_layers.specs.Places.{value_over}
 use Rattle.gkr_layers.specs.ClaimPlace.{place_of}
-use Rattle.gkr_layers.proofs.Circuits.{input_width}
+use Rattle.gkr_layers.proofs.api.Circuits.{input_width}
 use Rattle.gkr_verify.proofs.InputSteps.{input_holds, input_fails}
 use Rattle.gkr_verify.proofs.layers.check_inputs.Goals as goal
 

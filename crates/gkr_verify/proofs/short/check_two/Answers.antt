@@ -13,11 +13,11 @@ use Rattle.gkr_layers.specs.declared.verdict.Verdict.TheVariants.{Accepted}
 use Rattle.gkr_layers.specs.Layers.{layers_of}
 use Rattle.gkr_layers.specs.Acceptance.{CircuitClaim, claim_of, verdict_of}
 use Rattle.gkr_layers.specs.Soundness.{LetsPass, IsFalse}
-use Rattle.gkr_layers.proofs.Shapes.{drawn, have_shape, length-all}
+use Rattle.gkr_layers.proofs.api.Shapes.{drawn, have_shape, length-all}
 use Rattle.gkr_verify.specs.ShortProof.{filled, is_sum}
 use Rattle.gkr_verify.proofs.FillSteps.{ok_map}
-use Rattle.gkr_verify.proofs.Filled.{filled-hold, no_sum}
-use Rattle.gkr_verify.proofs.GivenDraws.{given-all, given-has}
+use Rattle.gkr_verify.proofs.api.Filled.{filled-hold, no_sum}
+use Rattle.gkr_verify.proofs.api.GivenDraws.{given-all, given-has}
 use Rattle.gkr_verify.proofs.short.check_two.Goals as goal
 
 pub check-requires-clause-has : goal.check-requires-clause-has

@@ -1,6 +1,6 @@
 use Rattle.std.proofs.Common.{◌+◌, ℕ, List, refl, sym, ◌∙◌}
 use Rattle.transcript_fs.specs.Source.{Source}
-use Rattle.gkr_layers.proofs.Accepted.{differ}
+use Rattle.gkr_layers.proofs.api.Accepted.{differ}
 use Rattle.gkr_verify.specs.Rounds.{sum_failure}
 use Rattle.gkr_verify.proofs.SumSteps.{SumsHeld, layer_has, layer_held, layer_stops}
 use Rattle.gkr_verify.proofs.sums.first_of_layers.Goals as goal

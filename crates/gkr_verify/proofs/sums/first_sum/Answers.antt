@@ -1,7 +1,7 @@
 use Rattle.std.proofs.Common.{ℕ, List, All, IsTrue, length, ◌≤◌, sym, subst}
 use Rattle.circuit_core.specs.Sound.{exponent_at}
 use Rattle.transcript_fs.specs.Source.{Source}
-use Rattle.transcript_fs.proofs.Draws.{has_front}
+use Rattle.transcript_fs.proofs.api.Draws.{has_front}
 use Rattle.proof_wire.specs.declared.messages.LayerMessages.{LayerMessages}
 use Rattle.proof_wire.specs.Lists.{all_messages}
 use Rattle.gkr_layers.specs.Layers.{layers_of, message_count}

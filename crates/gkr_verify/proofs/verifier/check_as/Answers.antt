@@ -5,8 +5,8 @@ use Rattle.gkr_layers.specs.Equations.{Answered}
 use Rattle.gkr_layers.specs.Acceptance.{claim_in, answer_from}
 use Rattle.proof_wire.specs.declared.messages.LayerMessages.{LayerMessages}
 use Rattle.proof_wire.specs.Lists.{all_messages, HaveShape}
-use Rattle.gkr_layers.proofs.Answers.{answer_from-verdict}
-use Rattle.gkr_layers.proofs.Shapes.{drawn, sound}
+use Rattle.gkr_layers.proofs.api.Answers.{answer_from-verdict}
+use Rattle.gkr_layers.proofs.api.Shapes.{drawn, sound}
 use Rattle.gkr_verify.proofs.verifier.check_as.Goals as goal
 
 pub check-verdict-requires-clause-shape : goal.check-verdict-requires-clause-shape

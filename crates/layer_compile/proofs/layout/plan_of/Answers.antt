@@ -1,6 +1,6 @@
 -- The levels, uses and chains are those of the list
 use Rattle.std.proofs.Common.{◌≡◌, ◌∙◌, ℕ, length, get_or, ap, subst, arith}
-use Rattle.node_core.proofs.InOrder.{length-made_in_order}
+use Rattle.node_core.proofs.api.InOrder.{length-made_in_order}
 use Rattle.layer_compile.specs.Levels.{level, level_of, greatest}
 use Rattle.layer_compile.specs.Next.{AreChains}
 use Rattle.layer_compile.proofs.LevelsOf.{height_small, level_small}

@@ -3,7 +3,7 @@ use Rattle.std.proofs.Common.{◌≡◌, ◌≤◌, ◌+◌, ◌∙◌, [], leng
 use Rattle.std.proofs.lemmas.List.{get_or_read}
 use Rattle.std.proofs.lemmas.List.Elements.{All-nil, All-same, All-push, All-weaker}
 use Rattle.node_core.specs.Nodes.{node_at}
-use Rattle.node_core.proofs.InOrder.{made_in_order_none, made_in_order_step, made_so_far}
+use Rattle.node_core.proofs.api.InOrder.{made_in_order_none, made_in_order_step, made_so_far}
 use Rattle.layer_compile.specs.Levels.{level_of}
 use Rattle.layer_compile.proofs.UsedAbove.{no_node}
 use Rattle.layer_compile.proofs.LevelsOf.{operands_before}

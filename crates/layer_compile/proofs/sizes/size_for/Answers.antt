@@ -4,8 +4,8 @@ use Rattle.std.specs.Prelude.{nat_lt, unwrap_or}
 use Rattle.std.proofs.lemmas.Nat.{one_shl}
 use Rattle.std.proofs.lemmas.Bool.{lt-ltb, le-ltb}
 use Rattle.circuit_core.specs.Faults.{first_below, unless}
-use Rattle.circuit_core.proofs.First.{first_below_none, first_below_more, first_below_found}
-use Rattle.circuit_core.proofs.Faultless.{unless_true, unless_false}
+use Rattle.circuit_core.proofs.api.First.{first_below_none, first_below_more, first_below_found}
+use Rattle.circuit_core.proofs.api.Faultless.{unless_true, unless_false}
 use Rattle.layer_compile.proofs.sizes.size_for.Goals as goal
 
 -- the exponents that are enough

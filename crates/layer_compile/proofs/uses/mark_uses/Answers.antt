@@ -4,7 +4,7 @@ use Rattle.std.specs.Prelude.{nat_lt}
 use Rattle.std.specs.List.{list_any}
 use Rattle.std.proofs.lemmas.List.{get_or_read, length-replicate, get_or-replicate}
 use Rattle.node_core.specs.Nodes.{node_at}
-use Rattle.node_core.proofs.InOrder.{length-made_in_order}
+use Rattle.node_core.proofs.api.InOrder.{length-made_in_order}
 use Rattle.layer_compile.specs.Levels.{level_of, has_operand}
 use Rattle.layer_compile.proofs.UsedAbove.{no_node}
 use Rattle.layer_compile.proofs.UsesOf.{AreUsesFrom, uses_start, uses_step}

@@ -2,10 +2,10 @@ use Rattle.std.proofs.Common.{◌≡◌, ◌+◌, ◌-◌, ◌*◌, ◌^◌, ◌
 use Rattle.std.proofs.lemmas.List.{get_or_read}
 use Rattle.field_ext.specs.Field.{K, k_ops, zero_k, add_k, sub_k, mul_k, prime}
 use Rattle.gkr_layers.specs.Sumcheck.{line_polynomial}
-use Rattle.field_ext.proofs.KLaws.{k_laws}
-use Rattle.gkr_layers.proofs.Lines.{value-line_polynomial}
-use Rattle.gkr_layers.proofs.Degree.{length-line_polynomial}
-use Rattle.gkr_layers.proofs.Coefficients.{from_values}
+use Rattle.field_ext.proofs.api.KLaws.{k_laws}
+use Rattle.gkr_layers.proofs.api.Lines.{value-line_polynomial}
+use Rattle.gkr_layers.proofs.api.Degree.{length-line_polynomial}
+use Rattle.gkr_layers.proofs.api.Coefficients.{from_values}
 use Rattle.line_reduce.specs.Rows.{row_value, between}
 use Rattle.line_reduce.proofs.Steps.{rows_begin, rows_more, folded_all-value, even_count, row-whole}
 use Rattle.line_reduce.proofs.line.folded_rows.Goals as goal

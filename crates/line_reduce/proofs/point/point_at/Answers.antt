@@ -2,7 +2,7 @@ use Rattle.std.proofs.Common.{◌≡◌, ◌≢◌, length, get_or, arith, ◌�
 use Rattle.std.proofs.lemmas.List.{get_or_read}
 use Rattle.field_ext.specs.Field.{k_ops, zero_k, add_k, mul_k, sub_k}
 use Rattle.gkr_layers.specs.Sumcheck.{point_between}
-use Rattle.field_ext.proofs.KLaws.{k_laws}
+use Rattle.field_ext.proofs.api.KLaws.{k_laws}
 use Rattle.line_reduce.proofs.Steps.{point-at, length-point}
 use Rattle.line_reduce.proofs.point.point_at.Goals as goal
 

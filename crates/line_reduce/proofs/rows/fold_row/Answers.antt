@@ -1,7 +1,7 @@
 use Rattle.std.proofs.Common.{◌≡◌, ◌≢◌, ℕ, suc, ◌+◌, ◌-◌, ◌<◌, length, get_or, set, arith, ◌∙◌, ap, sym, get_or-set_same, get_or-set_other}
 use Rattle.std.proofs.lemmas.List.{get_or_read, length-set}
 use Rattle.field_ext.specs.Field.{k_ops, zero_k, add_k, mul_k}
-use Rattle.field_ext.proofs.KLaws.{k_laws}
+use Rattle.field_ext.proofs.api.KLaws.{k_laws}
 use Rattle.line_reduce.specs.Rows.{row_value, between}
 use Rattle.line_reduce.proofs.Steps.{row_none, row_more}
 use Rattle.line_reduce.proofs.rows.fold_row.Goals as goal

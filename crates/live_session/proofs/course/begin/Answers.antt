@@ -4,8 +4,8 @@ use Rattle.std.specs.List.{flat_map}
 use Rattle.field_ext.specs.Bytes.{bytes_of}
 use Rattle.circuit_core.specs.Parts.{height}
 use Rattle.gkr_layers.specs.ClaimPlace.{place_of}
-use Rattle.gkr_prove.proofs.LayerSteps.{table_values}
-use Rattle.gkr_prove.proofs.TableShapes.{few_gates, is_layer, table_exponent}
+use Rattle.gkr_prove.proofs.api.LayerSteps.{table_values}
+use Rattle.gkr_prove.proofs.api.TableShapes.{few_gates, is_layer, table_exponent}
 use Rattle.round_tables.specs.LayerSum.{LayerSum}
 use Rattle.live_session.specs.Begun.{message_due}
 use Rattle.live_session.specs.ProverState.{tables_at}

@@ -2,10 +2,10 @@
 use Rattle.std.proofs.Common.{◌≡◌, ◌+◌, ◌-◌, ◌<◌, ◌≤◌, ◌++◌, ◌∷◌, List, ℕ, [], length, take, drop, get_or, sym, ◌∙◌, ap, arith, length-take, length-drop}
 use Rattle.std.proofs.lemmas.List.{get_or-drop, take_more}
 use Rattle.field_ext.specs.Field.{K}
-use Rattle.circuit_core.proofs.Sizes.{size_of}
+use Rattle.circuit_core.proofs.api.Sizes.{size_of}
 use Rattle.circuit_core.specs.Parts.{height}
-use Rattle.gkr_prove.proofs.LayerSteps.{table_values}
-use Rattle.gkr_prove.proofs.TableShapes.{table_exponent}
+use Rattle.gkr_prove.proofs.api.LayerSteps.{table_values}
+use Rattle.gkr_prove.proofs.api.TableShapes.{table_exponent}
 use Rattle.round_tables.specs.LayerSum.{LayerSum}
 use Rattle.live_session.proofs.CourseSteps.{bound_more, within_at}
 use Rattle.live_session.proofs.course.bind.Goals as goal

@@ -3,7 +3,7 @@ use Rattle.std.proofs.Common.{◌≡◌, ◌+◌, ◌<◌, ◌++◌, [], List, �
 use Rattle.std.specs.List.{flat_map}
 use Rattle.std.proofs.lemmas.Result.{IfOk-weaker}
 use Rattle.field_ext.specs.Bytes.{bytes_of}
-use Rattle.circuit_core.proofs.Faultless.{height_bounds, none_from_test}
+use Rattle.circuit_core.proofs.api.Faultless.{height_bounds, none_from_test}
 use Rattle.circuit_core.specs.Parts.{height}
 use Rattle.circuit_core.specs.Sound.{exponent_at}
 use Rattle.gkr_layers.specs.Places.Place.{At}

@@ -1,7 +1,7 @@
 -- The eight bytes at a place are an element or not
 use Rattle.std.proofs.Common.{◌*◌, take, drop, arith, ap, length-drop, ◌∙◌}
 use Rattle.std.proofs.lemmas.List.{take_rest}
-use Rattle.live_session.proofs.ElementSteps.{read}
+use Rattle.live_session.proofs.api.ElementSteps.{read}
 use Rattle.live_session.proofs.intake.element_at.Goals as goal
 
 pub returns : goal.returns

@@ -3,7 +3,7 @@ use Rattle.std.proofs.Common.{◌+◌, ◌-◌, ◌*◌, ◌<◌, ◌++◌, ◌�
 use Rattle.std.proofs.lemmas.List.{take_more_set}
 use Rattle.field_ext.specs.Field.{K}
 use Rattle.live_session.specs.Elements.{leading}
-use Rattle.live_session.proofs.ElementSteps.{leading_some, leading_none}
+use Rattle.live_session.proofs.api.ElementSteps.{leading_some, leading_none}
 use Rattle.live_session.proofs.intake.read_elements.Goals as goal
 
 pub returns-in-None-clause-read : goal.returns-in-None-clause-read

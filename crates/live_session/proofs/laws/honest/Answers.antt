@@ -4,7 +4,7 @@ use Rattle.circuit_core.specs.Parts.{input_table}
 use Rattle.circuit_core.specs.Sound.{exponent_at}
 use Rattle.gkr_layers.specs.Layers.{layers_of}
 use Rattle.gkr_layers.specs.Places.Place.{At}
-use Rattle.live_session.proofs.HonestList.{are_honest, length-honest}
+use Rattle.live_session.proofs.api.HonestList.{are_honest, length-honest}
 use Rattle.live_session.proofs.laws.honest.Goals as goal
 
 pub returns-clause-honest : goal.returns-clause-honest

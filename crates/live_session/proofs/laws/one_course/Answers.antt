@@ -1,6 +1,6 @@
 -- Bytes after those that were fed, and a fault with more after it
 use Rattle.std.proofs.Common.{List, ℕ, ap, append_assoc}
-use Rattle.live_session.proofs.ProverSteps.{stop_stays}
+use Rattle.live_session.proofs.api.ProverSteps.{stop_stays}
 use Rattle.live_session.proofs.laws.one_course.Goals as goal
 
 pub returns-clause-state : goal.returns-clause-state

@@ -1,8 +1,8 @@
 -- Seven elements for each coordinate below the outputs, and one more a layer
 use Rattle.std.proofs.Common.{arith}
 use Rattle.gkr_layers.specs.Layers.{layers_of}
-use Rattle.gkr_layers.proofs.Circuits.{length-layers}
-use Rattle.live_session.proofs.LayoutSteps.{due}
+use Rattle.gkr_layers.proofs.api.Circuits.{length-layers}
+use Rattle.live_session.proofs.api.LayoutSteps.{due}
 use Rattle.live_session.proofs.layout.elements_due.Goals as goal
 
 pub returns-clause-value : goal.returns-clause-value

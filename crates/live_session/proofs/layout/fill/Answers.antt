@@ -3,8 +3,8 @@ use Rattle.std.proofs.Common.{◌≡◌, ℕ, ◌+◌, ◌<◌, List, length, ta
 use Rattle.std.proofs.lemmas.List.{take_more_set, get_or_default}
 use Rattle.proof_wire.specs.declared.messages.LayerMessages.{LayerMessages}
 use Rattle.proof_wire.specs.Spelling.{all_coefficients, layer_coefficients}
-use Rattle.proof_wire.proofs.Cuts.{next_part}
-use Rattle.live_session.proofs.LayoutSteps.{next_within, replaced_count, replaced_shape}
+use Rattle.proof_wire.proofs.api.Cuts.{next_part}
+use Rattle.live_session.proofs.api.LayoutSteps.{next_within, replaced_count, replaced_shape}
 use Rattle.live_session.proofs.layout.fill.Goals as goal
 
 pub buffer_len-requires : goal.buffer_len-requires

@@ -2,7 +2,7 @@
 use Rattle.std.proofs.Common.{arith, ap, length, length-append}
 use Rattle.std.specs.List.{flat_map}
 use Rattle.proof_wire.specs.Spelling.{coefficients_of}
-use Rattle.proof_wire.proofs.Lengths.{rounds_length}
+use Rattle.proof_wire.proofs.api.Lengths.{rounds_length}
 use Rattle.live_session.proofs.layout.filled.Goals as goal
 
 pub split_at-requires : goal.split_at-requires

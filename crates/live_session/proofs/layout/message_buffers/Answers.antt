@@ -2,7 +2,7 @@
 use Rattle.std.proofs.Common.{◌<◌, ◌≤◌, ◌++◌, ◌∷◌, [], List, sym, ◌∙◌, ap, subst, arith, append-nil, append_assoc}
 use Rattle.circuit_core.specs.Parts.{height}
 use Rattle.gkr_layers.specs.Layers.{GateLayer, layers_below, lower_exponents}
-use Rattle.gkr_layers.proofs.Circuits.{below_more, below_none}
+use Rattle.gkr_layers.proofs.api.Circuits.{below_more, below_none}
 use Rattle.live_session.specs.Verifying.{lower}
 use Rattle.proof_wire.specs.declared.form.ProofForm.TheVariants.{Line}
 use Rattle.proof_wire.specs.declared.messages.LayerMessages.{LayerMessages}

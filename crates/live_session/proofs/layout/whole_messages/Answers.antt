@@ -3,9 +3,9 @@ use Rattle.std.proofs.Common.{◌≡◌, ◌+◌, ◌-◌, ◌*◌, ◌<◌, Lis
 use Rattle.circuit_core.specs.Parts.{height}
 use Rattle.circuit_core.specs.Sound.{exponent_at}
 use Rattle.gkr_layers.specs.Layers.{GateLayer, layers_below, lower_exponents}
-use Rattle.gkr_layers.proofs.Circuits.{below_more}
+use Rattle.gkr_layers.proofs.api.Circuits.{below_more}
 use Rattle.live_session.specs.Layout.{sizes_of, whole}
-use Rattle.live_session.proofs.LayoutSteps.{layer_all, layer_part}
+use Rattle.live_session.proofs.api.LayoutSteps.{layer_all, layer_part}
 use Rattle.live_session.proofs.layout.whole_messages.Goals as goal
 
 pub loop-layer-preserved : goal.loop-layer-preserved

@@ -1,8 +1,8 @@
 -- Each fault where it comes
 use Rattle.std.proofs.Common.{◌≡◌, ◌*◌, ℕ, length, get_or, sym, ap, arith}
 use Rattle.live_session.specs.Elements.{leading}
-use Rattle.live_session.proofs.ElementSteps.{leading-most}
-use Rattle.live_session.proofs.ProverSteps.{told_end, told_extra, told_last}
+use Rattle.live_session.proofs.api.ElementSteps.{leading-most}
+use Rattle.live_session.proofs.api.ProverSteps.{told_end, told_extra, told_last}
 use Rattle.live_session.proofs.prover.stop_at.Goals as goal
 
 pub returns-then-byte-gt1 : goal.returns-then-byte-gt1

@@ -3,7 +3,7 @@ use Rattle.std.proofs.Common.{◌≡◌, ◌*◌, [], ◌∷◌, length, take, a
 use Rattle.std.specs.List.{flat_map}
 use Rattle.std.proofs.lemmas.List.{take_all, take_at}
 use Rattle.field_ext.specs.Bytes.{bytes_of}
-use Rattle.proof_wire.proofs.Lengths.{bytes_length as length-bytes}
+use Rattle.proof_wire.proofs.api.Lengths.{bytes_length as length-bytes}
 use Rattle.live_session.proofs.verifier.reply_buffer.Goals as goal
 
 pub returns-clause-size : goal.returns-clause-size

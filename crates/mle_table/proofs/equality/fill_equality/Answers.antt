@@ -1,7 +1,7 @@
 -- The table doubles within its buffer
 use Rattle.std.proofs.Common.{◌≤◌, ◌*◌, length, arith}
 use Rattle.std.proofs.lemmas.List.{length-set}
-use Rattle.mle_table.proofs.EqualitySteps.{doubling_fits}
+use Rattle.mle_table.proofs.api.EqualitySteps.{doubling_fits}
 use Rattle.mle_table.proofs.equality.fill_equality.Goals as goal
 
 pub extend_equality-requires : goal.extend_equality-requires

@@ -1,7 +1,7 @@
 -- All values are passed
 use Rattle.std.proofs.Common.{arith}
 use Rattle.field_ext.specs.Field.{embed_k, zero_k, of}
-use Rattle.mle_table.proofs.Written.{written}
+use Rattle.mle_table.proofs.api.Written.{written}
 use Rattle.mle_table.proofs.values.embed.Goals as goal
 
 pub returns : goal.returns

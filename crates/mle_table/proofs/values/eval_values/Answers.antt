@@ -1,8 +1,8 @@
 -- Each fold binds one coordinate more
 use Rattle.std.proofs.Common.{arith, length, vec_len, ◌<◌}
 use Rattle.field_ext.specs.Field.{k_ops}
-use Rattle.field_ext.proofs.KLaws.{k_laws}
-use Rattle.mle_table.proofs.Steps.{bound_more, bound_all, even_power, next_power, last_power}
+use Rattle.field_ext.proofs.api.KLaws.{k_laws}
+use Rattle.mle_table.proofs.api.Steps.{bound_more, bound_all, even_power, next_power, last_power}
 use Rattle.mle_table.proofs.values.eval_values.Goals as goal
 
 pub fold_values-requires : goal.fold_values-requires

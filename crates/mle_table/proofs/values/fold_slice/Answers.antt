@@ -3,8 +3,8 @@ use Rattle.std.proofs.Common.{◌≡◌, ◌≢◌, ◌<◌, ◌+◌, ◌*◌, l
 use Rattle.std.proofs.lemmas.List.{get_or_read}
 use Rattle.field_ext.specs.Field.{K, k_ops, add_k, mul_k, neg_k, zero_k}
 use Rattle.field_ext.specs.Multilinear.{folded}
-use Rattle.field_ext.proofs.KLaws.{k_laws}
-use Rattle.mle_table.proofs.Steps.{fold_element, length-fold}
+use Rattle.field_ext.proofs.api.KLaws.{k_laws}
+use Rattle.mle_table.proofs.api.Steps.{fold_element, length-fold}
 use Rattle.mle_table.proofs.values.fold_slice.Goals as goal
 
 pub loop-j-preserved : goal.loop-j-preserved

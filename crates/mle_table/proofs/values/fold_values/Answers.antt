@@ -2,9 +2,9 @@
 use Rattle.std.proofs.Common.{◌≡◌, ◌≢◌, ◌*◌, ◌<◌, ◌/◌, take, ℕ, arith, ◌∙◌, ap, ap₂, length, ◌+◌, get_or, below_more, get_or-set_same, get_or-set_other}
 use Rattle.std.proofs.lemmas.List.{get_or_read}
 use Rattle.field_ext.specs.Field.{K, k_ops, add_k, mul_k, neg_k, zero_k}
-use Rattle.field_ext.proofs.KLaws.{k_laws}
+use Rattle.field_ext.proofs.api.KLaws.{k_laws}
 use Rattle.field_ext.specs.Multilinear.{folded}
-use Rattle.mle_table.proofs.Steps.{fold_element, folded_whole}
+use Rattle.mle_table.proofs.api.Steps.{fold_element, folded_whole}
 use Rattle.mle_table.proofs.values.fold_values.Goals as goal
 
 pub loop-j-preserved : goal.loop-j-preserved

@@ -1,5 +1,5 @@
 -- As many elements are made as there are nodes
-use Rattle.node_core.proofs.InOrder.{length-made_in_order}
+use Rattle.node_core.proofs.api.InOrder.{length-made_in_order}
 use Rattle.node_core.specs.Nodes.{node_value}
 use Rattle.node_core.proofs.laws.one_value_a_node.Goals as goal
 

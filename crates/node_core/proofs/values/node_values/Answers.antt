@@ -3,7 +3,7 @@ use Rattle.std.proofs.Common.{◌≡◌, ◌∙◌, length, sym, ap, arith}
 use Rattle.std.proofs.lemmas.List.{get_or_read}
 use Rattle.node_core.specs.declared.node.Node.TheVariants.{Input}
 use Rattle.node_core.specs.Nodes.{node_value}
-use Rattle.node_core.proofs.InOrder.{made_in_order_none, made_in_order_step, made_so_far}
+use Rattle.node_core.proofs.api.InOrder.{made_in_order_none, made_in_order_step, made_so_far}
 use Rattle.node_core.proofs.values.node_values.Goals as goal
 
 pub node_value-requires : goal.node_value-requires

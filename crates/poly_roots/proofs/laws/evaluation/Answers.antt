@@ -1,7 +1,7 @@
 -- Evaluation carries sums and products over any ring, at K
 use Rattle.field_ext.specs.Field.{k_ops}
-use Rattle.field_ext.proofs.KLaws.{k_laws}
-use Rattle.poly_roots.proofs.Values.{value-sum, value-product}
+use Rattle.field_ext.proofs.api.KLaws.{k_laws}
+use Rattle.poly_roots.proofs.api.Values.{value-sum, value-product}
 use Rattle.poly_roots.proofs.laws.evaluation.Goals as goal
 
 pub returns-clause-sums : goal.returns-clause-sums

@@ -2,7 +2,7 @@
 use Rattle.std.proofs.Common.{◌≡◌, ◌+◌, ◌-◌, ◌<◌, ◌≤◌, ℕ, List, length, drop, get_or, ◌∙◌, ap, sym, arith, drop_of_length-le}
 use Rattle.field_ext.specs.Field.{K, k_ops, zero_k}
 use Rattle.field_ext.specs.Polynomial.{product_of}
-use Rattle.field_ext.proofs.KLaws.{k_laws}
+use Rattle.field_ext.proofs.api.KLaws.{k_laws}
 use Rattle.poly_roots.proofs.Coefficients.{rows_step, rows_whole}
 use Rattle.poly_roots.proofs.product.add_rows.Goals as goal
 

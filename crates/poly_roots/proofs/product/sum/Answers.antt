@@ -1,7 +1,7 @@
 -- A push appends the next coefficient
 use Rattle.std.proofs.Common.{◌∙◌, ◌++◌, ◌∷◌, [], List, ap, ap₂, arith}
 use Rattle.field_ext.specs.Field.{K, k_ops, add_k}
-use Rattle.field_ext.proofs.KLaws.{k_laws}
+use Rattle.field_ext.proofs.api.KLaws.{k_laws}
 use Rattle.poly_roots.proofs.Coefficients.{sum_step, sum_whole}
 use Rattle.poly_roots.proofs.product.sum.Goals as goal
 

@@ -3,8 +3,8 @@ use Rattle.std.proofs.Common.{◌≡◌, ◌+◌, ◌-◌, ◌<◌, List, length
 use Rattle.std.proofs.lemmas.List.{drop_more, get_or_read}
 use Rattle.field_ext.specs.Field.{K, k_ops, add_k, mul_k, zero_k, one_k}
 use Rattle.field_ext.specs.Polynomial.{value_at}
-use Rattle.field_ext.proofs.KLaws.{k_laws}
-use Rattle.field_ext.proofs.Rings.{one_mul}
+use Rattle.field_ext.proofs.api.KLaws.{k_laws}
+use Rattle.field_ext.proofs.api.Rings.{one_mul}
 use Rattle.poly_roots.proofs.value.value_at_one.Goals as goal
 
 pub loop-done-init : goal.loop-done-init

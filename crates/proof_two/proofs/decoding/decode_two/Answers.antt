@@ -1,9 +1,9 @@
 use Rattle.std.proofs.Common.{◌≡◌, ◌++◌, sym, ◌∙◌, ap}
 use Rattle.std.specs.List.{flat_map}
 use Rattle.field_ext.specs.Bytes.{bytes_of}
-use Rattle.proof_wire.proofs.Troubles.{stays_memory}
+use Rattle.proof_wire.proofs.api.Troubles.{stays_memory}
 use Rattle.proof_two.specs.Spelling.{magic_two, spelling_two}
-use Rattle.proof_two.proofs.Apart.{one_reading}
+use Rattle.proof_two.proofs.api.Apart.{one_reading}
 use Rattle.proof_two.proofs.Troubles.{only_memory}
 use Rattle.proof_two.proofs.decoding.decode_two.Goals as goal
 

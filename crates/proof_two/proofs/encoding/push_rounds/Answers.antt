@@ -1,5 +1,5 @@
 use Rattle.field_ext.specs.Bytes.{bytes_of}
-use Rattle.proof_wire.proofs.Pieces.{one_more_within}
+use Rattle.proof_wire.proofs.api.Pieces.{one_more_within}
 use Rattle.proof_two.specs.Spelling.{pair_of}
 use Rattle.proof_two.proofs.encoding.push_rounds.Goals as goal
 

@@ -1,4 +1,4 @@
-use Rattle.proof_two.proofs.Either.{any_faultless}
+use Rattle.proof_two.proofs.api.Either.{any_faultless}
 use Rattle.proof_two.proofs.laws.no_trouble.Goals as goal
 
 pub returns : goal.returns

@@ -1,4 +1,4 @@
-use Rattle.proof_two.proofs.Either.{any_reading}
+use Rattle.proof_two.proofs.api.Either.{any_reading}
 use Rattle.proof_two.proofs.laws.one_reading.Goals as goal
 
 pub returns : goal.returns

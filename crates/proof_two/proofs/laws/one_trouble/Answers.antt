@@ -1,4 +1,4 @@
-use Rattle.proof_two.proofs.Either.{any_trouble}
+use Rattle.proof_two.proofs.api.Either.{any_trouble}
 use Rattle.proof_two.proofs.OneTrouble.{one_trouble}
 use Rattle.proof_two.proofs.laws.one_trouble.Goals as goal
 

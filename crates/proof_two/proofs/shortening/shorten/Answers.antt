@@ -2,7 +2,7 @@ use Rattle.std.proofs.Common.{List, ◌∙◌, ap, map, sym, subst}
 use Rattle.std.proofs.lemmas.List.{take_all}
 use Rattle.proof_two.specs.declared.pairs.LayerPairs.{LayerPairs}
 use Rattle.proof_two.specs.Lists.{HavePairs, short_layer}
-use Rattle.proof_two.proofs.Shortened.{short_shape}
+use Rattle.proof_two.proofs.api.Shortened.{short_shape}
 use Rattle.proof_two.proofs.shortening.shorten.Goals as goal
 
 pub returns-clause-shape : goal.returns-clause-shape

@@ -1,7 +1,7 @@
 use Rattle.std.proofs.Common.{◌≡◌, ◌<◌, length, ◌*◌, ◌+◌, ◌-◌, ◌∙◌, arith, ap, sym, subst, take, drop}
 use Rattle.proof_wire.specs.Spelling.{all_coefficients, layer_coefficients}
 use Rattle.proof_wire.specs.Lists.{HaveShape}
-use Rattle.proof_wire.proofs.Cuts.{next_count, next_within, next_shape, next_part}
+use Rattle.proof_wire.proofs.api.Cuts.{next_count, next_within, next_shape, next_part}
 use Rattle.proof_wire.proofs.cutting.cut.Goals as goal
 
 pub slice_bounds-cut_layer-end : goal.slice_bounds-cut_layer-end

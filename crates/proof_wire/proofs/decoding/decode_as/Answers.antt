@@ -3,8 +3,8 @@ use Rattle.std.specs.List.{flat_map}
 use Rattle.field_ext.specs.Bytes.{bytes_of}
 use Rattle.proof_wire.specs.Forms.{magic}
 use Rattle.proof_wire.specs.Spelling.{spelling}
-use Rattle.proof_wire.proofs.Apart.{one_reading}
-use Rattle.proof_wire.proofs.Troubles.{only_memory, stays_memory}
+use Rattle.proof_wire.proofs.api.Apart.{one_reading}
+use Rattle.proof_wire.proofs.api.Troubles.{only_memory, stays_memory}
 use Rattle.proof_wire.proofs.decoding.decode_as.Goals as goal
 
 pub returns-in_err-elements-clause-only : goal.returns-in_err-elements-clause-only

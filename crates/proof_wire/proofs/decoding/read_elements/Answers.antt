@@ -1,6 +1,6 @@
 use Rattle.std.proofs.Common.{◌+◌, [], ◌∷◌, length, length-append, sym, ◌∙◌, ap, subst, refl}
 use Rattle.proof_wire.specs.Trouble.{InRange, IsFront, element_at}
-use Rattle.proof_wire.proofs.Reading.{front_more}
+use Rattle.proof_wire.proofs.api.Reading.{front_more}
 use Rattle.proof_wire.proofs.decoding.read_elements.Goals as goal
 
 pub loop-i-preserved : goal.loop-i-preserved

@@ -1,6 +1,6 @@
 use Rattle.field_ext.specs.Bytes.{bytes_of}
 use Rattle.proof_wire.specs.Spelling.{coefficients_of}
-use Rattle.proof_wire.proofs.Pieces.{one_more_within}
+use Rattle.proof_wire.proofs.api.Pieces.{one_more_within}
 use Rattle.proof_wire.proofs.encoding.push_rounds.Goals as goal
 
 pub loop-round-preserved : goal.loop-round-preserved

@@ -1,4 +1,4 @@
-use Rattle.proof_wire.proofs.Troubles.{faultless}
+use Rattle.proof_wire.proofs.api.Troubles.{faultless}
 use Rattle.proof_wire.proofs.laws.no_trouble.Goals as goal
 
 pub returns : goal.returns

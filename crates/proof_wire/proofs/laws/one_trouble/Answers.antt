@@ -1,4 +1,4 @@
-use Rattle.proof_wire.proofs.OneTrouble.{one_trouble}
+use Rattle.proof_wire.proofs.api.OneTrouble.{one_trouble}
 use Rattle.proof_wire.proofs.laws.one_trouble.Goals as goal
 
 pub returns : goal.returns

@@ -1,7 +1,7 @@
 use Rattle.std.proofs.Common.{rules, ◌≡◌, ◌<◌, ◌++◌, ◌∷◌, [], length, Some, sym, ap, ◌∙◌, subst, arith, append_assoc, append-nil}
 use Rattle.std.specs.List.{slice_get}
 use Rattle.std.specs.Vec.Iter.{into_iter_items}
-use Rattle.job_core.proofs.Places.{some_here}
+use Rattle.job_core.proofs.api.Places.{some_here}
 use Rattle.std.proofs.lemmas.List.{nil_from_length as nothing_left}
 use Rattle.prove_serve.specs.Script.{AreOf, AreDuties, AreDealt, jobs_in}
 use Rattle.prove_serve.proofs.Sounds.{first_of, rest_of}

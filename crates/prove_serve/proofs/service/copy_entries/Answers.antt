@@ -2,7 +2,7 @@ use Rattle.std.proofs.Common.{rules, ◌≡◌, ◌++◌, ◌∷◌, [], List, l
 use Rattle.std.specs.Vec.Iter.{into_iter_items}
 use Rattle.job_core.specs.declared.entry.Entry.{Entry}
 use Rattle.job_table.specs.History.{entries_of}
-use Rattle.job_table.proofs.Kept.{entries_snoc}
+use Rattle.job_table.proofs.api.Kept.{entries_snoc}
 use Rattle.std.proofs.lemmas.List.{nil_from_length as nothing_left}
 use Rattle.prove_serve.proofs.service.copy_entries.Goals as goal
 

@@ -1,7 +1,7 @@
 -- Block after block is folded
 use Rattle.std.proofs.Common.{◌≡◌, ◌+◌, ◌*◌, ◌%◌, ◌-◌, arith}
 use Rattle.field_ext.specs.Field.{k_ops}
-use Rattle.field_ext.proofs.KLaws.{k_laws}
+use Rattle.field_ext.proofs.api.KLaws.{k_laws}
 use Rattle.round_tables.proofs.Folds.{done_more, rest_more}
 use Rattle.round_tables.proofs.folding.fold_first.Goals as goal
 

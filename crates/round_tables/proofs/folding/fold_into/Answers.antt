@@ -2,9 +2,9 @@
 use Rattle.std.proofs.Common.{◌≡◌, ◌≢◌, ◌*◌, ◌+◌, arith, refl, ◌∙◌, ap, ap₂, get_or, below_more, get_or-set_same, get_or-set_other}
 use Rattle.std.proofs.lemmas.List.{get_or_read}
 use Rattle.field_ext.specs.Field.{K, k_ops, add_k, mul_k, neg_k, zero_k}
-use Rattle.field_ext.proofs.KLaws.{k_laws}
+use Rattle.field_ext.proofs.api.KLaws.{k_laws}
 use Rattle.field_ext.specs.Multilinear.{folded}
-use Rattle.mle_table.proofs.Steps.{fold_element}
+use Rattle.mle_table.proofs.api.Steps.{fold_element}
 use Rattle.round_tables.proofs.folding.fold_into.Goals as goal
 
 pub loop-i-preserved : goal.loop-i-preserved

@@ -1,6 +1,6 @@
 -- The sums of factors make the tables of the second phase
 use Rattle.field_ext.specs.Field.{k_ops}
-use Rattle.field_ext.proofs.KLaws.{k_laws}
+use Rattle.field_ext.proofs.api.KLaws.{k_laws}
 use Rattle.round_tables.proofs.Factors.{gathered_right}
 use Rattle.round_tables.proofs.gathering.gather_right.Goals as goal
 

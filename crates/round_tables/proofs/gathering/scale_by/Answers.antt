@@ -2,7 +2,7 @@
 use Rattle.std.proofs.Common.{◌≡◌, ◌≢◌, arith, ◌∙◌, ap, ap₂, get_or, below_more, get_or-set_same, get_or-set_other}
 use Rattle.std.proofs.lemmas.List.{get_or_read}
 use Rattle.field_ext.specs.Field.{k_ops, add_k, mul_k, zero_k}
-use Rattle.field_ext.proofs.KLaws.{k_laws}
+use Rattle.field_ext.proofs.api.KLaws.{k_laws}
 use Rattle.round_tables.proofs.Factors.{all_scaled, all_shifted}
 use Rattle.round_tables.proofs.gathering.scale_by.Goals as goal
 

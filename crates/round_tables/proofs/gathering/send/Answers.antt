@@ -3,7 +3,7 @@ use Rattle.std.proofs.Common.{◌∙◌, ap, sym, if◌then◌else◌, ◌==◌,
 use Rattle.circuit_core.specs.declared.gate.Kind.{Kind}
 use Rattle.wiring_poly.specs.Wiring.{by_kind}
 use Rattle.field_ext.specs.Field.{k_ops, add_k, mul_k, zero_k}
-use Rattle.field_ext.proofs.KLaws.{k_laws}
+use Rattle.field_ext.proofs.api.KLaws.{k_laws}
 use Rattle.round_tables.proofs.LoopSteps.{added_at, nothing_added}
 use Rattle.round_tables.proofs.gathering.send.Goals as goal
 

@@ -1,5 +1,5 @@
 -- The pieces add to the round
-use Rattle.round_tables.proofs.Pieces.{pieces-sum}
+use Rattle.round_tables.proofs.api.Pieces.{pieces-sum}
 use Rattle.round_tables.proofs.laws.pieces_add_to_round.Goals as goal
 
 pub returns : goal.returns

@@ -1,8 +1,8 @@
 -- The low bits and the high bits of a number leave its remainder
 use Rattle.std.proofs.Common.{◌+◌, ◌/◌, bit_and}
 use Rattle.field_ext.specs.Field.{prime}
-use Rattle.field_ext.proofs.Elements.{of_same}
-use Rattle.field_ext.proofs.Words.{folded}
+use Rattle.field_ext.proofs.api.Elements.{of_same}
+use Rattle.field_ext.proofs.api.Words.{folded}
 use Rattle.round_tables.proofs.lazy_sum.shortened.Goals as goal
 
 pub returns-clause-of : goal.returns-clause-of

@@ -2,7 +2,7 @@
 use Rattle.std.proofs.Common.{◌*◌, ◌+◌, arith, ◌∙◌, ap, ap₂}
 use Rattle.std.proofs.lemmas.List.{get_or_read}
 use Rattle.field_ext.specs.Field.{k_ops, zero_k, add_k, mul_k}
-use Rattle.field_ext.proofs.KLaws.{k_laws}
+use Rattle.field_ext.proofs.api.KLaws.{k_laws}
 use Rattle.round_tables.specs.LazySum.{element_of}
 use Rattle.round_tables.proofs.LoopSteps.{pair_is}
 use Rattle.round_tables.proofs.pairs.pair.Goals as goal

@@ -1,7 +1,7 @@
 -- One pair more
 use Rattle.std.proofs.Common.{arith, refl}
 use Rattle.field_ext.specs.Field.{k_ops}
-use Rattle.field_ext.proofs.KLaws.{k_laws}
+use Rattle.field_ext.proofs.api.KLaws.{k_laws}
 use Rattle.round_tables.specs.LazySum.{element_of}
 use Rattle.round_tables.specs.Tables.{pair_at}
 use Rattle.round_tables.proofs.LoopSteps.{pairs_none, pairs_more}

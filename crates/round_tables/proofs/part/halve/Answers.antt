@@ -2,7 +2,7 @@
 use Rattle.std.proofs.Common.{rules, ◌≡◌, ◌/◌, ◌++◌, length, take, drop, arith, ◌∙◌, ap}
 use Rattle.field_ext.specs.Field.{k_ops}
 use Rattle.round_tables.specs.Tables.{IsFolded}
-use Rattle.wiring_poly.proofs.Identity.{written_back}
+use Rattle.wiring_poly.proofs.api.Identity.{written_back}
 use Rattle.round_tables.proofs.Halves.{halved-one, halved-front}
 use Rattle.round_tables.proofs.part.halve.Goals as goal
 

@@ -1,7 +1,7 @@
 -- The parts with capacity are the vector's
 use Rattle.std.proofs.Common.{rules, ◌≡◌, ◌++◌, List, length, take, drop, sym, subst, IfOk, All}
 use Rattle.round_tables.specs.PartTables.{PartTables, HasCapacity}
-use Rattle.wiring_poly.proofs.Identity.{written_back}
+use Rattle.wiring_poly.proofs.api.Identity.{written_back}
 use Rattle.round_tables.proofs.parts.fit_parts.Goals as goal
 
 pub returns-clause-capacities : goal.returns-clause-capacities

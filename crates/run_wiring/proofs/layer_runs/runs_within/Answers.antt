@@ -1,9 +1,9 @@
 -- The greedy runs of a layer stand for it
 use Rattle.std.proofs.Common.{◌≡◌, ℕ, ◌+◌, Option, IfSome, length, All, true, arith, sym, ◌∙◌, ap, subst}
-use Rattle.mle_table.proofs.EqualitySteps.{pow_up}
+use Rattle.mle_table.proofs.api.EqualitySteps.{pow_up}
 use Rattle.circuit_core.specs.Parts.{IsOver}
 use Rattle.circuit_core.specs.Sound.{exponent_at}
-use Rattle.circuit_core.proofs.Sizes.{size_of, gates_size}
+use Rattle.circuit_core.proofs.api.Sizes.{size_of, gates_size}
 use Rattle.run_wiring.specs.Greedy.{AreGreedy}
 use Rattle.run_wiring.specs.LayerRuns.{are_of_layer}
 use Rattle.run_wiring.proofs.SoundRuns.{greedy_sound}

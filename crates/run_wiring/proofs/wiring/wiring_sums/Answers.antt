@@ -1,10 +1,10 @@
 -- Run after run is summed
 use Rattle.std.proofs.Common.{◌∙◌, arith, length, get_or, ap}
 use Rattle.field_ext.specs.Field.{K, k_ops, add_k, zero_k}
-use Rattle.field_ext.proofs.KLaws.{k_laws}
+use Rattle.field_ext.proofs.api.KLaws.{k_laws}
 use Rattle.circuit_core.specs.declared.gate.Kind.TheVariants.{Add}
 use Rattle.wiring_poly.specs.Wiring.{by_kind}
-use Rattle.wiring_poly.proofs.GateSteps.{summed_none}
+use Rattle.wiring_poly.proofs.api.GateSteps.{summed_none}
 use Rattle.run_wiring.specs.declared.run.Run.{Run}
 use Rattle.run_wiring.specs.Entries.{share}
 use Rattle.run_wiring.proofs.RunSums.{runs_more, runs_all, add_runs, mul_runs, runs_within}

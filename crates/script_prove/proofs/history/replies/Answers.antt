@@ -1,6 +1,6 @@
 use Rattle.std.proofs.Common.{rules, ◌≡◌, ◌<◌, ◌++◌, ◌∷◌, [], length, Some, sym, ap, ◌∙◌, subst, arith, append_assoc, append-nil, length-append}
 use Rattle.std.specs.Vec.Iter.{into_iter_items}
-use Rattle.job_core.proofs.Places.{some_here}
+use Rattle.job_core.proofs.api.Places.{some_here}
 use Rattle.std.proofs.lemmas.List.{nil_from_length as nothing_left}
 use Rattle.script_prove.specs.Served.{AreReportedTo}
 use Rattle.script_prove.proofs.Replies.{told_more}

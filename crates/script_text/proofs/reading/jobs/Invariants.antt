@@ -1,6 +1,6 @@
 use Rattle.std.proofs.Common.{◌≡◌}
 use Rattle.script_text.specs.Scripts.{jobs_at}
-use Rattle.case_text.proofs.Each.{with_front}
+use Rattle.case_text.proofs.api.Each.{with_front}
 use Rattle.script_text.proofs.reading.jobs.Given as goal
 
 abbrev pub invariant-loop-jobs : goal.invariant-loop-jobs

@@ -1,6 +1,6 @@
 -- Challenges are few.
 use Rattle.std.proofs.Common.{arith}
-use Rattle.live_session.proofs.ProverSteps.{few_words}
+use Rattle.live_session.proofs.api.ProverSteps.{few_words}
 use Rattle.session_prove.proofs.session.session_case.Goals as goal
 
 pub overflow_mul-need : goal.overflow_mul-need

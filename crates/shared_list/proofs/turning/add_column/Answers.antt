@@ -1,4 +1,4 @@
-use Rattle.shared_list.proofs.Transposes.{turned-more}
+use Rattle.shared_list.proofs.api.Transposes.{turned-more}
 use Rattle.shared_list.proofs.turning.add_column.Goals as goal
 
 pub each-preserved : goal.each-preserved

@@ -1,5 +1,5 @@
 use Rattle.std.proofs.Common.{◌≡◌, ◌*◌}
-use Rattle.shared_list.proofs.Transposes.{at_places, turned_at}
+use Rattle.shared_list.proofs.api.Transposes.{at_places, turned_at}
 use Rattle.shared_list.proofs.turning.turned_items.Given as goal
 
 abbrev pub invariant-each : goal.invariant-each

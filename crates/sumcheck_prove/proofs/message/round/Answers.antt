@@ -1,13 +1,13 @@
 -- One piece more, and the coefficients from the values
 use Rattle.std.proofs.Common.{◌≡◌, ◌+◌, ◌-◌, [], ◌∷◌, length, arith, ◌∙◌, ap, sym, refl, lit<}
 use Rattle.field_ext.specs.Field.{k_ops, add_k}
-use Rattle.field_ext.proofs.KLaws.{k_laws}
+use Rattle.field_ext.proofs.api.KLaws.{k_laws}
 use Rattle.field_ext.specs.Polynomial.{value_at}
 use Rattle.field_ext.specs.Sums.{sum_below}
-use Rattle.gkr_layers.proofs.Degree.{length-round_polynomial}
-use Rattle.gkr_layers.proofs.Coefficients.{from_values}
+use Rattle.gkr_layers.proofs.api.Degree.{length-round_polynomial}
+use Rattle.gkr_layers.proofs.api.Coefficients.{from_values}
 use Rattle.round_tables.specs.LayerSum.{pieces_of, piece_poly, next_poly}
-use Rattle.round_tables.proofs.Pieces.{pieces-value}
+use Rattle.round_tables.proofs.api.Pieces.{pieces-value}
 use Rattle.sumcheck_prove.proofs.Summing.{none_summed, piece_added}
 use Rattle.sumcheck_prove.proofs.message.round.Goals as goal
 

@@ -1,5 +1,5 @@
 use Rattle.std.proofs.Common.{rules}
-use Rattle.job_table.proofs.Calls.{seen_longer}
+use Rattle.job_table.proofs.api.Calls.{seen_longer}
 use Rattle.thread_tests.proofs.jobs.a_withdrawn_job_leaves_no_room.Goals as goal
 
 pub withdraw-withdrawn-requires-clause-submitted : goal.withdraw-withdrawn-requires-clause-submitted

@@ -7,8 +7,8 @@ use Rattle.proof_wire.specs.declared.form.ProofForm.TheVariants.{Line}
 use Rattle.proof_wire.specs.Lists.{all_messages}
 use Rattle.transcript_fs.specs.Given.{given, has_elements, numbers_of}
 use Rattle.transcript_fs.specs.Source.{Source, all_draws, point_draws, draws, state_after_point}
-use Rattle.transcript_fs.proofs.Draws.{length-coordinates, length-draws}
-use Rattle.gkr_verify.proofs.GivenDraws.{given-all, given-has}
+use Rattle.transcript_fs.proofs.api.Draws.{length-coordinates, length-draws}
+use Rattle.gkr_verify.proofs.api.GivenDraws.{given-all, given-has}
 use Rattle.uses.proofs.given.check_with.Goals as goal
 
 pub check-requires-clause-has : goal.check-requires-clause-has

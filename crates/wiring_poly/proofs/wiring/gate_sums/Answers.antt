@@ -1,11 +1,11 @@
 use Rattle.std.proofs.Common.{◌≡◌, ℕ, ◌^◌, ◌<◌, length, get_or, arith, ◌∙◌, ap, ap₂}
 use Rattle.field_ext.specs.Field.{K, k_ops, add_k, mul_k, zero_k}
-use Rattle.field_ext.proofs.KLaws.{k_laws}
+use Rattle.field_ext.proofs.api.KLaws.{k_laws}
 use Rattle.field_ext.specs.Multilinear.{eq_poly}
 use Rattle.circuit_core.specs.declared.gate.CircuitGate.{CircuitGate}
 use Rattle.circuit_core.specs.Parts.{zero_gate}
 use Rattle.wiring_poly.specs.Wiring.{by_kind, gate_weight}
-use Rattle.wiring_poly.proofs.GateSteps.{summed_none, summed_more, summed_all}
+use Rattle.wiring_poly.proofs.api.GateSteps.{summed_none, summed_more, summed_all}
 use Rattle.wiring_poly.proofs.wiring.gate_sums.Goals as goal
 
 pub loop-g-init : goal.loop-g-init

@@ -1,5 +1,5 @@
 use Rattle.std.proofs.Common.{ℕ, ◌+◌, ◌^◌, ◌≤◌, length, arith, sym, ◌∙◌, ap, subst}
-use Rattle.circuit_core.proofs.Sizes.{size_of, gates_size}
+use Rattle.circuit_core.proofs.api.Sizes.{size_of, gates_size}
 use Rattle.wiring_poly.proofs.wiring.wiring_at.Goals as goal
 
 pub gate_sums-sums-requires-clause-positions : goal.gate_sums-sums-requires-clause-positions

@@ -3,7 +3,7 @@ use Rattle.std.specs.List.{range_with_len}
 use Rattle.std.specs.List.Sorted.{IsPermutation}
 use Rattle.tallies.specs.Tallies.{times, once_below}
 use Rattle.chunk_board.proofs.Steps.{first_of, whole_drawn, stopped_full}
-use Rattle.tallies.proofs.Once.{closes, le_leb}
+use Rattle.tallies.proofs.api.Once.{closes, le_leb}
 use Rattle.chunk_board.proofs.board.ChunkBoard.close.Goals as goal
 
 pub returns-clause-all : goal.returns-clause-all

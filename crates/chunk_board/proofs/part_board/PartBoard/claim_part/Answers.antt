@@ -1,7 +1,7 @@
 use Rattle.std.proofs.Common.{rules, ◌≡◌, ℕ, ◌<◌, List, Option, refl, slice_get, ◌∷◌, ◌∙◌, length, Some, sym, ap, arith}
 use Rattle.atomic_table.specs.Table.{rest}
-use Rattle.chunk_board.proofs.PartSteps.{claims}
-use Rattle.chunk_board.proofs.Emptying.{there}
+use Rattle.chunk_board.proofs.api.PartSteps.{claims}
+use Rattle.chunk_board.proofs.api.Emptying.{there}
 use Rattle.chunk_board.proofs.part_board.PartBoard.claim_part.Goals as goal
 
 pub fetch_add-found-requires : goal.fetch_add-found-requires

@@ -4,9 +4,9 @@ use Rattle.std.specs.List.Sorted.{IsPermutation}
 use lib.ListN.{get_elem?}
 use Rattle.std.specs.Slots.{slots_items}
 use Rattle.tallies.specs.Tallies.{times, once_below}
-use Rattle.tallies.proofs.Once.{closes, le_leb}
+use Rattle.tallies.proofs.api.Once.{closes, le_leb}
 use Rattle.chunk_board.proofs.PartEnds.{lefts, all_stopped}
-use Rattle.chunk_board.proofs.Emptying.{here, at_or}
+use Rattle.chunk_board.proofs.api.Emptying.{here, at_or}
 use Rattle.chunk_board.proofs.part_board.PartBoard.close.Goals as goal
 use Rattle.chunk_board.proofs.Steps.{first_of}
 

@@ -1,5 +1,5 @@
 use Rattle.std.proofs.Common.{rules, ◌≡◌, arith}
-use Rattle.chunk_board.proofs.PartSteps.{split_keeps}
+use Rattle.chunk_board.proofs.api.PartSteps.{split_keeps}
 use Rattle.chunk_board.proofs.part_board.PartBoard.cut.Goals as goal
 
 pub split_seat-seat-requires : goal.split_seat-seat-requires

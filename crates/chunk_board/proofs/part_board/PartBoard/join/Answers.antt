@@ -1,5 +1,5 @@
 use Rattle.std.proofs.Common.{rules}
-use Rattle.chunk_board.proofs.PartSteps.{join_keeps, counts}
+use Rattle.chunk_board.proofs.api.PartSteps.{join_keeps, counts}
 use Rattle.chunk_board.proofs.part_board.PartBoard.join.Goals as goal
 
 pub join_seat-requires : goal.join_seat-requires

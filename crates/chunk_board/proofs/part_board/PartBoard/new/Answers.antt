@@ -1,6 +1,6 @@
 use Rattle.std.proofs.Common.{rules, ◌≡◌, ◌∙◌, length, map, Some, sym, ap, arith}
 use Rattle.chunk_board.proofs.PartEnds.{opens}
-use Rattle.chunk_board.proofs.Emptying.{full_slots, same_parts}
+use Rattle.chunk_board.proofs.api.Emptying.{full_slots, same_parts}
 use Rattle.chunk_board.proofs.part_board.PartBoard.new.Goals as goal
 
 pub new-requires : goal.new-requires

@@ -3,7 +3,7 @@ use Rattle.atomic_table.specs.Table.{rest}
 use Rattle.chunk_board.specs.declared.part_rule.PartHand.{PartHand}
 use Rattle.chunk_board.specs.PartHands.{part_hand, IsPutStep}
 use Rattle.chunk_board.specs.PartViews.{hand_of}
-use Rattle.chunk_board.proofs.PartSteps.{puts}
+use Rattle.chunk_board.proofs.api.PartSteps.{puts}
 use Rattle.chunk_board.proofs.part_board.PartBoard.put_back.Goals as goal
 
 pub fetch_add-requires : goal.fetch_add-requires

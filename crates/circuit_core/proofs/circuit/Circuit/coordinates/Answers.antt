@@ -1,5 +1,5 @@
 use Rattle.std.proofs.Common.{ℕ, List, get_or, length, arith, ◌∙◌, ap}
-use Rattle.circuit_core.proofs.Sizes.{exponents-length, exponents-at}
+use Rattle.circuit_core.proofs.api.Sizes.{exponents-length, exponents-at}
 use Rattle.circuit_core.proofs.circuit.Circuit.coordinates.Goals as goal
 
 pub k-requires : goal.k-requires

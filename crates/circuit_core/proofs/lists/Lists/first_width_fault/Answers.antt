@@ -2,7 +2,7 @@ use Rattle.std.proofs.Common.{◌∙◌, ◌+◌, sym, arith}
 use Rattle.circuit_core.specs.Sound.{greatest}
 use Rattle.circuit_core.specs.Parts.{height}
 use Rattle.circuit_core.specs.Faults.{width_fault}
-use Rattle.circuit_core.proofs.First.{first_below_found}
+use Rattle.circuit_core.proofs.api.First.{first_below_found}
 use Rattle.circuit_core.proofs.lists.Lists.first_width_fault.Goals as goal
 
 pub returns-in-Some : goal.returns-in-Some

@@ -3,7 +3,7 @@ use Rattle.std.specs.Prelude.{unwrap_or}
 use Rattle.std.proofs.lemmas.List.FromFn.{map-range_with_len_more, length-map-range_with_len}
 use Rattle.circuit_core.specs.Faults.{exponent_of}
 use Rattle.circuit_core.specs.Sound.{greatest, exponent_at}
-use Rattle.circuit_core.proofs.Faultless.{height_bounds, exponents_bounded}
+use Rattle.circuit_core.proofs.api.Faultless.{height_bounds, exponents_bounded}
 use Rattle.circuit_core.proofs.lists.Lists.shape.Goals as goal
 
 pub loop-layer-preserved : goal.loop-layer-preserved

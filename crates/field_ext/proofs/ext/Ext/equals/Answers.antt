@@ -1,7 +1,7 @@
 use Rattle.std.proofs.Common.{◌∙◌, sym, ap, eqb-true, ◌≡◌}
 use Rattle.std.proofs.lemmas.Bool.{eq-eqb}
 use Rattle.field_ext.specs.Field.{K}
-use Rattle.field_ext.proofs.ElementBytes.{K_eq}
+use Rattle.field_ext.proofs.api.ElementBytes.{K_eq}
 use Rattle.field_ext.proofs.ext.Ext.equals.Goals as goal
 
 pub returns-then-value-clause-equal : goal.returns-then-value-clause-equal

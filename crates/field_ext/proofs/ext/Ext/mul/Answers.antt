@@ -1,6 +1,6 @@
 use Rattle.std.proofs.Common.{◌∙◌, ◌+◌, ◌-◌, ◌*◌, ap₂}
 use Rattle.field_ext.specs.Field.{prime, of, mul_k}
-use Rattle.field_ext.proofs.Elements.{product_re, product_im}
+use Rattle.field_ext.proofs.api.Elements.{product_re, product_im}
 use Rattle.field_ext.proofs.ext.Ext.mul.Goals as goal
 
 pub returns : goal.returns

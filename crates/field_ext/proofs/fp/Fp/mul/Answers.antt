@@ -1,7 +1,7 @@
 use Rattle.std.proofs.Common.{◌∙◌, ◌*◌, ap₂}
 use Rattle.field_ext.specs.Field.{mul_f}
-use Rattle.field_ext.proofs.Elements.{of_same}
-use Rattle.field_ext.proofs.Words.{folded}
+use Rattle.field_ext.proofs.api.Elements.{of_same}
+use Rattle.field_ext.proofs.api.Words.{folded}
 use Rattle.field_ext.proofs.fp.Fp.mul.Goals as goal
 
 pub returns : goal.returns

@@ -1,6 +1,6 @@
 use Rattle.std.proofs.Common.{◌∙◌, ◌/◌, ◌<◌, arith}
-use Rattle.field_ext.proofs.Elements.{of_same}
-use Rattle.field_ext.proofs.Words.{folded_twice, least}
+use Rattle.field_ext.proofs.api.Elements.{of_same}
+use Rattle.field_ext.proofs.api.Words.{folded_twice, least}
 use Rattle.field_ext.proofs.fp.Fp.of_products.Goals as goal
 
 pub returns : goal.returns

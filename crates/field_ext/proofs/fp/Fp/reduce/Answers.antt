@@ -1,7 +1,7 @@
 use Rattle.std.proofs.Common.{◌∙◌, ◌+◌, ◌/◌, ℕ, bit_and}
 use Rattle.field_ext.specs.Field.{prime}
-use Rattle.field_ext.proofs.Elements.{of_same}
-use Rattle.field_ext.proofs.Words.{folded}
+use Rattle.field_ext.proofs.api.Elements.{of_same}
+use Rattle.field_ext.proofs.api.Words.{folded}
 use Rattle.field_ext.proofs.fp.Fp.reduce.Goals as goal
 
 pub returns : goal.returns

@@ -1,6 +1,6 @@
 use Rattle.std.proofs.Common.{◌∙◌}
-use Rattle.field_ext.proofs.Elements.{of_rem}
-use Rattle.field_ext.proofs.Words.{least}
+use Rattle.field_ext.proofs.api.Elements.{of_rem}
+use Rattle.field_ext.proofs.api.Words.{least}
 use Rattle.field_ext.proofs.fp.Fp.reduced.Goals as goal
 
 pub returns : goal.returns

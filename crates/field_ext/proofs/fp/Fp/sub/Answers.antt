@@ -1,7 +1,7 @@
 use Rattle.std.proofs.Common.{◌∙◌, ap₂}
 use Rattle.field_ext.specs.Field.{sub_f}
-use Rattle.field_ext.proofs.Elements.{sub-of}
-use Rattle.field_ext.proofs.Words.{least_difference}
+use Rattle.field_ext.proofs.api.Elements.{sub-of}
+use Rattle.field_ext.proofs.api.Words.{least_difference}
 use Rattle.field_ext.proofs.fp.Fp.sub.Goals as goal
 
 pub returns : goal.returns

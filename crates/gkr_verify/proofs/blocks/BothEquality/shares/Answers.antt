@@ -1,7 +1,7 @@
 use Rattle.std.proofs.Common.{◌≡◌, ◌/◌, ◌%◌, get_or, ap, ◌∙◌}
 use Rattle.field_ext.specs.Field.{K, k_ops, add_k, mul_k, zero_k}
-use Rattle.field_ext.proofs.KLaws.{k_laws}
-use Rattle.mle_table.proofs.EqualitySteps.{eq-split}
+use Rattle.field_ext.proofs.api.KLaws.{k_laws}
+use Rattle.mle_table.proofs.api.EqualitySteps.{eq-split}
 use Rattle.gkr_verify.specs.declared.blocks.BothEquality.{BothEquality}
 use Rattle.gkr_verify.proofs.BothSteps.{factors_value}
 use Rattle.gkr_verify.proofs.blocks.BothEquality.shares.Goals as goal

@@ -1,6 +1,6 @@
 use Rattle.std.proofs.Common.{get_or, ◌∙◌}
 use Rattle.field_ext.specs.Field.{K, k_ops, add_k, mul_k, zero_k}
-use Rattle.field_ext.proofs.KLaws.{k_laws}
+use Rattle.field_ext.proofs.api.KLaws.{k_laws}
 use Rattle.gkr_verify.proofs.BothSteps.{factors_more}
 use Rattle.gkr_verify.proofs.blocks.Shares.with.Goals as goal
 

@@ -1,6 +1,6 @@
 use Rattle.std.proofs.Common.{sym, ◌∙◌}
 use Rattle.field_ext.specs.Field.{add_k, zero_k}
-use Rattle.field_ext.proofs.KLaws.{k_laws}
+use Rattle.field_ext.proofs.api.KLaws.{k_laws}
 use Rattle.wiring_poly.specs.Wiring.{by_kind}
 use Rattle.gkr_verify.specs.Blocks.{with_factors}
 use Rattle.gkr_verify.proofs.both.GateShares.with.Goals as goal

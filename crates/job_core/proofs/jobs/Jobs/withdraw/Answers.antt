@@ -1,7 +1,7 @@
 use Rattle.std.proofs.Common.{rules, ◌≡◌, ◌<◌, Some, slice_get, arith, ap, ◌∙◌}
 use Rattle.job_core.specs.declared.entry.JobState.TheVariants.{Queued, Withdrawn}
 use Rattle.job_core.specs.JobMachine.{passes, is_queued}
-use Rattle.job_core.proofs.Places.{get_within, some_read}
+use Rattle.job_core.proofs.api.Places.{get_within, some_read}
 use Rattle.job_core.proofs.Firsts.{none_before_set, not_before}
 use Rattle.job_core.proofs.jobs.Jobs.withdraw.Goals as goal
 

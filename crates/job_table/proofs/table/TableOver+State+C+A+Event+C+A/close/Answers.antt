@@ -2,7 +2,7 @@ use Rattle.std.proofs.Common.{rules, ◌≡◌, ◌∙◌, ℕ, List, length, sy
 use Rattle.tallies.specs.Tallies.{times, once_below}
 use Rattle.job_table.specs.declared.event.Event.{Event}
 use Rattle.job_table.specs.Passes.{NoneRunning}
-use Rattle.job_table.proofs.Calls.{none_left}
+use Rattle.job_table.proofs.api.Calls.{none_left}
 use Rattle.job_table.proofs.table.TableOver+State+C+A+Event+C+A.close.Goals as goal
 
 pub returns-clause-all : goal.returns-clause-all

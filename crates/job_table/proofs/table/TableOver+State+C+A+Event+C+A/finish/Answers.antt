@@ -7,9 +7,9 @@ use Rattle.job_table.specs.History.{entries_of, jobs_of, Has, Submits, Finishes}
 use Rattle.job_table.specs.Slots.{IsSeen}
 use Rattle.job_table.specs.declared.event.Outcome.TheVariants.{Answer}
 use Rattle.job_table.specs.Passes.{Pairs, PassView, Holds}
-use Rattle.job_table.proofs.Calls.{Entered, entered, looked, looked_of, added, added_of, owned_more, owned_submit, owned_withdraw, owned_take, owned_finish, counts_submit, counts_finish, counts_take, counts_withdraw, now_held, holds_some, holds_here, seen_longer, job_within, joined_of, prefix_more}
+use Rattle.job_table.proofs.api.Calls.{Entered, entered, looked, looked_of, added, added_of, owned_more, owned_submit, owned_withdraw, owned_take, owned_finish, counts_submit, counts_finish, counts_take, counts_withdraw, now_held, holds_some, holds_here, seen_longer, job_within, joined_of, prefix_more}
 use mathlib.Core.List.{IsPrefix}
-use Rattle.job_table.proofs.Kept.{has_longer}
+use Rattle.job_table.proofs.api.Kept.{has_longer}
 use Rattle.job_table.proofs.table.TableOver+State+C+A+Event+C+A.finish.Goals as goal
 
 pub finish-requires-clause-running : goal.finish-requires-clause-running

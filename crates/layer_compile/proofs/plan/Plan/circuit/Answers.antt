@@ -1,13 +1,13 @@
 -- The lists have no fault
 use Rattle.std.proofs.Common.{◌<◌, ◌∙◌, length, arith}
 use Rattle.std.proofs.lemmas.Result.{err_from_is_err_and}
-use Rattle.circuit_core.proofs.First.{first_below_none}
+use Rattle.circuit_core.proofs.api.First.{first_below_none}
 use Rattle.layer_compile.specs.Circuits.{too_wide}
 use Rattle.std.proofs.lemmas.List.Elements.{All-same}
 use Rattle.layer_compile.specs.Rows.{row}
 use Rattle.layer_compile.proofs.Standing.{row_within}
-use Rattle.layer_compile.proofs.NoFault.{faultless}
-use Rattle.layer_compile.proofs.Refusals.{wide_cause}
+use Rattle.layer_compile.proofs.api.NoFault.{faultless}
+use Rattle.layer_compile.proofs.api.Refusals.{wide_cause}
 use Rattle.layer_compile.proofs.plan.Plan.circuit.Goals as goal
 
 pub returns-in_err-fits-clause-refused : goal.returns-in_err-fits-clause-refused

@@ -3,11 +3,11 @@ use Rattle.std.proofs.Common.{◌≡◌, ◌+◌, ◌∙◌, ◌++◌, ◌∷◌
 use Rattle.std.proofs.lemmas.List.{reverse-append}
 use Rattle.std.proofs.lemmas.Result.{err_from_is_err_and}
 use Rattle.circuit_core.specs.Faults.{first_below}
-use Rattle.circuit_core.proofs.First.{first_below_none, first_below_more}
+use Rattle.circuit_core.proofs.api.First.{first_below_none, first_below_more}
 use Rattle.layer_compile.specs.Levels.{height_of}
 use Rattle.layer_compile.specs.Rows.{row}
 use Rattle.layer_compile.specs.Circuits.{layers_from, too_wide, padded, gate_above}
-use Rattle.layer_compile.proofs.Refusals.{wide_cause, accepted}
+use Rattle.layer_compile.proofs.api.Refusals.{wide_cause, accepted}
 use Rattle.layer_compile.proofs.plan.Plan.layers.Goals as goal
 
 pub loop-height-init : goal.loop-height-init

@@ -5,14 +5,14 @@ use Rattle.circuit_core.specs.Sound.{exponent_at}
 use Rattle.gkr_layers.specs.Acceptance.{CircuitClaim, claim_of, verdict_of}
 use Rattle.gkr_layers.specs.Equations.{Answered}
 use Rattle.gkr_layers.specs.Layers.{layers_of}
-use Rattle.gkr_layers.proofs.Answers.{answer_from-verdict}
-use Rattle.gkr_layers.proofs.Shapes.{have_circuit_shape, length-all}
-use Rattle.gkr_verify.proofs.GivenDraws.{given-all, given-has}
+use Rattle.gkr_layers.proofs.api.Answers.{answer_from-verdict}
+use Rattle.gkr_layers.proofs.api.Shapes.{have_circuit_shape, length-all}
+use Rattle.gkr_verify.proofs.api.GivenDraws.{given-all, given-has}
 use Rattle.proof_wire.specs.declared.form.ProofForm.TheVariants.{Line}
 use Rattle.proof_wire.specs.declared.messages.LayerMessages.{LayerMessages}
 use Rattle.proof_wire.specs.Lists.{HaveShape, all_messages}
 use Rattle.transcript_fs.specs.Given.{given, numbers_of}
-use Rattle.proof_wire.proofs.Lengths.{count_is}
+use Rattle.proof_wire.proofs.api.Lengths.{count_is}
 use Rattle.proof_wire.specs.Spelling.{all_coefficients}
 use Rattle.std.proofs.lemmas.List.{with_items_is}
 use Rattle.live_session.specs.Layout.{messages_in}

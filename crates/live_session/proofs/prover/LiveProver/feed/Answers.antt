@@ -8,7 +8,7 @@ use Rattle.live_session.specs.Proving.{Proving, fed_more, stop_of}
 use Rattle.live_session.specs.ProverState.{IsAt}
 use Rattle.live_session.specs.Stops.{IsStopFor}
 use Rattle.live_session.specs.declared.progress.LiveFault.{LiveFault}
-use Rattle.live_session.proofs.ProverSteps.{all_kept, few_words, stop_kept, words_before}
+use Rattle.live_session.proofs.api.ProverSteps.{all_kept, few_words, stop_kept, words_before}
 use Rattle.live_session.proofs.prover.LiveProver.feed.Goals as goal
 
 -- what the intake has, where its buffer is that of the challenges and two bytes

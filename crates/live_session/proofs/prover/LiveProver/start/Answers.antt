@@ -1,7 +1,7 @@
 -- No challenge was fed
 use Rattle.std.proofs.Common.{◌≡◌, ◌+◌, ◌*◌, [], ℕ, ap, ◌∙◌, arith}
 use Rattle.live_session.specs.Intake.{Fed}
-use Rattle.live_session.proofs.ProverSteps.{few_words, nothing_stops}
+use Rattle.live_session.proofs.api.ProverSteps.{few_words, nothing_stops}
 use Rattle.live_session.proofs.prover.LiveProver.start.Goals as goal
 
 pub new-requires-clause-elements : goal.new-requires-clause-elements

@@ -1,6 +1,6 @@
 -- Eight bytes for each challenge are few
 use Rattle.std.proofs.Common.{arith}
-use Rattle.live_session.proofs.ProverSteps.{few_words}
+use Rattle.live_session.proofs.api.ProverSteps.{few_words}
 use Rattle.live_session.proofs.prover.LiveProver.verdict.Goals as goal
 
 pub overflow_mul-due : goal.overflow_mul-due

@@ -14,8 +14,8 @@ use Rattle.live_session.specs.Layout.{messages_in}
 use Rattle.live_session.specs.Verifying.{Session, element_count, elements_in, joined, kept, lower, progress_in, spelled}
 use Rattle.live_session.specs.VerifierState.{IsKept, intake_of}
 use Rattle.live_session.specs.declared.progress.Progress.TheVariants.{Ended}
-use Rattle.live_session.proofs.ElementSteps.{leading-most}
-use Rattle.live_session.proofs.VerifierSteps.{kept_on, progress_kept, sound_session}
+use Rattle.live_session.proofs.api.ElementSteps.{leading-most}
+use Rattle.live_session.proofs.api.VerifierSteps.{kept_on, progress_kept, sound_session}
 use Rattle.live_session.proofs.verifier.LiveVerifier.feed.Goals as goal
 
 pub conclude-self-inside-requires-clause-elements : goal.conclude-self-inside-requires-clause-elements

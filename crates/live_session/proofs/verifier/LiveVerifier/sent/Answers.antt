@@ -7,7 +7,7 @@ use Rattle.live_session.specs.Intake.{Fed}
 use Rattle.live_session.specs.Verifying.{Session, messages_whole, verifier_sent}
 use Rattle.live_session.specs.VerifierState.{IsKept}
 use Rattle.live_session.specs.declared.ending.Ending.{Ending}
-use Rattle.live_session.proofs.VerifierSteps.{reply_holds, sent_ended, sent_waiting}
+use Rattle.live_session.proofs.api.VerifierSteps.{reply_holds, sent_ended, sent_waiting}
 use Rattle.live_session.proofs.verifier.LiveVerifier.sent.Goals as goal
 
 by_verdict : (s : Session) (intake : Fed) (ending : Ending) (reply : List ℕ) (n : ℕ) (verdict : Option Verdict) → n ≡ exponent_at s.parts 0 + messages_whole s → IsKept s intake ending reply verdict →

@@ -2,7 +2,7 @@
 use Rattle.std.proofs.Common.{◌≡◌, ◌+◌, ◌*◌, [], ℕ, take, ap, refl, sym, ◌∙◌}
 use Rattle.live_session.specs.Intake.{Fed}
 use Rattle.live_session.specs.Verifying.{Session}
-use Rattle.live_session.proofs.VerifierSteps.{not_done}
+use Rattle.live_session.proofs.api.VerifierSteps.{not_done}
 use Rattle.live_session.proofs.verifier.LiveVerifier.start.Goals as goal
 
 pub invariant_of-result : goal.invariant_of-result

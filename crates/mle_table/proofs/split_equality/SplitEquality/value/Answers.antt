@@ -1,9 +1,9 @@
 use Rattle.std.proofs.Common.{◌≡◌, List, ◌%◌, ◌/◌, arith, ◌∙◌, sym, ap, ap₂, get_or}
 use Rattle.std.proofs.lemmas.List.{get_or_read}
 use Rattle.field_ext.specs.Field.{K, k_ops, zero_k, mul_k}
-use Rattle.field_ext.proofs.KLaws.{k_laws}
+use Rattle.field_ext.proofs.api.KLaws.{k_laws}
 use Rattle.mle_table.specs.SplitEquality.{TwoTables}
-use Rattle.mle_table.proofs.EqualitySteps.{eq-split}
+use Rattle.mle_table.proofs.api.EqualitySteps.{eq-split}
 use Rattle.mle_table.proofs.split_equality.SplitEquality.value.Goals as goal
 
 pub returns : goal.returns

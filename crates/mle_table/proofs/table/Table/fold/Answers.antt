@@ -3,7 +3,7 @@ use Rattle.std.proofs.Common.{arith, ap, ◌≡◌, ◌<◌, ℕ, vec_len}
 use Rattle.std.proofs.Common.{◌∙◌, sym, ◌^◌}
 use Rattle.std.proofs.Math.Nat.{sub-zero}
 use Rattle.mle_table.specs.Shape.{TableValues}
-use Rattle.mle_table.proofs.Steps.{even_power}
+use Rattle.mle_table.proofs.api.Steps.{even_power}
 use Rattle.mle_table.proofs.table.Table.fold.Goals as goal
 
 pub fold_values-requires : goal.fold_values-requires

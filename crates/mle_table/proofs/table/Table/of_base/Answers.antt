@@ -4,7 +4,7 @@ use Rattle.std.proofs.lemmas.List.{length-map}
 use Rattle.field_ext.specs.Field.{embed_k}
 use Rattle.mle_table.specs.Shape.{AreBase}
 use Rattle.mle_table.proofs.Powers.{one_power}
-use Rattle.mle_table.proofs.Written.{embedded_base}
+use Rattle.mle_table.proofs.api.Written.{embedded_base}
 use Rattle.mle_table.proofs.table.Table.of_base.Goals as goal
 
 pub invariant_of-result : goal.invariant_of-result

@@ -1,7 +1,7 @@
 -- Each half is a sum of two products of numbers
 use Rattle.std.proofs.Common.{◌+◌, ◌-◌, ◌*◌, ◌∙◌}
 use Rattle.field_ext.specs.Field.{prime, of}
-use Rattle.field_ext.proofs.Elements.{product_re, product_im}
+use Rattle.field_ext.proofs.api.Elements.{product_re, product_im}
 use Rattle.round_tables.proofs.lazy_sum.LazySum.product.Goals as goal
 
 pub returns-clause-element : goal.returns-clause-element

@@ -5,7 +5,7 @@ use Rattle.round_tables.specs.LayerSum.{left_in_phase}
 use Rattle.round_tables.specs.PartTables.{PartTables, HasSize, HasCapacity, folded_part, cuts, flat_table, flat_scales, flat_shifts, AreLaidOut}
 use Rattle.round_tables.specs.Working.{parts_of, HasCapacities}
 use Rattle.round_tables.proofs.PhaseSteps.{some_left}
-use Rattle.wiring_poly.proofs.Identity.{written_back}
+use Rattle.wiring_poly.proofs.api.Identity.{written_back}
 use Rattle.round_tables.proofs.LaidOut.{half, sizes-folded, flat-folded, laid-folded, laid-merged}
 use Rattle.round_tables.proofs.Advances.{is-true, in-many-parts, spread-many, capacities-folded, noted}
 use Rattle.round_tables.proofs.working.Working.advance.Goals as goal

@@ -1,14 +1,14 @@
 -- The buffers begin the first phase
 use Rattle.std.proofs.Common.{◌≡◌, length, take, arith, ◌∙◌, ap, subst, sym}
 use Rattle.field_ext.specs.Field.{K, k_ops}
-use Rattle.field_ext.proofs.KLaws.{k_laws}
+use Rattle.field_ext.proofs.api.KLaws.{k_laws}
 use Rattle.round_tables.specs.LayerSum.{left_in_phase}
 use Rattle.round_tables.specs.PartTables.{flat_table, flat_scales, flat_shifts, AreLaidOut}
 use Rattle.round_tables.specs.Tables.{GathersLeft}
 use Rattle.round_tables.specs.Phase.{IsPhase}
 use Rattle.round_tables.specs.Working.{place_of, parts_of}
 use Rattle.round_tables.proofs.PhaseSteps.{started}
-use Rattle.wiring_poly.proofs.Identity.{written_back}
+use Rattle.wiring_poly.proofs.api.Identity.{written_back}
 use Rattle.round_tables.proofs.PieceValues.{in_left_phase}
 use Rattle.round_tables.proofs.working.Working.begin.Goals as goal
 

@@ -1,7 +1,7 @@
 -- The second phase begins with tables gathered anew
 use Rattle.std.proofs.Common.{◌≡◌, ◌-◌, [], ◌∷◌, ◌++◌, length, take, get_or, arith, ◌∙◌, ap, sym, subst}
 use Rattle.field_ext.specs.Field.{K, k_ops, zero_k}
-use Rattle.field_ext.proofs.KLaws.{k_laws}
+use Rattle.field_ext.proofs.api.KLaws.{k_laws}
 use Rattle.mle_table.specs.Equality.{IsEqTable}
 use Rattle.round_tables.specs.Tables.{GathersRight}
 use Rattle.round_tables.specs.LayerSum.{left_in_phase}

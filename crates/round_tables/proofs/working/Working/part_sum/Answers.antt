@@ -1,17 +1,17 @@
 -- The pairs of a part sum to a part of the round
 use Rattle.std.proofs.Common.{◌≡◌, ℕ, ◌+◌, ◌-◌, ◌*◌, ◌/◌, ◌<◌, ◌≤◌, length, get_or, refl, sym, ◌∙◌, ap, arith, subst, lit<}
 use Rattle.field_ext.specs.Field.{k_ops}
-use Rattle.field_ext.proofs.KLaws.{k_laws}
+use Rattle.field_ext.proofs.api.KLaws.{k_laws}
 use Rattle.field_ext.specs.Sums.{sum_below}
-use Rattle.mle_table.proofs.SumLaws.{sum_below-same}
-use Rattle.gkr_layers.proofs.Coefficients.{from_values}
+use Rattle.mle_table.proofs.api.SumLaws.{sum_below-same}
+use Rattle.gkr_layers.proofs.api.Coefficients.{from_values}
 use Rattle.round_tables.specs.Tables.{pair_at}
 use Rattle.round_tables.specs.LayerSum.{left_in_phase, part_of_round}
 use Rattle.round_tables.specs.PartTables.{HasSize, flat_table, flat_scales, flat_shifts}
 use Rattle.round_tables.specs.Working.{place_of, bound_of, parts_of}
 use Rattle.round_tables.proofs.PhaseSteps.{some_left, length-count}
 use Rattle.round_tables.proofs.PieceValues.{part-pairs}
-use Rattle.round_tables.proofs.PartDegree.{length-part}
+use Rattle.round_tables.proofs.api.PartDegree.{length-part}
 use Rattle.round_tables.proofs.LaidOut.{half, halves, half-few, left-few, pairs-within, part-pair}
 use Rattle.round_tables.proofs.Advances.{half-of}
 use Rattle.round_tables.proofs.working.Working.part_sum.Goals as goal

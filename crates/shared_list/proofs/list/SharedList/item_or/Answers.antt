@@ -1,5 +1,5 @@
 use Rattle.std.proofs.Common.{◌≡◌, ◌+◌, ◌*◌, ◌/◌, ◌%◌, get_or, length, ap, sym, ◌∙◌, arith}
-use Rattle.shared_list.proofs.Transposes.{held-item, held-length, get_or-past}
+use Rattle.shared_list.proofs.api.Transposes.{held-item, held-length, get_or-past}
 use Rattle.shared_list.proofs.list.SharedList.item_or.Goals as goal
 
 pub returns-then-place-as_slice : goal.returns-then-place-as_slice

@@ -1,5 +1,5 @@
 use Rattle.std.proofs.Common.{ap, ◌∙◌, length}
-use Rattle.shared_list.proofs.Transposes.{held-length}
+use Rattle.shared_list.proofs.api.Transposes.{held-length}
 use Rattle.shared_list.proofs.list.SharedList.len.Goals as goal
 
 pub returns-in-Turned : goal.returns-in-Turned

@@ -1,5 +1,5 @@
 use Rattle.std.proofs.Common.{ap, sym, ◌∙◌}
-use Rattle.shared_list.proofs.Transposes.{held-twice}
+use Rattle.shared_list.proofs.api.Transposes.{held-twice}
 use Rattle.shared_list.proofs.list.SharedList.transposed.Goals as goal
 
 pub returns-in_ok-items-in-Turned : goal.returns-in_ok-items-in-Turned

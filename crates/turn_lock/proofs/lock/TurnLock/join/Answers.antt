@@ -2,8 +2,8 @@ use Rattle.std.proofs.Common.{rules, ◌≡◌, List, ap, subst, arith}
 use mathlib.Core.List.{IsPrefix}
 use Rattle.tallies.specs.Tallies.{times}
 use Rattle.turn_lock.specs.Lists.{unite, IsRising}
-use Rattle.turn_lock.proofs.United.{times-unite}
-use Rattle.turn_lock.proofs.Rising.{rising_unite}
+use Rattle.turn_lock.proofs.api.United.{times-unite}
+use Rattle.turn_lock.proofs.api.Rising.{rising_unite}
 use Rattle.turn_lock.proofs.Moves.{joins, shows}
 use Rattle.turn_lock.proofs.lock.TurnLock.join.Goals as goal
 

@@ -1,0 +1,4 @@
+-- Lemmas that other crates may cite.
+pub mod Lasting
+pub mod Places
+pub mod Runs
