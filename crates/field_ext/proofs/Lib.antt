@@ -1,3 +1,2 @@
 pub mod api
 mod Inverse
-mod FLaws

@@ -2,6 +2,7 @@
 pub mod ElementBytes
 pub mod Elements
 pub mod Embedding
+pub mod FLaws
 pub mod KLaws
 pub mod Prime
 pub mod Rings

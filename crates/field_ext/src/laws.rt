@@ -6,7 +6,7 @@ ghost use Rattle.field_ext.specs.Ring.{Laws};
 ghost use Rattle.field_ext.specs.Bytes.{bytes_of};
 
 /// The elements of F_p are a commutative ring, and those of K are.
-#[tactic(auto, using(crate::proofs::FLaws::f_laws, crate::proofs::api::KLaws::k_laws))]
+#[tactic(auto, using(crate::proofs::api::FLaws::f_laws, crate::proofs::api::KLaws::k_laws))]
 pub fn ring()
     ensures prime { Laws F f_ops }
     ensures extension { Laws K k_ops }

@@ -121,10 +121,10 @@ module _ {A : Type 0} (o : Ops A) (l : Laws A o) where
       ∙ ext-folded_all o l t pt []
       ∙ ap (extension_at o o (λ x. x) t) (append-nil pt)
 
-pub even_count : (k j count : ℕ) → j < k → count ≡ 2 ^ (k - j) → (count ≡ 2 * (count / 2)) × (count / 2 ≡ 2 ^ (k - (j + 1)))
-even_count k j count u e =
+pub even_count : (k j count left : ℕ) → j < k → count ≡ left * 2 ^ (k - j) → (count ≡ 2 * (count / 2)) × (count / 2 ≡ left * 2 ^ (k - (j + 1)))
+even_count k j count left u e =
     let s : k - j ≡ suc (k - (j + 1)) = omega arith in
-    let d : count ≡ 2 ^ (k - (j + 1)) * 2 = e ∙ ap (λ (i : ℕ). 2 ^ i) s ∙ pow-suc 2 (k - (j + 1)) in
+    let d : count ≡ left * 2 ^ (k - (j + 1)) * 2 = e ∙ ap (λ (i : ℕ). left * 2 ^ i) s ∙ ap (λ (x : ℕ). left * x) (pow-suc 2 (k - (j + 1))) ∙ omega arith in
     (omega arith, omega arith)
 
 module _ {A : Type 0} (o : Ops A) (l : Laws A o) where

@@ -10,6 +10,7 @@
 //! ```
 #![tactic(auto)]
 
+mod blocks;
 mod line;
 mod point;
 mod rows;

@@ -1,10 +1,13 @@
 //! The polynomial of a line.
 
-ghost use Rattle.std.specs.Prelude.{◌≡◌, ◌≤◌, ◌+◌, ◌^◌, length, IfOk};
-ghost use Rattle.field_ext.specs.Field.{k_ops};
+ghost use Rattle.std.specs.Prelude.{◌≡◌, ◌≤◌, ◌<◌, ◌+◌, ◌-◌, ◌*◌, ◌^◌, List, length, vec_len, IfOk};
+ghost use Rattle.field_ext.specs.Field.{K, k_ops};
 ghost use Rattle.field_ext.specs.Polynomial.{value_at, coefficients};
 ghost use Rattle.gkr_layers.specs.Sumcheck.{line_polynomial};
+ghost use Rattle.mle_table.specs.Shape.{AreBase};
+ghost use Rattle.line_reduce.specs.Rows.{HaveFolds};
 
+use crate::blocks::{block_rows, unit_rows};
 use crate::rows::fold_rows;
 use field_ext::Ext;
 use mle_table::Table;
@@ -20,8 +23,14 @@ pub fn line_poly(alloc: Global, table: &Table, b: &[Ext], c: &[Ext]) -> Result<P
     ensures { IfOk result (λ line. line ≡ coefficients k_ops (table.now.k + 1)
         (line_polynomial k_ops table.now.items b.now c.now)) }
 {
-    let rows = Vec::from_slice(alloc, table.values())?;
-    Ok(Poly::of_coeffs(folded_rows(alloc, rows, b, c)?))
+    let values = table.values();
+    if table.is_base() && b.len() >= 8 {
+        let known = b.len() / 2 - 2;
+        Ok(Poly::of_coeffs(by_blocks(alloc, values, known, b, c)?))
+    } else {
+        let rows = Vec::from_slice(alloc, values)?;
+        Ok(Poly::of_coeffs(by_rows(alloc, rows, b, c)?))
+    }
 }
 
 /// The claim at `t`, where this polynomial is claimed for the line.
@@ -32,20 +41,66 @@ pub fn claim_at(line: &Poly, t: Ext) -> Ext
 }
 
 /// A table as rows of one coefficient, folded by the line's polynomials one after another to one row.
-fn folded_rows(
-    alloc: Global,
-    mut rows: Vec<Ext>,
-    b: &[Ext],
-    c: &[Ext],
-) -> Result<Vec<Ext>, AllocError>
+fn by_rows(alloc: Global, rows: Vec<Ext>, b: &[Ext], c: &[Ext]) -> Result<Vec<Ext>, AllocError>
     requires most { length b.now ≤ 16 }
     requires end { length c.now ≡ length b.now }
     requires size { length rows.items ≡ 2 ^ length b.now }
     ensures { IfOk result (λ line. line.items ≡ coefficients k_ops (length b.now + 1)
         (line_polynomial k_ops rows.items b.now c.now)) }
 {
-    let mut count = rows.len();
-    for j in 0..b.len() {
+    let line = folded_rows(alloc, rows, 0, b.len(), 1, b, c)?;
+    Ok(line)
+}
+
+/// The same for a table of the base field, whose first coordinates are bound in each block of values at once.
+fn by_blocks(
+    alloc: Global,
+    values: &[Ext],
+    known: usize,
+    b: &[Ext],
+    c: &[Ext],
+) -> Result<Vec<Ext>, AllocError>
+    requires most { length b.now ≤ 16 }
+    requires end { length c.now ≡ length b.now }
+    requires size { length values.now ≡ 2 ^ length b.now }
+    requires base { AreBase values.now }
+    requires some { 2 ≤ known }
+    requires few { known ≤ 6 }
+    requires known { known ≤ length b.now }
+    ensures { IfOk result (λ line. line.items ≡ coefficients k_ops (length b.now + 1)
+        (line_polynomial k_ops values.now b.now c.now)) }
+{
+    let size = 1usize << known;
+    let units = unit_rows(alloc, size)?;
+    let weights = folded_rows(alloc, units, 0, known, size, b, c)?;
+    let count = values.len() / size;
+    let rows = block_rows(alloc, values, &weights, known + 1, size / 4, count)?;
+    let line = folded_rows(alloc, rows, known, b.len(), 1, b, c)?;
+    Ok(line)
+}
+
+/// Rows for the coordinates before `from`, folded by the line's polynomials from there to `to`, so that `left` rows are left.
+fn folded_rows(
+    alloc: Global,
+    mut rows: Vec<Ext>,
+    from: usize,
+    to: usize,
+    left: usize,
+    b: &[Ext],
+    c: &[Ext],
+) -> Result<Vec<Ext>, AllocError>
+    requires most { length b.now ≤ 16 }
+    requires end { length c.now ≡ length b.now }
+    requires from { from ≤ to }
+    requires to { to ≤ length b.now }
+    requires size { length rows.items ≡ left * 2 ^ (to - from) * (from + 1) }
+    ensures size { IfOk result (λ line. vec_len line ≡ left * (to + 1)) }
+    ensures folds { IfOk result (λ line. (t : List K) (e : K)
+        → HaveFolds k_ops from (left * 2 ^ (to - from)) rows.items t b.now c.now e
+        → HaveFolds k_ops to left line.items t b.now c.now e) }
+{
+    let mut count = rows.len() / (from + 1);
+    for j in from..to {
         count /= 2;
         rows = fold_rows(alloc, &rows, j + 1, count, b[j], c[j] - b[j])?;
     }

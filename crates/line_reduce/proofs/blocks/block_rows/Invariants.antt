@@ -1,0 +1,10 @@
+use Rattle.std.proofs.Common.{◌≡◌, ℕ, ◌<◌, ◌+◌, ◌*◌, get_or, vec_len}
+use Rattle.field_ext.specs.Field.{k_ops, zero_k}
+use Rattle.line_reduce.specs.Rows.{weighted_sum}
+use Rattle.line_reduce.proofs.blocks.block_rows.Given as goal
+
+abbrev pub invariant-loop-p : goal.invariant-loop-p
+invariant-loop-p l = record {
+  size : vec_len l.rows ≡ l.count * l.n;
+  rows : (p j : ℕ) → p < l.p → j < l.n → get_or l.rows.items (p * l.n + j) zero_k ≡ weighted_sum k_ops l.values (p * (4 * l.fours)) l.weights j l.n (4 * l.fours);
+}
