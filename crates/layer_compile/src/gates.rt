@@ -9,6 +9,7 @@ ghost use Rattle.circuit_core.specs.declared.gate.Kind.TheVariants.{Add};
 ghost use Rattle.circuit_core.specs.declared.gate.CircuitGate.{CircuitGate};
 ghost use Rattle.layer_compile.specs.Circuits.{gate_above, AreGatesAbove, placed, padded, size_for, leaf_of};
 
+use crate::adding::add;
 use crate::plan::Plan;
 use crate::sizes::size_for;
 use circuit_core::{CircuitGate, Kind, Layer, Leaf};
@@ -39,9 +40,9 @@ impl<'a> Plan<'a> {
         ensures { IfOk result (λ v. AreGatesAbove self.now.list.now height nodes.now v.items) }
     {
         let mut gates = Vec::with_capacity(alloc, size_for(1 + nodes.len()))?;
-        gates.push(ZERO_GATE)?;
+        add(&mut gates, ZERO_GATE)?;
         for k in nodes {
-            gates.push(self.gate_above(places, height, *k))?;
+            add(&mut gates, self.gate_above(places, height, *k))?;
         }
         Ok(gates)
     }
@@ -87,7 +88,7 @@ impl<'a> Plan<'a> {
     {
         let mut leaves = Vec::new(alloc);
         for k in nodes {
-            leaves.push(leaf_of(&self.list.nodes()[*k as usize]))?;
+            add(&mut leaves, leaf_of(&self.list.nodes()[*k as usize]))?;
         }
         Ok(leaves)
     }
@@ -130,8 +131,8 @@ fn pad(gates: &mut Vec<CircuitGate>) -> Result<(), AllocError>
         (size_for (length gates.old.items) - length gates.old.items) zero_gate) }
 {
     let size = size_for(gates.len());
-    for _ in gates.len()..size {
-        gates.push(ZERO_GATE)?;
+    if gates.len() < size {
+        gates.resize(size, ZERO_GATE)?;
     }
     Ok(())
 }

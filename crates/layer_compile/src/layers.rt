@@ -6,6 +6,7 @@ ghost use Rattle.layer_compile.specs.Levels.{height_of};
 ghost use Rattle.layer_compile.specs.Rows.{row};
 ghost use Rattle.layer_compile.specs.Circuits.{layers_from, too_wide, refusal_of, IsCauseOf};
 
+use crate::adding::add;
 use crate::gates::padded;
 use crate::limits::Limits;
 use crate::plan::Plan;
@@ -62,11 +63,4 @@ impl<'a> Plan<'a> {
             Ok(())
         }
     }
-}
-
-fn add(layers: &mut Vec<Layer>, layer: Layer) -> Result<(), AllocError>
-    ensures { OnOk result (layers.new.items ≡ layers.old.items ++ layer ∷ []) }
-{
-    layers.push(layer)?;
-    Ok(())
 }

@@ -3,6 +3,7 @@
 ghost use Rattle.std.specs.Prelude.{◌≡◌, ◌≤◌, ◌<◌, ◌+◌, All, length, slice_index, IfOk};
 ghost use Rattle.layer_compile.specs.Levels.{levels, level_of, greatest, OperandsBefore};
 
+use crate::adding::add;
 use node_core::{Node, NodeList};
 use std::alloc::{AllocError, Global};
 
@@ -12,7 +13,8 @@ pub fn levels(alloc: Global, list: &NodeList) -> Result<Vec<usize>, AllocError>
 {
     let mut levels: Vec<usize> = Vec::new(alloc);
     for node in list.nodes() {
-        levels.push(level_of(&levels, node))?;
+        let level = level_of(&levels, node);
+        add(&mut levels, level)?;
     }
     Ok(levels)
 }

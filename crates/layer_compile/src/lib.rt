@@ -11,6 +11,7 @@
 //! ```
 #![tactic(auto)]
 
+mod adding;
 mod chains;
 mod gates;
 pub mod laws;

@@ -8,6 +8,7 @@ ghost use Rattle.layer_compile.specs.Next.{IsNext, has_level};
 ghost use Rattle.layer_compile.specs.Rows.{row, place, ArePlaces, IsMerged};
 ghost use Rattle.layer_compile.specs.Circuits.{AreGatesAbove};
 
+use crate::adding::add;
 use crate::gates::{ZERO_GATE, carried};
 use crate::plan::Plan;
 use crate::sizes::size_for;
@@ -29,7 +30,7 @@ impl<'a> Plan<'a> {
         let mut row = Vec::new(alloc);
         for k in 0..self.list.nodes().len() {
             if self.level(k) == 0 {
-                row.push(k as u32)?;
+                add(&mut row, k as u32)?;
             }
         }
         Ok(row)
@@ -112,8 +113,8 @@ impl<'a> Plan<'a> {
             above.new.gates.items) }
     {
         if self.is_used_above(height + 1, k as usize) {
-            above.nodes.push(k)?;
-            above.gates.push(self.placed(places, height, k as usize))?;
+            add(&mut above.nodes, k)?;
+            add(&mut above.gates, self.placed(places, height, k as usize))?;
         }
         Ok(())
     }
@@ -132,8 +133,8 @@ impl<'a> Plan<'a> {
             above.new.gates.items) }
     {
         if self.is_used_above(height + 1, k as usize) {
-            above.nodes.push(k)?;
-            above.gates.push(carried(at))?;
+            add(&mut above.nodes, k)?;
+            add(&mut above.gates, carried(at))?;
         }
         Ok(())
     }
@@ -179,7 +180,7 @@ fn begun(alloc: Global, nodes: usize) -> Result<Row, AllocError>
     ensures gates { IfOk result (λ r. r.gates.items ≡ zero_gate ∷ []) }
 {
     let mut gates = Vec::with_capacity(alloc, size_for(1 + nodes))?;
-    gates.push(ZERO_GATE)?;
+    add(&mut gates, ZERO_GATE)?;
     Ok(Row {
         nodes: Vec::with_capacity(alloc, nodes)?,
         gates,

@@ -21,16 +21,16 @@ many_so_far c =
     ap length c.deref.ensures.value
     ∙ made_so_far level_of c.nodes-node-items.result.now c.loop-node.node-index c.loop-node.levels.items (omega arith) c.loop-node.invariant.made
 
-pub level_of-requires-clause-before : goal.level_of-requires-clause-before
-level_of-requires-clause-before c =
+pub level_of-level-requires-clause-before : goal.level_of-level-requires-clause-before
+level_of-level-requires-clause-before c =
     let i = c.loop-node.node-index in
     let list = c.args.list.now in
     let read : c.node-item.result ≡ node_at list i = get_or_read c.nodes-node-items.result.now i c.node-item.result c.loop-node-test.true c.node-item.is no_node ∙ ap (λ nodes. get_or nodes i no_node) c.nodes-node-items.ensures.value in
     let fine = c.nodes-node-items.ensures.fine.fine i (omega (arith, c.loop-node-test.true, ap length c.nodes-node-items.ensures.value)) in
     rw (many_so_far c, read) (operands_before list.inputs i (node_at list i) fine)
 
-pub level_of-requires-clause-small : goal.level_of-requires-clause-small
-level_of-requires-clause-small c =
+pub level_of-level-requires-clause-small : goal.level_of-level-requires-clause-small
+level_of-level-requires-clause-small c =
     let i = c.loop-node.node-index in
     let earlier = c.deref.result.now in
     let many = many_so_far c in
@@ -43,6 +43,6 @@ loop-node-preserved c =
     let levels = c.loop-node.levels.items in
     let many = ap length c.deref.ensures.value ∙ made_so_far level_of c.nodes-node-items.result.now i levels (omega arith) c.loop-node.invariant.made in
     record {
-      made = c.in_ok-push.ensures.items ∙ made_in_order_step level_of c.nodes-node-items.result.now i levels c.node-item.result c.level_of.result c.loop-node-test.true c.loop-node.invariant.made c.node-item.is (c.level_of.ensures.value ∙ ap (λ earlier. level_of earlier c.node-item.result) c.deref.ensures.value);
-      small = All-same (λ level. level ≤ i + 1) _ _ c.in_ok-push.ensures.items (All-push (λ level. level ≤ i + 1) levels c.level_of.result (All-weaker (λ level. level ≤ i) (λ level. level ≤ i + 1) (λ level l. omega arith) levels c.loop-node.invariant.small) (omega (arith, c.level_of.ensures.small, many)));
+      made = c.in_ok-add.ensures ∙ made_in_order_step level_of c.nodes-node-items.result.now i levels c.node-item.result c.level_of-level.result c.loop-node-test.true c.loop-node.invariant.made c.node-item.is (c.level_of-level.ensures.value ∙ ap (λ earlier. level_of earlier c.node-item.result) c.deref.ensures.value);
+      small = All-same (λ level. level ≤ i + 1) _ _ c.in_ok-add.ensures (All-push (λ level. level ≤ i + 1) levels c.level_of-level.result (All-weaker (λ level. level ≤ i) (λ level. level ≤ i + 1) (λ level l. omega arith) levels c.loop-node.invariant.small) (omega (arith, c.level_of-level.ensures.small, many)));
     }
