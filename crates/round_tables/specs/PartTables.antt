@@ -1,7 +1,10 @@
 -- A part of a phase's tables: the same range of all three, in buffers of its own
-use Rattle.std.specs.Prelude.{◌≡◌, ℕ, ◌+◌, ◌-◌, ◌/◌, ◌^◌, ◌≤◌, List, [], ◌∷◌, ◌++◌, length, take, if◌then◌else◌, nat_lt, All}
+use Rattle.std.specs.Prelude.{◌≡◌, ℕ, ◌+◌, ◌-◌, ◌/◌, ◌^◌, ◌≤◌, min, List, [], ◌∷◌, ◌++◌, length, take, if◌then◌else◌, nat_lt, All}
 use Rattle.field_ext.specs.Field.{K, k_ops}
 use Rattle.field_ext.specs.Multilinear.{folded}
+use Rattle.field_ext.specs.Polynomial.{coefficients, polynomial_ops}
+use Rattle.field_ext.specs.Sums.{sum_below}
+use Rattle.round_tables.specs.Tables.{pair_poly}
 
 -- the values of its range in each table, and for how many it has capacity
 pub record PartTables : Type 0 where
@@ -26,6 +29,15 @@ folded_part r p = record {
 -- how many pairs the three tables of a part have
 abbrev pub part_pairs : PartTables → ℕ
 part_pairs p = length p.table / 2 + length p.scales / 2 + length p.shifts / 2
+
+-- how many pairs of all three tables are summed: there are at most 1,024 in a part
+abbrev pub summed_pairs : PartTables → ℕ
+summed_pairs p = min (min (min (length p.table) (length p.scales)) (length p.shifts)) 2048 / 2
+
+-- the coefficients of 1, X and X² of what the pairs of the part sum to
+unfoldable pub part_sum : PartTables → List K
+part_sum p = coefficients k_ops 3 (sum_below (polynomial_ops k_ops) (summed_pairs p)
+    (pair_poly k_ops p.table p.scales p.shifts))
 
 -- each table of the part has n values
 pub record HasSize (n : ℕ) (p : PartTables) : Type 0 where

@@ -1,6 +1,6 @@
 //! The public face of a layer's working tables.
 
-ghost use Rattle.std.specs.Prelude.{◌≡◌, ◌<◌, ◌≤◌, ◌+◌, ◌^◌, ◌↔◌, All, IfOk, IsTrue, [], ◌∷◌, ◌++◌, length, map};
+ghost use Rattle.std.specs.Prelude.{◌≡◌, ℕ, ◌<◌, ◌≤◌, ◌+◌, ◌^◌, ◌↔◌, All, IfOk, IsTrue, [], ◌∷◌, ◌++◌, length, map, slice_index_or};
 ghost use Rattle.field_ext.specs.Field.{K, k_ops};
 ghost use Rattle.circuit_core.specs.Parts.{IsOver, height};
 ghost use Rattle.circuit_core.specs.Sound.{exponent_at};
@@ -10,7 +10,7 @@ ghost use Rattle.gkr_layers.specs.ClaimPlace as claim_place;
 ghost use Rattle.round_tables.specs.Phase.{IsLayer};
 ghost use Rattle.field_ext.specs.Polynomial.{coefficients};
 ghost use Rattle.round_tables.specs.LayerSum.{sum_of_layer, pairs_of, pieces_of, piece_pairs, piece_poly, bind_steps};
-ghost use Rattle.round_tables.specs.PartTables.{folded_part};
+ghost use Rattle.round_tables.specs.PartTables.{PartTables, folded_part, part_sum};
 
 use crate::buffers::{Buffers, TooSmallBuffers};
 use crate::layer_gates::LayerGates;
@@ -321,13 +321,16 @@ impl<'a> GateTables<'a> {
         self.lent.is_some()
     }
 
-    /// Lends the parts of the tables, which are as many as the next round has pieces, at most 32.
+    /// Lends the parts of the tables, which are as many as the next round has pieces, at most 32. Each sums to its piece.
     pub fn parts_out(&mut self) -> Vec<Part>
         requires here { self.old.lent ≡ [] }
         requires left { length self.old.bound < self.old.k + self.old.k }
         ensures lent { self.new ≡ record self.old { lent = result.items } }
         ensures number { length result.items ≡ pieces_of self.old }
         ensures few { length result.items ≤ 32 }
+        ensures sums { (i : ℕ) (part : PartTables) → i < pieces_of self.old
+            → part_sum (slice_index_or result.items i part) ≡ coefficients k_ops 3
+            (piece_poly self.old i) }
     {
         self.lent = Some(Snapshot::of(&self.working));
         self.working.lend()

@@ -6,11 +6,12 @@ ghost use Rattle.field_ext.specs.Polynomial.{value_at};
 ghost use Rattle.field_ext.specs.Sums.{sum_below};
 ghost use Rattle.mle_table.specs.Shape.{AreBase};
 ghost use Rattle.round_tables.specs.Tables.{pair_at};
-ghost use Rattle.round_tables.specs.PartTables.{HasSize, flat_table, flat_scales, flat_shifts, folded_part, halved, part_pairs};
+ghost use Rattle.round_tables.specs.PartTables.{HasSize, flat_table, flat_scales, flat_shifts, folded_part, halved, part_pairs, part_sum, summed_pairs};
 
 use crate::folding::fold_first;
 use crate::operand::{Base, Operand, Whole};
 use crate::pairs::pair_sum;
+use crate::parts::PART_VALUES;
 use field_ext::Ext;
 use std::alloc::{AllocError, Global};
 use std::marker::{Brand, Model};
@@ -63,6 +64,17 @@ fn halve<V: Operand, L: Ledger>(values: &mut Vec<Ext>, r: Ext, steps: &mut Steps
 }
 
 impl Part {
+    /// A part of empty tables. It takes no memory.
+    pub fn empty(alloc: Global) -> Part {
+        Part {
+            table: Vec::new(alloc),
+            scales: Vec::new(alloc),
+            shifts: Vec::new(alloc),
+            capacity: 0,
+            base: false,
+        }
+    }
+
     /// An empty part with capacity for so many values of each table.
     pub(crate) fn new(alloc: Global, capacity: usize) -> Result<Part, AllocError>
         ensures { IfOk result (λ part. part.capacity ≡ capacity) }
@@ -216,19 +228,52 @@ impl Part {
         self.fold_counted(r, &mut steps);
     }
 
-    /// The coefficients of the sum of what its pairs give, at a step for each of them. It has at most 1,024.
-    pub(crate) fn pair_sum<L: Ledger>(&self, half: usize, steps: &mut Steps<L>) -> [Ext; 3]
-        requires size { HasSize (2 * half) self.now }
-        requires few { half ≤ 1024 }
+    /// The coefficients of 1, X and X² of the sum of what its pairs give. In a part whose tables don't have one even size, a value
+    /// that is no half of a pair of each gives nothing, and neither do pairs past the first 1,024.
+    pub fn sum(&self) -> [Ext; 3]
+        ensures { result ≡ part_sum self.now }
+    {
+        self.sum_from::<Brand>(Blank::new(1))
+    }
+
+    fn sum_from<L: Ledger>(&self, blank: Blank) -> [Ext; 3]
+        requires name { blank.name ≡ L.name }
+        requires parts { blank.parts ≡ L.parts }
+        requires some { 0 < L.parts }
+        ensures { result ≡ part_sum self.now }
+    {
+        let mut steps = Steps::<L>::start(blank);
+        self.sum_counted(&mut steps)
+    }
+
+    /// The same, at a step for each pair that is summed.
+    pub(crate) fn sum_counted<L: Ledger>(&self, steps: &mut Steps<L>) -> [Ext; 3]
+        ensures sum { result ≡ part_sum self.now }
+        ensures steps { steps.new ≡ steps.old + summed_pairs self.now }
+    {
+        let values = self
+            .table
+            .len()
+            .min(self.scales.len())
+            .min(self.shifts.len());
+        self.pair_sum(values.min(PART_VALUES) / 2, steps)
+    }
+
+    /// The coefficients of the sum of what its first pairs give, at a step for each of them.
+    fn pair_sum<L: Ledger>(&self, pairs: usize, steps: &mut Steps<L>) -> [Ext; 3]
+        requires few { pairs ≤ 1024 }
+        requires table { 2 * pairs ≤ length self.now.table }
+        requires scales { 2 * pairs ≤ length self.now.scales }
+        requires shifts { 2 * pairs ≤ length self.now.shifts }
         ensures three { length result ≡ 3 }
-        ensures sum { (e : K) → value_at k_ops result e ≡ sum_below k_ops half
+        ensures sum { (e : K) → value_at k_ops result e ≡ sum_below k_ops pairs
             (λ j. pair_at k_ops self.now.table self.now.scales self.now.shifts e j) }
-        ensures steps { steps.new ≡ steps.old + half }
+        ensures steps { steps.new ≡ steps.old + pairs }
     {
         if self.base {
-            pair_sum::<Base, L>(&self.table, &self.scales, &self.shifts, 0, half, steps)
+            pair_sum::<Base, L>(&self.table, &self.scales, &self.shifts, 0, pairs, steps)
         } else {
-            pair_sum::<Whole, L>(&self.table, &self.scales, &self.shifts, 0, half, steps)
+            pair_sum::<Whole, L>(&self.table, &self.scales, &self.shifts, 0, pairs, steps)
         }
     }
 }

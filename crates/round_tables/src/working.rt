@@ -379,7 +379,6 @@ impl Working {
         ensures steps { steps.new ≡ steps.old + half_size layer.now.k self.now.count }
     {
         let _ = layer;
-        let part = &self.parts()[number];
-        part.pair_sum(part.len() / 2, steps)
+        self.parts()[number].sum_counted(steps)
     }
 }
