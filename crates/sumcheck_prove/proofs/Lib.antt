@@ -1,4 +1,6 @@
 mod Summing
+mod Loading
+mod Handed
 mod Ahead
 mod FoldedParts
 mod Crossing

@@ -7,6 +7,7 @@ ghost use Rattle.round_tables.specs.LayerSum.{next_poly, pieces_of, piece_poly};
 ghost use Rattle.phase_run.specs.Work.{IsWorkerCount};
 ghost use Rattle.sumcheck_prove.specs.Ahead.{AreAhead};
 
+use crate::adding::{no_message, plus};
 use crate::pieces::PieceSums;
 use field_ext::Ext;
 use io_edge::Gate;
@@ -41,16 +42,11 @@ pub fn round<R: Threads + Sync, G: Gate>(
     ensures { IfOk result (λ message. message ≡ coefficients k_ops 3 (next_poly tables.now)) }
 {
     let ahead = summed_ahead(rt, alloc, tables, workers, gate)?;
-    let mut constant = Ext::zero();
-    let mut linear = Ext::zero();
-    let mut square = Ext::zero();
+    let mut total = no_message();
     for piece in 0..tables.pieces() {
-        let sum = piece_message(tables, &ahead, piece, gate);
-        constant = constant + sum[0];
-        linear = linear + sum[1];
-        square = square + sum[2];
+        total = plus(total, piece_message(tables, &ahead, piece, gate));
     }
-    Ok([constant, linear, square])
+    Ok(total)
 }
 
 /// The messages of all pieces, where the round has so many pairs that threads pay for them.

@@ -1,0 +1,89 @@
+//! The rounds of a layer by a crew.
+
+ghost use Rattle.std.specs.Prelude.{◌≡◌, ◌<◌, ◌≤◌, ◌+◌, [], ◌∷◌, ◌++◌, IsTrue, length, vec_len};
+ghost use Rattle.field_ext.specs.Field.{k_ops};
+ghost use Rattle.field_ext.specs.Polynomial.{coefficients};
+ghost use Rattle.round_tables.specs.LayerSum.{next_poly, pieces_of};
+
+use crate::adding::{no_message, summed_alone};
+use crate::jobs::{Job, Jobs, added, unload, worked};
+use crew::Crew;
+use field_ext::Ext;
+use round_tables::GateTables;
+use std::sync::Wait;
+
+/// A round of fewer pairs is worked by the lead alone.
+const PAIRS_FOR_A_CREW: usize = 2048;
+
+/// Whether a round is for the crew: it is wide, and there is a job for each part of its tables.
+fn is_for_crew(tables: &GateTables<'_>, jobs: &[Job]) -> bool
+    requires here { tables.now.lent ≡ [] }
+    requires left { length tables.now.bound < tables.now.k + tables.now.k }
+    ensures { IsTrue result → length jobs.now ≡ pieces_of tables.now }
+{
+    tables.pairs() >= PAIRS_FOR_A_CREW && tables.pieces() == jobs.len()
+}
+
+/// A round's message, and the jobs for the next one.
+#[derive(Drop)]
+pub struct Summed {
+    pub message: [Ext; 3],
+    pub jobs: Vec<Job>,
+}
+
+/// The coefficients of 1, X and X² of the next round's polynomial, where a round is left, as `round` gives them: a crew sums the
+/// parts of the tables, in any order. A round that doesn't pay for a crew, or whose parts are not as many as the jobs, is summed
+/// by the lead alone. It takes no memory.
+pub fn round_by<R: Wait>(
+    rt: &R,
+    tables: &mut GateTables<'_>,
+    crew: &mut Crew<'_, Jobs>,
+    jobs: Vec<Job>,
+) -> Summed
+    requires here { tables.old.lent ≡ [] }
+    requires left { length tables.old.bound < tables.old.k + tables.old.k }
+    requires few { vec_len jobs ≤ crew.old.parts }
+    ensures message { result.message ≡ coefficients k_ops 3 (next_poly tables.old) }
+    ensures jobs { vec_len result.jobs ≡ vec_len jobs }
+    ensures tables { tables.new ≡ tables.old }
+    ensures crew { crew.new ≡ crew.old }
+{
+    if !is_for_crew(tables, &jobs) {
+        let message = summed_alone(tables);
+        return Summed { message, jobs };
+    }
+    let mut parts = tables.parts_out();
+    let mut jobs = worked(rt, crew, &mut parts, jobs, false, Ext::zero(), no_message());
+    let message = added(&jobs);
+    unload(&mut jobs, &mut parts);
+    tables.parts_back(parts);
+    Summed { message, jobs }
+}
+
+/// Binds the next coordinate to the challenge `r`, where a round is left, as `GateTables::bind` does: a crew folds the parts of
+/// the tables, in any order, and the lead alone where `round_by` leaves a round to it. The jobs are back then. It takes no
+/// memory.
+pub fn bind_by<R: Wait>(
+    rt: &R,
+    tables: &mut GateTables<'_>,
+    r: Ext,
+    crew: &mut Crew<'_, Jobs>,
+    jobs: Vec<Job>,
+) -> Vec<Job>
+    requires here { tables.old.lent ≡ [] }
+    requires left { length tables.old.bound < tables.old.k + tables.old.k }
+    requires few { vec_len jobs ≤ crew.old.parts }
+    ensures bound { tables.new ≡ record tables.old { bound = tables.old.bound ++ r ∷ [] } }
+    ensures jobs { vec_len result ≡ vec_len jobs }
+    ensures crew { crew.new ≡ crew.old }
+{
+    if !is_for_crew(tables, &jobs) {
+        tables.bind(r);
+        return jobs;
+    }
+    let mut parts = tables.parts_out();
+    let mut jobs = worked(rt, crew, &mut parts, jobs, true, r, no_message());
+    unload(&mut jobs, &mut parts);
+    tables.parts_in(parts, r);
+    jobs
+}

@@ -1,0 +1,136 @@
+//! The parts of a layer's tables as what a crew works.
+
+ghost use Rattle.std.specs.Prelude.{◌≡◌, ℕ, ◌+◌, ◌<◌, ◌≤◌, [], IfOk, length, map, slice_index_or, vec_len};
+ghost use Rattle.field_ext.specs.Field.{K, k_ops};
+ghost use Rattle.field_ext.specs.Polynomial.{value_at};
+ghost use Rattle.field_ext.specs.Sums.{sum_below};
+ghost use Rattle.round_tables.specs.PartTables.{PartTables};
+ghost use Rattle.sumcheck_prove.specs.Jobs.{job_of, work_of};
+
+use crate::adding::{no_message, plus};
+use crew::Crew;
+use field_ext::Ext;
+use phase_run::PartWork;
+use round_tables::Part;
+use std::alloc::{AllocError, Global};
+use std::mem::swap;
+use std::sync::Wait;
+
+/// A part of a layer's tables, and what is asked of it: to be folded by a challenge, or to be summed.
+#[derive(Drop)]
+pub struct Job {
+    part: Part,
+    folds: bool,
+    r: Ext,
+    sum: [Ext; 3],
+}
+
+/// The work of a crew on the parts of a layer's tables: each is folded or summed, as its job says.
+#[derive(Drop)]
+pub struct Jobs;
+
+impl PartWork for Jobs {
+    ghost use Rattle.sumcheck_prove.specs.Jobs.{work_of};
+
+    type Part = Job;
+
+    ghost part_of = { λ jobs k job. work_of job };
+
+    fn work(&self, _k: u32, job: &mut Job) {
+        if job.folds {
+            job.part.fold(job.r);
+        } else {
+            job.sum = job.part.sum();
+        }
+    }
+}
+
+/// Jobs for so many parts, with none in them yet. Err only where no memory is found.
+pub fn jobs_for(alloc: Global, parts: usize) -> Result<Vec<Job>, AllocError>
+    ensures { IfOk result (λ jobs. vec_len jobs ≡ parts) }
+{
+    let mut jobs = Vec::with_capacity(alloc, parts)?;
+    for _ in 0..parts {
+        jobs.push(Job {
+            part: Part::empty(alloc),
+            folds: false,
+            r: Ext::zero(),
+            sum: no_message(),
+        })?;
+    }
+    Ok(jobs)
+}
+
+/// Puts a part into a job, in exchange for the part that is there.
+fn take_in(job: &mut Job, part: &mut Part, folds: bool, r: Ext, none: [Ext; 3])
+    ensures job { job.new ≡ job_of folds r none part.old }
+    ensures part { part.new ≡ job.old.part }
+{
+    swap(&mut job.part, part);
+    job.folds = folds;
+    job.r = r;
+    job.sum = none;
+}
+
+/// Takes the part of a job out, in exchange for another.
+fn give_back(job: &mut Job, part: &mut Part)
+    ensures { part.new ≡ job.old.part }
+{
+    swap(&mut job.part, part);
+}
+
+/// Puts each part into the job of its place, in exchange for the part that is there.
+fn load(parts: &mut [Part], jobs: &mut [Job], folds: bool, r: Ext, none: [Ext; 3])
+    requires same { length jobs.old ≡ length parts.old }
+    ensures parts { length parts.new ≡ length parts.old }
+    ensures jobs { jobs.new ≡ map (job_of folds r none) parts.old }
+{
+    for k in 0..parts.len() {
+        take_in(&mut jobs[k], &mut parts[k], folds, r, none);
+    }
+}
+
+/// Takes the part of each job out to its place, in exchange for the part that is there.
+pub(crate) fn unload(jobs: &mut [Job], parts: &mut [Part])
+    requires same { length parts.old ≡ length jobs.old }
+    ensures jobs { length jobs.new ≡ length jobs.old }
+    ensures parts { parts.new ≡ map (λ job. job.part) jobs.old }
+{
+    for k in 0..jobs.len() {
+        give_back(&mut jobs[k], &mut parts[k]);
+    }
+}
+
+/// Lets a crew work each part, by the job of its place. The parts are in the jobs then.
+pub(crate) fn worked<R: Wait>(
+    rt: &R,
+    crew: &mut Crew<'_, Jobs>,
+    parts: &mut Vec<Part>,
+    mut jobs: Vec<Job>,
+    folds: bool,
+    r: Ext,
+    none: [Ext; 3],
+) -> Vec<Job>
+    requires same { vec_len jobs ≡ vec_len parts.old }
+    requires few { vec_len jobs ≤ crew.old.parts }
+    ensures crew { crew.new ≡ crew.old }
+    ensures parts { vec_len parts.new ≡ vec_len parts.old }
+    ensures jobs { result.items ≡ map (λ part. work_of (job_of folds r none part)) parts.old.items }
+{
+    load(parts, &mut jobs, folds, r, none);
+    crew.round(rt, jobs)
+}
+
+/// What the sums of the jobs add to.
+pub(crate) fn added(jobs: &[Job]) -> [Ext; 3]
+    requires { (k : ℕ) → k < length jobs.now → length (slice_index_or (map (λ job. job.sum) jobs.now) k []) ≡ 3 }
+    ensures three { length result ≡ 3 }
+    ensures value { (e : K) → value_at k_ops result e ≡ sum_below k_ops (length jobs.now)
+        (λ k. value_at k_ops (slice_index_or (map (λ job. job.sum) jobs.now) k []) e) }
+{
+    let mut total = no_message();
+    for k in 0..jobs.len() {
+        total = plus(total, jobs[k].sum);
+    }
+    total
+}
