@@ -30,6 +30,7 @@ use io_edge::OpenGate;
 use proof_wire::{Messages, ProofForm};
 use std::alloc::{AllocError, Global};
 use std::marker::Sync;
+use std::sync::Wait;
 use std::thread::Threads;
 use transcript_fs::{Challenges, Given};
 
@@ -37,7 +38,7 @@ use transcript_fs::{Challenges, Given};
 /// outputs: as many of them as the circuit has, messages of its shape, and challenges from a source that has enough of them.
 /// Every message is taken in, whatever the verdict. Err only where no memory is found; the challenges may then have moved
 /// on.
-pub fn audit<R: Threads + Sync, C: Challenges>(
+pub fn audit<R: Threads + Wait + Sync, C: Challenges>(
     rt: &R,
     alloc: Global,
     circuit: &Circuit,
@@ -74,7 +75,7 @@ pub fn audit<R: Threads + Sync, C: Challenges>(
 }
 
 /// Audits a proof of this form, as [`audit`] one by lines.
-pub fn audit_as<R: Threads + Sync, C: Challenges>(
+pub fn audit_as<R: Threads + Wait + Sync, C: Challenges>(
     rt: &R,
     alloc: Global,
     form: ProofForm,
@@ -104,7 +105,7 @@ pub fn audit_as<R: Threads + Sync, C: Challenges>(
 }
 
 /// Audits a proof with which these challenges were drawn.
-fn audit_drawn<R: Threads + Sync>(
+fn audit_drawn<R: Threads + Wait + Sync>(
     rt: &R,
     alloc: Global,
     form: ProofForm,
@@ -142,7 +143,7 @@ fn audit_drawn<R: Threads + Sync>(
 }
 
 /// The honest messages at these challenges.
-fn true_messages<R: Threads + Sync>(
+fn true_messages<R: Threads + Wait + Sync>(
     rt: &R,
     alloc: Global,
     form: ProofForm,

@@ -17,6 +17,7 @@ use proof_two::{ProofKind, ProofVersion};
 use std::alloc::{AllocError, Global};
 use std::marker::{Model, Sync};
 use std::snapshot::Snapshot;
+use std::sync::Wait;
 use std::thread::Threads;
 
 /// A case, which contracts alone see, with the bytes that `prove` writes for it, with a proof of version 1.
@@ -55,7 +56,7 @@ impl Answered {
 }
 
 /// The case with the reply of `prove` to it, which is the case with its proof of version 1 or a refusal.
-pub fn answer_case<R: Threads + Sync, G: Gate>(
+pub fn answer_case<R: Threads + Wait + Sync, G: Gate>(
     rt: &R,
     alloc: Global,
     case: &Case,
@@ -76,7 +77,7 @@ pub fn answer_case<R: Threads + Sync, G: Gate>(
 }
 
 /// What `prove` says of a case.
-fn prove_reply<R: Threads + Sync, G: Gate>(
+fn prove_reply<R: Threads + Wait + Sync, G: Gate>(
     rt: &R,
     alloc: Global,
     case: &Case,

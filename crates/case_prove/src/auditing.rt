@@ -15,6 +15,7 @@ use circuit_eval::layer_values;
 use proof_wire::{Messages, ProofForm};
 use std::alloc::{AllocError, Global};
 use std::marker::Sync;
+use std::sync::Wait;
 use std::thread::Threads;
 use transcript_fs::Transcript;
 use transcript_fs::laws::always_has;
@@ -22,7 +23,11 @@ use transcript_fs::laws::always_has;
 /// What an audit finds in the case's proof that its program gives its outputs on its inputs, with the challenges of the
 /// transcript of these three. It is refused as `verify_case` refuses, but that the proof is read as one by lines whatever its
 /// fourth byte is: by pairs it is refused as `Proof`.
-pub fn audit_case<R: Threads + Sync>(rt: &R, alloc: Global, case: &Case) -> Result<Audit, Refused>
+pub fn audit_case<R: Threads + Wait + Sync>(
+    rt: &R,
+    alloc: Global,
+    case: &Case,
+) -> Result<Audit, Refused>
     requires outputs { IsSome case.now.outputs }
     requires proof { IsSome case.now.proof }
     ensures audit { IfOk result (λ audit. IsAudited case.now audit) }
@@ -39,7 +44,7 @@ pub fn audit_case<R: Threads + Sync>(rt: &R, alloc: Global, case: &Case) -> Resu
 }
 
 /// The audit of the proof of a case that was read as these messages for this circuit, with challenges that start so.
-fn audit_claim<R: Threads + Sync>(
+fn audit_claim<R: Threads + Wait + Sync>(
     rt: &R,
     alloc: Global,
     case: &Case,

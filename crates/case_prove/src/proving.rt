@@ -29,6 +29,7 @@ use proof_two::{ProofKind, encode_kind};
 use proof_wire::{Messages, ProofForm};
 use std::alloc::{AllocError, Global};
 use std::marker::Sync;
+use std::sync::Wait;
 use std::thread::Threads;
 use transcript_fs::laws::always_has;
 
@@ -36,7 +37,7 @@ use transcript_fs::laws::always_has;
 /// refused as `Program` exactly where the program's text or its layout is refused so, and else as `Input` exactly where the
 /// numbers of inputs differ. Outputs and proof of the given case play no part. The proof is the same for every number of
 /// workers; each enters the gate with a piece of a round before it sums it.
-pub fn prove_case<R: Threads + Sync, G: Gate>(
+pub fn prove_case<R: Threads + Wait + Sync, G: Gate>(
     rt: &R,
     alloc: Global,
     case: &Case,
@@ -59,7 +60,7 @@ pub fn prove_case<R: Threads + Sync, G: Gate>(
 }
 
 /// What `prove_case` gives where the case's program is laid out as this circuit, which isn't compiled again.
-pub fn prove_laid_out<R: Threads + Sync, G: Gate>(
+pub fn prove_laid_out<R: Threads + Wait + Sync, G: Gate>(
     rt: &R,
     alloc: Global,
     case: &Case,
@@ -121,7 +122,7 @@ fn real_parts(alloc: Global, table: &Table, count: usize) -> Result<Vec<Fp>, All
 
 /// The honest messages of the claim that the case's program has these outputs on its inputs, with the challenges of the
 /// transcript of these three.
-fn honest_messages<R: Threads + Sync, G: Gate>(
+fn honest_messages<R: Threads + Wait + Sync, G: Gate>(
     rt: &R,
     alloc: Global,
     case: &Case,

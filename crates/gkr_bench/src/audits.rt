@@ -22,6 +22,7 @@ use proof_wire::{Messages, ProofForm};
 use std::alloc::{AllocError, Global};
 use std::io;
 use std::marker::Sync;
+use std::sync::Wait;
 use std::thread::Threads;
 use std::time::Instant;
 use transcript_fs::laws::always_has;
@@ -38,7 +39,7 @@ fn outputs_of(alloc: Global, circuit: &Circuit, table: &Table) -> Result<Vec<Fp>
 }
 
 /// The honest messages by one worker, with the transcript's challenges.
-fn proved<R: Threads + Sync>(
+fn proved<R: Threads + Wait + Sync>(
     threads: &R,
     alloc: Global,
     circuit: &Circuit,
@@ -67,7 +68,7 @@ fn proved<R: Threads + Sync>(
 }
 
 /// The audit of these messages, with the same challenges.
-fn audited<R: Threads + Sync>(
+fn audited<R: Threads + Wait + Sync>(
     threads: &R,
     alloc: Global,
     circuit: &Circuit,
@@ -96,7 +97,7 @@ fn audited<R: Threads + Sync>(
 
 /// How many microseconds a proof of the circuit's outputs and an audit of it took, each the least of five. None where the
 /// audit finds something.
-fn times<R: Threads + Sync>(
+fn times<R: Threads + Wait + Sync>(
     rt: &HostRuntime,
     threads: &R,
     circuit: &Circuit,
@@ -128,7 +129,7 @@ fn times<R: Threads + Sync>(
 }
 
 /// Prints what proving and auditing layers of random gates took.
-pub fn random<R: Threads + Sync>(rt: &HostRuntime, threads: &R, k: u32) -> io::Result<()> {
+pub fn random<R: Threads + Wait + Sync>(rt: &HostRuntime, threads: &R, k: u32) -> io::Result<()> {
     let Some(circuit) = tangled(rt.alloc(), k)? else {
         return println!(rt; "audit: no layers of that size");
     };

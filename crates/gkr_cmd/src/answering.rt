@@ -19,11 +19,12 @@ use io_edge::Gate;
 use proof_two::{ProofKind, ProofVersion};
 use std::alloc::Global;
 use std::marker::Sync;
+use std::sync::Wait;
 use std::thread::Threads;
 
 /// The reply of a command to an input that isn't too long.
 #[tactic(auto, using(crate::proofs::Replied::answered))]
-pub fn answer<R: Threads + Sync, G: Gate>(
+pub fn answer<R: Threads + Wait + Sync, G: Gate>(
     rt: &R,
     alloc: Global,
     command: CaseCommand,
@@ -55,7 +56,7 @@ fn form_of(command: CaseCommand) -> Form
 }
 
 /// What a command says of a case.
-fn answer_case<R: Threads + Sync, G: Gate>(
+fn answer_case<R: Threads + Wait + Sync, G: Gate>(
     rt: &R,
     alloc: Global,
     command: CaseCommand,
@@ -104,7 +105,7 @@ fn lay_out(alloc: Global, case: &Case) -> Result<Reply, ReplyError>
 
 /// What `prove` says of a case, with a proof of this kind by so many workers.
 #[tactic(auto, using(crate::proofs::Replied::prove_refused))]
-fn prove<R: Threads + Sync, G: Gate>(
+fn prove<R: Threads + Wait + Sync, G: Gate>(
     rt: &R,
     alloc: Global,
     case: &Case,
@@ -138,7 +139,7 @@ fn verify(alloc: Global, case: &Case) -> Result<Reply, ReplyError>
 
 /// What `audit` says of a case.
 #[tactic(auto, using(crate::proofs::Replied::audit_replied, crate::proofs::Replied::audit_refused, crate::proofs::Replied::full_has))]
-fn audit<R: Threads + Sync>(rt: &R, alloc: Global, case: &Case) -> Result<Reply, ReplyError>
+fn audit<R: Threads + Wait + Sync>(rt: &R, alloc: Global, case: &Case) -> Result<Reply, ReplyError>
     requires outputs { Allows Full case.now.outputs }
     requires proof { Allows Full case.now.proof }
     ensures reply { IfOk result (λ reply. IsAuditAnswer case.now reply) }

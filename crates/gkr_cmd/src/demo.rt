@@ -28,10 +28,11 @@ use proof_two::{ProofKind, ProofVersion};
 use sha2::{Digest, Sha256};
 use std::alloc::{AllocError, Global};
 use std::marker::Sync;
+use std::sync::Wait;
 use std::thread::Threads;
 
 /// The reply of `demo`: its case is generated, compiled once, proved by so many workers, and verified.
-pub fn demo<R: Threads + Sync, G: Gate>(
+pub fn demo<R: Threads + Wait + Sync, G: Gate>(
     rt: &R,
     alloc: Global,
     number: u32,

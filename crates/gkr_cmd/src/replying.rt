@@ -18,13 +18,14 @@ use gkr_words::{CaseCommand, Command};
 use io_edge::{Gate, Source};
 use std::alloc::Global;
 use std::marker::Sync;
+use std::sync::Wait;
 use std::thread::Threads;
 
 /// The most bytes of a case.
 pub(crate) const CASE_LIMIT: u32 = 4_194_304;
 
 /// The reply of a command on a case to what it reads.
-fn run_command<R: Threads + Sync, S: Source, G: Gate>(
+fn run_command<R: Threads + Wait + Sync, S: Source, G: Gate>(
     rt: &R,
     alloc: Global,
     command: CaseCommand,
@@ -52,7 +53,7 @@ fn run_command<R: Threads + Sync, S: Source, G: Gate>(
 }
 
 /// The reply to a command other than `serve`, or to words that are no command, and to what it reads.
-pub fn reply_alone<R: Threads + Sync, S: Source, G: Gate>(
+pub fn reply_alone<R: Threads + Wait + Sync, S: Source, G: Gate>(
     rt: &R,
     alloc: Global,
     command: Option<Command>,

@@ -58,7 +58,7 @@ fn run_laws()
 /// No bound lets it wait, so it returns. None is answered where the words name `serve`, and then
 /// nothing was read or written.
 #[tactic(auto, using(crate::proofs::InputReads::none_within))]
-pub fn run_alone<R: Threads + Sync, S: Source, K: Sink, G: Gate>(
+pub fn run_alone<R: Threads + Wait + Sync, S: Source, K: Sink, G: Gate>(
     rt: &R,
     alloc: Global,
     words: &[String],

@@ -1,3 +1,5 @@
 pub mod api
 mod HasSteps
 mod HonestSteps
+mod Begun
+mod Crossing

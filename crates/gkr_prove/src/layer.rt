@@ -21,7 +21,8 @@ use mle_table::Table;
 use proof_wire::{LayerMessages, Listed, ProofForm};
 use round_tables::{Buffers, GateTables};
 use std::alloc::{AllocError, Global};
-use std::marker::Sync;
+use std::marker::{Send, Sync};
+use std::sync::Wait;
 use std::thread::Threads;
 use transcript_fs::Challenges;
 
@@ -34,7 +35,7 @@ pub(crate) struct ProvedLayer {
 }
 
 /// Proves a layer of at most 65,536 gates over the values of the layer below, at the place of the claim on it.
-pub(crate) fn prove_layer<R: Threads + Sync, C: Challenges, G: Gate>(
+pub(crate) fn prove_layer<R: Threads + Wait + Sync, C: Challenges + Send, G: Gate>(
     rt: &R,
     alloc: Global,
     form: ProofForm,

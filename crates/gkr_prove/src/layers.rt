@@ -21,12 +21,13 @@ use io_edge::Gate;
 use proof_wire::{LayerMessages, ProofForm};
 use round_tables::Buffers;
 use std::alloc::{AllocError, Global};
-use std::marker::Sync;
+use std::marker::{Send, Sync};
+use std::sync::Wait;
 use std::thread::Threads;
 use transcript_fs::Challenges;
 
 /// Proves all layers, the output layer first, from the place of the claim on it, in the same buffers.
-pub(crate) fn prove_layers<R: Threads + Sync, C: Challenges, G: Gate>(
+pub(crate) fn prove_layers<R: Threads + Wait + Sync, C: Challenges + Send, G: Gate>(
     rt: &R,
     alloc: Global,
     form: ProofForm,

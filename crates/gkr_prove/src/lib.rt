@@ -13,6 +13,7 @@
 //! ```
 #![tactic(auto)]
 
+mod crewed;
 mod kept;
 mod last;
 mod layer;

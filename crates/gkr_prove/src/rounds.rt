@@ -1,20 +1,27 @@
 //! The rounds of a layer.
 
-ghost use Rattle.std.specs.Prelude.{◌≡◌, ◌+◌, IfOk, [], vec_len, IsTrue};
-ghost use Rattle.transcript_fs.specs.Source.{draws, state_after};
-ghost use Rattle.proof_wire.specs.Lists.{round_messages};
-ghost use Rattle.gkr_layers.specs.Honest.{AreHonestRounds};
+ghost use Rattle.std.specs.Prelude.{◌≡◌, ◌+◌, ◌<◌, IfOk, [], IsTrue};
+ghost use Rattle.transcript_fs.specs.Source.{Source};
 ghost use Rattle.phase_run.specs.Work.{IsWorkerCount};
+ghost use Rattle.gkr_prove.specs.Rounds.{IsNoted, AreBegun};
 
+use crate::crewed::{LayerLead, LedRounds, run_crew};
 use field_ext::Ext;
 use io_edge::Gate;
 use proof_wire::Round;
 use round_tables::{Buffers, GateTables};
 use std::alloc::{AllocError, Global};
-use std::marker::Sync;
+use std::marker::{Send, Sync};
+use std::sync::Wait;
 use std::thread::Threads;
-use sumcheck_prove::{bind_round, round};
+use sumcheck_prove::{bind_round, jobs_for, round};
 use transcript_fs::Challenges;
+
+/// The first round of a layer has so many pairs where a crew pays.
+const PAIRS_FOR_A_CREW: usize = 2048;
+
+/// The most parts that the tables of a layer have.
+const PARTS: usize = 32;
 
 /// The messages of all rounds of a layer, the challenge after each, and the buffers that the layer used.
 #[derive(Drop)]
@@ -24,8 +31,46 @@ pub(crate) struct ProvedRounds {
     pub(crate) buffers: Buffers,
 }
 
-/// Proves all rounds of a layer.
-pub(crate) fn prove_rounds<R: Threads + Sync, C: Challenges, G: Gate>(
+/// Proves all rounds of a layer: by a crew where there are workers for one and the layer is wide enough.
+pub(crate) fn prove_rounds<R: Threads + Wait + Sync, C: Challenges + Send, G: Gate>(
+    rt: &R,
+    alloc: Global,
+    tables: GateTables<'_>,
+    challenges: &mut C,
+    workers: u32,
+    gate: &G,
+) -> Result<ProvedRounds, AllocError>
+    requires workers { IsWorkerCount workers }
+    requires begun { tables.bound ≡ [] }
+    requires here { tables.lent ≡ [] }
+    requires has { IsTrue (C.source.has (C.state challenges.old) (tables.k + tables.k)) }
+    ensures { IfOk result (λ rounds. AreBegun C.source tables.entry (C.state challenges.old)
+        (tables.entry.k + tables.entry.k) rounds.messages.items rounds.drawn.items
+        (C.state challenges.new)) }
+{
+    if workers == 1 || tables.rounds_left() == 0 || tables.pairs() < PAIRS_FOR_A_CREW {
+        return rounds_alone(rt, alloc, tables, challenges, workers, gate);
+    }
+    let parts = tables.pieces().clamp(1, PARTS);
+    let lead = LayerLead {
+        alloc,
+        jobs: jobs_for(alloc, parts)?,
+        tables,
+        challenges,
+    };
+    let LedRounds {
+        challenges: back,
+        rounds,
+    } = run_crew(rt, alloc, parts as u32, workers, gate, lead);
+    let _ = back;
+    match rounds {
+        Some(rounds) => Ok(rounds),
+        None => Err(AllocError),
+    }
+}
+
+/// Proves all rounds of a layer, with threads that are started for a round, if any.
+fn rounds_alone<R: Threads + Sync, C: Challenges, G: Gate>(
     rt: &R,
     alloc: Global,
     mut tables: GateTables<'_>,
@@ -37,31 +82,17 @@ pub(crate) fn prove_rounds<R: Threads + Sync, C: Challenges, G: Gate>(
     requires begun { tables.bound ≡ [] }
     requires here { tables.lent ≡ [] }
     requires has { IsTrue (C.source.has (C.state challenges.old) (tables.k + tables.k)) }
-    ensures honest { IfOk result
-        (λ rounds. AreHonestRounds tables.entry.k tables.entry.gates tables.entry.values
-        tables.entry.place (tables.entry.k + tables.entry.k) (round_messages rounds.messages.items)
-        rounds.drawn.items) }
-    ensures count { IfOk result
-        (λ rounds. vec_len rounds.messages ≡ tables.entry.k + tables.entry.k) }
-    ensures challenges { IfOk result
-        (λ rounds. vec_len rounds.drawn ≡ tables.entry.k + tables.entry.k) }
-    ensures drawn { IfOk result
-        (λ rounds. rounds.drawn.items ≡ draws C.source (C.state challenges.old)
-        (round_messages rounds.messages.items)) }
-    ensures state { IfOk result
-        (λ rounds. C.state challenges.new ≡ state_after C.source (C.state challenges.old)
-        (round_messages rounds.messages.items)) }
+    ensures { IfOk result (λ rounds. AreBegun C.source tables.entry (C.state challenges.old)
+        (tables.entry.k + tables.entry.k) rounds.messages.items rounds.drawn.items
+        (C.state challenges.new)) }
 {
     let mut messages = Vec::new(alloc);
     let mut drawn = Vec::new(alloc);
     let count = tables.rounds_left();
     for _number in 0..count {
         let message = round(rt, alloc, &tables, workers, gate)?;
-        challenges.absorb(&message);
-        let challenge = challenges.challenge();
+        let challenge = note(challenges, message, &mut messages, &mut drawn)?;
         bind_round(rt, alloc, &mut tables, challenge, workers, gate)?;
-        messages.push(Round::of(message))?;
-        drawn.push(challenge)?;
     }
     let buffers = tables.into_buffers();
     Ok(ProvedRounds {
@@ -69,4 +100,23 @@ pub(crate) fn prove_rounds<R: Threads + Sync, C: Challenges, G: Gate>(
         drawn,
         buffers,
     })
+}
+
+/// Takes a message in, draws the challenge after it, and notes both.
+pub(crate) fn note<C: Challenges>(
+    challenges: &mut C,
+    message: [Ext; 3],
+    messages: &mut Vec<Round>,
+    drawn: &mut Vec<Ext>,
+) -> Result<Ext, AllocError>
+    requires has { IsTrue (C.source.has (C.source.absorb (C.state challenges.old) message) 1) }
+    ensures { IfOk result (λ challenge. IsNoted C.source message challenge (C.state challenges.old)
+        (C.state challenges.new) messages.old.items drawn.old.items messages.new.items
+        drawn.new.items) }
+{
+    challenges.absorb(&message);
+    let challenge = challenges.challenge();
+    messages.push(Round::of(message))?;
+    drawn.push(challenge)?;
+    Ok(challenge)
 }

@@ -19,6 +19,7 @@ mod trial;
 use counts::Counts;
 use std::marker::Sync;
 use std::process::ExitCode;
+use std::sync::Wait;
 use std::thread::Threads;
 use std::{env, io};
 use trial::{Outcome, trial};
@@ -37,7 +38,7 @@ fn numbers_of(words: &[String]) -> Option<(u64, u64)> {
     }
 }
 
-fn try_all<R: Threads + Sync>(
+fn try_all<R: Threads + Wait + Sync>(
     rt: &HostRuntime,
     threads: &R,
     first: u64,

@@ -4,6 +4,7 @@ use gkr_cmd::{Status, run_alone};
 use io_edge::{OpenGate, SteadySink, SteadySource};
 use std::alloc::{AllocError, Global};
 use std::marker::Sync;
+use std::sync::Wait;
 use std::thread::Threads;
 
 /// The most bytes that a run here writes.
@@ -17,7 +18,7 @@ pub struct Ran {
 }
 
 /// Runs `gkr` with these words after its name on this input. Memory is the status where none is found.
-pub fn run<R: Threads + Sync>(
+pub fn run<R: Threads + Wait + Sync>(
     rt: &R,
     alloc: Global,
     words: &[&str],

@@ -9,6 +9,7 @@ use rand_core::SeedableRng;
 use rand_xoshiro::Xoshiro256PlusPlus;
 use std::alloc::{AllocError, Global};
 use std::marker::Sync;
+use std::sync::Wait;
 use std::thread::Threads;
 
 /// How a case went.
@@ -63,7 +64,7 @@ fn has_meaning(alloc: Global, text: &[u8]) -> Result<bool, AllocError> {
 }
 
 /// What `verify` says of a proof with one byte changed.
-fn spoiled<R: Threads + Sync>(rt: &R, alloc: Global, text: &[u8]) -> Result<Outcome, AllocError> {
+fn spoiled<R: Threads + Wait + Sync>(rt: &R, alloc: Global, text: &[u8]) -> Result<Outcome, AllocError> {
     let verdict = run(rt, alloc, &["verify"], text)?;
     match verdict.status {
         Status::Done => {
@@ -100,7 +101,7 @@ fn refused(evaluated: &Ran, proved: &Ran) -> Outcome {
 }
 
 /// What must hold of a case that was proved, but for the verdict on a spoiled proof: None where it does.
-fn proved_wrong<R: Threads + Sync>(
+fn proved_wrong<R: Threads + Wait + Sync>(
     rt: &R,
     alloc: Global,
     case: &[u8],
@@ -134,13 +135,13 @@ fn proved_wrong<R: Threads + Sync>(
 }
 
 /// Whether `verify` accepts a text.
-fn is_accepted<R: Threads + Sync>(rt: &R, alloc: Global, text: &[u8]) -> Result<bool, AllocError> {
+fn is_accepted<R: Threads + Wait + Sync>(rt: &R, alloc: Global, text: &[u8]) -> Result<bool, AllocError> {
     let verdict = run(rt, alloc, &["verify"], text)?;
     Ok(verdict.status == Status::Done && verdict.written.as_slice() == b"accepted\n".as_slice())
 }
 
 /// Makes a case from a number, and puts it through the commands.
-pub fn trial<R: Threads + Sync>(rt: &R, alloc: Global, number: u64) -> Result<Outcome, AllocError> {
+pub fn trial<R: Threads + Wait + Sync>(rt: &R, alloc: Global, number: u64) -> Result<Outcome, AllocError> {
     let mut rng = Xoshiro256PlusPlus::seed_from_u64(number);
     let made = make_program(&mut rng, alloc)?;
     let case = case_text(&mut rng, alloc, &made)?;

@@ -11,12 +11,13 @@ use proof_wire::{ProofForm, decode};
 use std::marker::Sync;
 use std::process::Abort;
 use std::test::Fail;
+use std::sync::Wait;
 use std::thread::Threads;
 use test_circuits::{copy, number, numbers, product};
 use transcript_fs::{Challenges, Given};
 
 /// The audit of messages of these coefficients, with these challenges, for one output.
-fn audited<R: Threads + Sync + Abort + AllocGlobal>(
+fn audited<R: Threads + Wait + Sync + Abort + AllocGlobal>(
     rt: &R,
     circuit: &Circuit,
     inputs: &[Fp],

@@ -12,12 +12,13 @@ use proof_wire::{ProofForm, encode};
 use std::marker::Sync;
 use std::process::Abort;
 use std::test::Fail;
+use std::sync::Wait;
 use std::thread::Threads;
 use test_circuits::{copy, numbers, product};
 use transcript_fs::{Challenges, Given};
 
 /// The bytes of the proof by lines with these challenges.
-fn proved<R: Abort + AllocGlobal + Threads + Sync>(
+fn proved<R: Abort + AllocGlobal + Threads + Wait + Sync>(
     rt: &R,
     circuit: &Circuit,
     inputs: &[Fp],
@@ -64,7 +65,7 @@ fn proves_a_product(rt: HostRuntime) -> Result<(), Fail> {
 }
 
 /// The bytes of the proof by pairs with these challenges.
-fn proved_by_pairs<R: Abort + AllocGlobal + Threads + Sync>(
+fn proved_by_pairs<R: Abort + AllocGlobal + Threads + Wait + Sync>(
     rt: &R,
     circuit: &Circuit,
     inputs: &[Fp],

@@ -16,6 +16,7 @@ use prove_serve::CaseWork;
 use script_text::ScriptJob;
 use std::alloc::{AllocError, Global};
 use std::marker::Sync;
+use std::sync::Wait;
 use std::thread::Threads;
 
 /// The reply to a job.
@@ -52,7 +53,7 @@ impl<F: Fn(&ScriptJob) -> Result<JobReply, AllocError>> CaseWork for ByCalls<F> 
 }
 
 /// The reply to a job, whose case is proved by so many workers.
-pub(crate) fn reply<R: Threads + Sync, G: Gate>(
+pub(crate) fn reply<R: Threads + Wait + Sync, G: Gate>(
     rt: &R,
     alloc: Global,
     job: &ScriptJob,

@@ -1,6 +1,6 @@
+pub mod api
 mod Summing
 mod Loading
 mod Handed
 mod Ahead
 mod FoldedParts
-mod Crossing

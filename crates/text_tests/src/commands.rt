@@ -12,6 +12,7 @@ use std::alloc::{AllocError, Global};
 use std::marker::Sync;
 use std::process::Abort;
 use std::test::Fail;
+use std::sync::Wait;
 use std::thread::Threads;
 
 const PRODUCT: &[u8] = b"gkr case 1\nprogram 29\ninput a; input b; output a*b;\ninput 2 3 4\nend\n";
@@ -71,7 +72,7 @@ fn gives_outputs_and_sizes(rt: HostRuntime) -> Result<(), Fail> {
 }
 
 /// Compares a case that is proved by so many workers, and the reply of `prove` to it, with the text wanted.
-fn proves<R: Threads + Sync + Abort>(
+fn proves<R: Threads + Wait + Sync + Abort>(
     rt: &R,
     alloc: Global,
     case: &Case,

@@ -2,7 +2,7 @@
 
 use super::converts::converts;
 use super::*;
-use test_gates::{CountingGate, MeetingGate};
+use test_gates::{CountingGate, TogetherGate};
 
 /// The most bytes that are written here, and how many a write takes.
 const CAPACITY: Capacity = Capacity {
@@ -92,13 +92,21 @@ fn works_each_piece_once(rt: HostRuntime) -> Result<(), Fail> {
     Ok(())
 }
 
-/// Two workers are at work on the first round with four pieces at one time.
+/// The sum of 16,384 values has 24 rounds that a crew works, of 4 to 16 parts each. The gate holds whoever of the crew has a part,
+/// while the lead goes on with the others, until a second one is there: in one of these rounds there is.
 #[test]
 fn works_by_two_beside_each_other(rt: HostRuntime) -> Result<(), Fail> {
-    let gate = MeetingGate::new(2);
-    let words = ["gkr", "prove", "--workers", "2"];
-    done(&rt, &words, &sum_case(rt.alloc())?, &gate)?;
-    assert!(rt; gate.entries() >= 2);
-    assert!(rt; !gate.is_raised());
+    let alloc = rt.alloc();
+    let mut inputs = Vec::from_slice(alloc, b"16384")?;
+    for value in 0..16384u32 {
+        inputs.extend_from_slice(format!(in alloc; " {}", value)?.as_bytes())?;
+    }
+    let case = case_of(alloc, b"input a[128][128]; output sum(a);", &inputs)?;
+    let gate = TogetherGate::new();
+    let words = ["gkr", "prove", "--workers", "4"];
+    let crew = done(&rt, &words, &case, &gate)?;
+    assert!(rt; gate.has_met());
+    let alone = done(&rt, &["gkr", "prove"], &case, &OpenGate)?;
+    assert!(rt; crew.as_slice() == alone.as_slice());
     Ok(())
 }

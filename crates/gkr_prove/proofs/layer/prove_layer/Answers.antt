@@ -33,12 +33,12 @@ challenge-challenge-requires g c =
     let messages = c.in_ok-messages.field-0.messages in
     let qs : List (List K) = round_messages c.in_ok-messages.field-0.messages.items in
     let size : length (round_messages c.in_ok-messages.field-0.messages.items) ≡ k + k =
-    length-map messages.items coefficients_of ∙ sym messages.ok.0 ∙ rounds.count ∙ (λ i. c.in_ok-tables.ensures.k i + c.in_ok-tables.ensures.k i) in
+    length-map messages.items coefficients_of ∙ rounds.count ∙ (λ i. c.in_ok-tables.ensures.k i + c.in_ok-tables.ensures.k i) in
     let before : IsTrue (source.has (state_after source s qs) 1) = has_behind source s qs 1 (subst (λ (n : ℕ). IsTrue (source.has s (n + 1))) (sym size) c.requires.has) in
     rw (c.absorb.ensures, rounds.state) (source.has_absorbed (state_after source s qs) _ 1 before)
 
 pub split_at-requires : goal.split_at-requires
-split_at-requires g c = omega (arith, c.in_ok-tables.ensures.k, c.in_ok-messages.ensures.challenges)
+split_at-requires g c = omega (arith, c.in_ok-tables.ensures.k, c.in_ok-messages.field-0.drawn.ok.0, c.in_ok-messages.ensures.challenges)
 
 pub returns-clause-honest : goal.returns-clause-honest
 returns-clause-honest g c =
@@ -57,8 +57,8 @@ returns-clause-honest g c =
     subst (λ (t : LayerSum). AreHonestRounds t.k t.gates t.values t.place (t.k + t.k) qs rs) is rounds.honest in
     coe 0 1 (j. IsHonestLayer c.args.form k c.args.gates.now c.args.values.now.items (place_of c.args.place.now) (round_messages (sym c.of.ensures j) ++ sym c.of-2.ensures j ∷ []) (draws source s (round_messages (sym c.of.ensures j) ++ sym c.of-2.ensures j ∷ []))) (
     honest_layer c.args.form k c.args.gates.now c.args.values.now.items (place_of c.args.place.now) source s qs rs c.in_ok-last.last.items
-    (length-map messages.items coefficients_of ∙ sym messages.ok.0 ∙ rounds.count ∙ (λ i. started.k i + started.k i))
-    (sym drawn.ok.0 ∙ rounds.challenges ∙ (λ i. started.k i + started.k i))
+    (length-map messages.items coefficients_of ∙ rounds.count ∙ (λ i. started.k i + started.k i))
+    (rounds.challenges ∙ (λ i. started.k i + started.k i))
     rounds.drawn honest
     (c.in_ok-last.ensures
     ∙ (λ i. coefficients k_ops (last_degree c.args.form k + 1) (last_polynomial k_ops c.args.form c.args.values.now.items (c.split_at.ensures.front i) (c.split_at.ensures.back i)))
@@ -68,7 +68,7 @@ pub returns-clause-shape : goal.returns-clause-shape
 returns-clause-shape g c =
     let k = c.args.values.now.k in
     record {
-      rounds = ap length c.of.ensures ∙ sym c.in_ok-messages.field-0.messages.ok.0 ∙ c.in_ok-messages.ensures.count ∙ (λ i. c.in_ok-tables.ensures.k i + c.in_ok-tables.ensures.k i);
+      rounds = ap length c.of.ensures ∙ c.in_ok-messages.ensures.count ∙ (λ i. c.in_ok-tables.ensures.k i + c.in_ok-tables.ensures.k i);
       last = ap length (c.of-2.ensures ∙ c.in_ok-last.ensures) ∙ length-coefficients k_ops (last_degree c.args.form k + 1) _;
     }
 
@@ -88,7 +88,7 @@ returns-clause-place g c =
     c.in_ok-next.ensures
     ∙ (λ i. place_between k_ops c.args.form (c.split_at.ensures.front i) (c.split_at.ensures.back i) (challenge i))
     ∙ (λ i. place_between k_ops c.args.form (take (c.k-k.ensures i) (c.as_slice.ensures.value i)) (drop (c.k-k.ensures i) (c.as_slice.ensures.value i)) (source.draw (source.absorb (state_after source s qs) end)))
-    ∙ layer_place c.args.form k c.args.gates.now c.args.values.now.items (place_of c.args.place.now) source s qs rs end (sym drawn.ok.0 ∙ rounds.challenges ∙ (λ i. started.k i + started.k i)) rounds.drawn
+    ∙ layer_place c.args.form k c.args.gates.now c.args.values.now.items (place_of c.args.place.now) source s qs rs end (rounds.challenges ∙ (λ i. started.k i + started.k i)) rounds.drawn
     ∙ (λ j. next_place k_ops c.args.form k (draws source s (round_messages (sym c.of.ensures j) ++ sym c.of-2.ensures j ∷ [])))
 
 pub returns-clause-state : goal.returns-clause-state

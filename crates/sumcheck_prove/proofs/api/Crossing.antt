@@ -1,10 +1,11 @@
--- The pieces of a round may be shared among threads
+-- The pieces of a round may be shared among threads, and the tables go to another
 use denote.Ref.{NamedLft}
 use denote.Hole.{as_row}
-use denote.Struct.Field.{u32-field, usize-field, bool-field, shr_slice_field, shr_ref_field}
-use denote.Param.Send.{IsSync, sendable, view_sync, fixed_sync}
-use denote.Param.SendFields.{as_row_sync, declared_sync}
-use Rattle.std.proofs.Crossing.{crosses, Vec-sync}
+use denote.Builtin.{Array}
+use denote.Struct.Field.{row_field, u32-field, usize-field, bool-field, shr_slice_field, shr_ref_field}
+use denote.Param.Send.{IsSend, IsSync, sendable, view_send, view_sync, fixed_send, fixed_sync}
+use denote.Param.SendFields.{as_row_send, as_row_sync, declared_send, declared_sync}
+use Rattle.std.proofs.Crossing.{crosses, Vec-send, Vec-sync}
 use Rattle.std.specs.contracts.alloc.Global as heap
 use Rattle.std.specs.contracts.impls.GlobalAllocator.TheImpl as heap_impl
 use Rattle.std.specs.contracts.vec.Vec as vec
@@ -16,6 +17,7 @@ use Rattle.round_tables.specs.contracts.working.Working as working
 use Rattle.round_tables.specs.contracts.gate_tables.GateTables as tables
 use Rattle.round_tables.specs.contracts.gate_tables.GateTables.TheInside as inside_tables
 use Rattle.round_tables.specs.contracts.layer_gates.LayerGates as layer
+use Rattle.sumcheck_prove.specs.contracts.jobs.Job as job
 use Rattle.sumcheck_prove.specs.contracts.pieces.PieceSums as sums
 use Rattle.circuit_core.specs.contracts.gate.CircuitGate as gate
 use Rattle.mle_table.specs.contracts.table.Table as table
@@ -93,3 +95,66 @@ tables_sync κ = search (view_sync, tables_inside_sync)
 
 pub sums_sync : (κ κ' : NamedLft) → IsSync (sums.the_row κ κ')
 sums_sync κ κ' = declared_sync (sums.the_type κ κ') (as_row_sync (shr_ref_field κ (tables.the_row κ') tt) (search (sendable, tables_sync) depth 6), tt)
+
+word_send : IsSend (as_row u32-field)
+word_send = search (sendable, as_row_send) depth 6
+
+size_send : IsSend (as_row usize-field)
+size_send = search (sendable, as_row_send) depth 6
+
+flag_send : IsSend (as_row bool-field)
+flag_send = search (sendable, as_row_send) depth 6
+
+heap_send : IsSend (as_row heap.the_field)
+heap_send = as_row_send heap.the_field (search (crosses, sendable) depth 6)
+
+fp_inside_send : IsSend inside_fp.the_row
+fp_inside_send = declared_send inside_fp.the_type (word_send, tt)
+
+fp_send : IsSend fp.the_row
+fp_send = search (fixed_send, fp_inside_send)
+
+ext_inside_send : IsSend inside_ext.the_row
+ext_inside_send = declared_send inside_ext.the_type (as_row_send fp.the_field fp_send, (as_row_send fp.the_field fp_send, tt))
+
+ext_send : IsSend ext.the_row
+ext_send = search (fixed_send, ext_inside_send)
+
+values_send : IsSend (as_row (vec.the_field ext.the_row heap.the_row heap_impl.ghosts))
+values_send = as_row_send (vec.the_field ext.the_row heap.the_row heap_impl.ghosts) (Vec-send ext.the_row ext_send)
+
+part_inside_send : IsSend inside_part.the_row
+part_inside_send = declared_send inside_part.the_type (values_send, (values_send, (values_send, (size_send, (flag_send, tt)))))
+
+part_send : IsSend part.the_row
+part_send = search (view_send, part_inside_send)
+
+parts_send : IsSend (as_row (vec.the_field part.the_row heap.the_row heap_impl.ghosts))
+parts_send = as_row_send (vec.the_field part.the_row heap.the_row heap_impl.ghosts) (Vec-send part.the_row part_send)
+
+working_send : IsSend working.the_row
+working_send = declared_send working.the_type (heap_send, (values_send, (size_send, (values_send, (values_send, (values_send, (parts_send, (parts_send, (flag_send, (parts_send, tt))))))))))
+
+gates_send : (κ : NamedLft) → IsSend (as_row (shr_slice_field κ gate.the_row tt))
+gates_send κ = as_row_send (shr_slice_field κ gate.the_row tt) (search (sendable, gate_sync) depth 6)
+
+lent_table_send : (κ : NamedLft) → IsSend (as_row (shr_ref_field κ table.the_row tt))
+lent_table_send κ = as_row_send (shr_ref_field κ table.the_row tt) (search (sendable, table_sync) depth 6)
+
+layer_send : (κ : NamedLft) → IsSend (layer.the_row κ)
+layer_send κ = declared_send (layer.the_type κ) (size_send, (gates_send κ, (lent_table_send κ, (values_send, (values_send, (as_row_send ext.the_field ext_send, (flag_send, (values_send, (flag_send, tt)))))))))
+
+lent_send : IsSend (as_row (option.the_field (snapshot.the_row working.the_row)))
+lent_send = as_row_send (option.the_field (snapshot.the_row working.the_row)) (search (crosses, sendable) depth 8)
+
+tables_inside_send : (κ : NamedLft) → IsSend (inside_tables.the_row κ)
+tables_inside_send κ = declared_send (inside_tables.the_type κ) (layer_send κ, (working_send, (lent_send, tt)))
+
+pub tables_send : (κ : NamedLft) → IsSend (tables.the_row κ)
+tables_send κ = search (view_send, tables_inside_send)
+
+job_send : IsSend job.the_row
+job_send = declared_send job.the_type (as_row_send part.the_field part_send, (flag_send, (as_row_send ext.the_field ext_send, (as_row_send (row_field (Array ext.the_row tt 3)) (search (sendable, ext_send) depth 6), tt))))
+
+pub jobs_send : IsSend (as_row (vec.the_field job.the_row heap.the_row heap_impl.ghosts))
+jobs_send = as_row_send (vec.the_field job.the_row heap.the_row heap_impl.ghosts) (Vec-send job.the_row job_send)

@@ -1,0 +1,25 @@
+-- The rounds of a layer, proved one after another
+use Rattle.std.specs.Prelude.{◌≡◌, ℕ, List, [], ◌∷◌, ◌++◌, length}
+use Rattle.field_ext.specs.Field.{K}
+use Rattle.round_tables.specs.LayerSum.{LayerSum}
+use Rattle.transcript_fs.specs.Source.{Source, draws, state_after}
+use Rattle.proof_wire.specs.declared.messages.Round.{Round}
+use Rattle.proof_wire.specs.Lists.{round_messages}
+use Rattle.gkr_layers.specs.Honest.{AreHonestRounds}
+
+-- a message q was taken in, and is noted with the challenge r that it led to
+pub record IsNoted (source : Source) (q : List K) (r : K) (before after : List ℕ)
+    (qs : List Round) (rs : List K) (qs' : List Round) (rs' : List K) : Type 0 where
+  pub messages : round_messages qs' ≡ round_messages qs ++ q ∷ []
+  pub drawn : rs' ≡ rs ++ r ∷ []
+  pub challenge : r ≡ source.draw (source.absorb before q)
+  pub state : after ≡ source.after (source.absorb before q)
+
+-- qs are the honest messages of the first n rounds, and rs the challenges after them, from a state of the source to another
+pub record AreBegun (source : Source) (sum : LayerSum) (before : List ℕ) (n : ℕ)
+    (qs : List Round) (rs : List K) (after : List ℕ) : Type 0 where
+  pub honest : AreHonestRounds sum.k sum.gates sum.values sum.place n (round_messages qs) rs
+  pub count : length qs ≡ n
+  pub challenges : length rs ≡ n
+  pub drawn : rs ≡ draws source before (round_messages qs)
+  pub state : after ≡ state_after source before (round_messages qs)
