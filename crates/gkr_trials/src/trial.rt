@@ -64,7 +64,11 @@ fn has_meaning(alloc: Global, text: &[u8]) -> Result<bool, AllocError> {
 }
 
 /// What `verify` says of a proof with one byte changed.
-fn spoiled<R: Threads + Wait + Sync>(rt: &R, alloc: Global, text: &[u8]) -> Result<Outcome, AllocError> {
+fn spoiled<R: Threads + Wait + Sync>(
+    rt: &R,
+    alloc: Global,
+    text: &[u8],
+) -> Result<Outcome, AllocError> {
     let verdict = run(rt, alloc, &["verify"], text)?;
     match verdict.status {
         Status::Done => {
@@ -135,13 +139,21 @@ fn proved_wrong<R: Threads + Wait + Sync>(
 }
 
 /// Whether `verify` accepts a text.
-fn is_accepted<R: Threads + Wait + Sync>(rt: &R, alloc: Global, text: &[u8]) -> Result<bool, AllocError> {
+fn is_accepted<R: Threads + Wait + Sync>(
+    rt: &R,
+    alloc: Global,
+    text: &[u8],
+) -> Result<bool, AllocError> {
     let verdict = run(rt, alloc, &["verify"], text)?;
     Ok(verdict.status == Status::Done && verdict.written.as_slice() == b"accepted\n".as_slice())
 }
 
 /// Makes a case from a number, and puts it through the commands.
-pub fn trial<R: Threads + Wait + Sync>(rt: &R, alloc: Global, number: u64) -> Result<Outcome, AllocError> {
+pub fn trial<R: Threads + Wait + Sync>(
+    rt: &R,
+    alloc: Global,
+    number: u64,
+) -> Result<Outcome, AllocError> {
     let mut rng = Xoshiro256PlusPlus::seed_from_u64(number);
     let made = make_program(&mut rng, alloc)?;
     let case = case_text(&mut rng, alloc, &made)?;

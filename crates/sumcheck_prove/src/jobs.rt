@@ -123,7 +123,8 @@ pub(crate) fn worked<R: Wait>(
 
 /// What the sums of the jobs add to.
 pub(crate) fn added(jobs: &[Job]) -> [Ext; 3]
-    requires { (k : ℕ) → k < length jobs.now → length (slice_index_or (map (λ job. job.sum) jobs.now) k []) ≡ 3 }
+    requires { (k : ℕ) → k < length jobs.now
+        → length (slice_index_or (map (λ job. job.sum) jobs.now) k []) ≡ 3 }
     ensures three { length result ≡ 3 }
     ensures value { (e : K) → value_at k_ops result e ≡ sum_below k_ops (length jobs.now)
         (λ k. value_at k_ops (slice_index_or (map (λ job. job.sum) jobs.now) k []) e) }

@@ -11,8 +11,8 @@ use proof_two::{ProofKind, ProofVersion};
 use std::alloc::{AllocError, Global};
 use std::marker::Sync;
 use std::process::Abort;
-use std::test::Fail;
 use std::sync::Wait;
+use std::test::Fail;
 use std::thread::Threads;
 
 const PRODUCT: &[u8] = b"gkr case 1\nprogram 29\ninput a; input b; output a*b;\ninput 2 3 4\nend\n";
