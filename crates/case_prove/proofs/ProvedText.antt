@@ -20,7 +20,7 @@ use Rattle.proof_two.specs.declared.kind.ProofVersion.TheVariants.{One, Two}
 use Rattle.proof_two.specs.Kinds.{kind_spelling}
 use Rattle.proof_two.specs.Lists.{shortened}
 use Rattle.proof_two.specs.Spelling.{all_elements, magic_two}
-use Rattle.case_text.specs.Rules.{behind_value}
+use Rattle.case_text.specs.Rules.{after_value}
 use Rattle.case_text.specs.Content.{Content, Fits}
 use Rattle.case_text.specs.Spelling.{header, number, program_text, values_text, counted_text, outputs_text, proof_text, last_line, lower_case_text, Spells}
 use Rattle.case_text.specs.declared.form.Form.TheVariants.{Full}
@@ -81,13 +81,13 @@ length-values : (vs : List F) → length (values_text vs) ≤ 11 * length vs
 length-values [] = omega arith
 length-values (v ∷ vs) =
     let value : v.value < 2147483647 = v.below in
-    let one : length (number v.value (behind_value (length vs))) ≤ 10 + 1 = length-number 10 v.value (behind_value (length vs)) (omega arith) (omega (arith, value)) (omega (arith, value)) in
-    omega (arith, one, length-append (number v.value (behind_value (length vs))) (values_text vs), length-values vs)
+    let one : length (number v.value (after_value (length vs))) ≤ 10 + 1 = length-number 10 v.value (after_value (length vs)) (omega arith) (omega (arith, value)) (omega (arith, value)) in
+    omega (arith, one, length-append (number v.value (after_value (length vs))) (values_text vs), length-values vs)
 
 length-counted : (vs : List F) → length vs ≤ 262144 → length (counted_text vs) ≤ 7 + 11 * length vs
 length-counted vs few =
-    let count : length (number (length vs) (behind_value (length vs))) ≤ 6 + 1 = length-number 6 (length vs) (behind_value (length vs)) (omega arith) (omega (arith, few)) (omega (arith, few)) in
-    omega (arith, count, length-append (number (length vs) (behind_value (length vs))) (values_text vs), length-values vs)
+    let count : length (number (length vs) (after_value (length vs))) ≤ 6 + 1 = length-number 6 (length vs) (after_value (length vs)) (omega arith) (omega (arith, few)) (omega (arith, few)) in
+    omega (arith, count, length-append (number (length vs) (after_value (length vs))) (values_text vs), length-values vs)
 
 length-two : (a b : List ℕ) (x y : ℕ) → length a ≤ x → length b ≤ y → length (a ++ b) ≤ x + y
 length-two a b x y u v = omega (arith, length-append a b, u, v)

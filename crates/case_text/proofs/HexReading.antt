@@ -7,9 +7,10 @@ use Rattle.hex.proofs.HexLemmas.{decode_of-even}
 use Rattle.hex.specs.Hex as decoded
 use Rattle.hex.specs.declared.error.FromHexError.{FromHexError}
 use Rattle.hex.specs.declared.error.FromHexError.TheVariants.{InvalidHexCharacter, OddLength, InvalidStringLength, OutOfMemory}
-use Rattle.case_text.specs.Reading.{Fails, hex_stop}
-use Rattle.case_text.specs.declared.refusal.DueKind.TheVariants.{Hex}
-use Rattle.case_text.specs.Due.{Taking, ◌>>=◌, stopped, digits_stop, each_at, hex_byte_at, hex_digit_at}
+use Rattle.text_parts.specs.declared.due.DueKind.TheVariants.{Hex}
+use Rattle.text_parts.specs.Parts.{Fails, Taking, ◌>>=◌, each_at, stopped}
+use Rattle.case_text.specs.Reading.{hex_stop}
+use Rattle.case_text.specs.Due.{digits_stop, hex_byte_at, hex_digit_at}
 
 one_of_three : (p q r : Bool) (x y z : ℕ) → is_some (if p then Some x else if q then Some y else if r then Some z else None) ≡ ((r || p) || q)
 one_of_three true true true x y z = refl

@@ -3,25 +3,27 @@ use Rattle.std.specs.Prelude.{◌≡◌, ℕ, ◌-◌, List, [], ◌∷◌, leng
 use Rattle.field_ext.specs.Field.{F, of}
 use Rattle.hex.specs.declared.error.FromHexError.{FromHexError}
 use Rattle.hex.specs.declared.error.FromHexError.TheVariants.{InvalidHexCharacter, OddLength, InvalidStringLength, OutOfMemory}
-use Rattle.case_text.specs.declared.refusal.DueKind.TheVariants.{Header, Section, Hex, Rest}
+use Rattle.text_parts.specs.declared.due.DueKind.TheVariants.{Header, Section, Hex}
+use Rattle.text_parts.specs.declared.stop.Stop.{Stop}
+use Rattle.text_parts.specs.declared.stop.ReadError.{ReadError}
+use Rattle.text_parts.specs.declared.stop.ReadError.TheVariants as errors
+use Rattle.text_parts.specs.Bytes.{initial, newline}
+use Rattle.text_parts.specs.Parts.{Taking, ◌>>=◌, at_end, counted_bytes_at, decimal_at, each_at, in_order, word_at}
 use Rattle.case_text.specs.declared.refusal.BadCase.{BadCase}
 use Rattle.case_text.specs.declared.refusal.CaseRefused.{CaseRefused}
 use Rattle.case_text.specs.declared.refusal.CaseRefused.TheVariants as refusals
-use Rattle.case_text.specs.declared.stop.Stop.{Stop}
-use Rattle.case_text.specs.declared.stop.ReadError.{ReadError}
-use Rattle.case_text.specs.declared.stop.ReadError.TheVariants as errors
 use Rattle.case_text.specs.declared.form.Form.{Form}
 use Rattle.case_text.specs.Rules.{text_length, value_count, value_rule, proof_length}
 use Rattle.case_text.specs.Content.{Content}
 use Rattle.case_text.specs.Spelling.{header, last_line}
-use Rattle.case_text.specs.Due.{Taking, ◌>>=◌, stopped, digits_stop, word_at, decimal_at, bytes_at, each_at, in_order, hex_byte_at, line_at}
+use Rattle.case_text.specs.Due.{digits_stop, hex_byte_at, line_at}
 
 unfoldable pub program_at : List ℕ → Taking (List ℕ)
 program_at bytes = do
   name ← word_at Section (codes "program ") bytes
   len ← decimal_at text_length name.1
-  program ← bytes_at len.0 len.1
-  close ← word_at Section (10 ∷ []) program.1
+  program ← counted_bytes_at len.0 len.1
+  close ← word_at Section (newline ∷ []) program.1
   Ok (program.0, close.1)
 
 -- a value that this many follow
@@ -46,7 +48,7 @@ proof_at bytes = do
   name ← word_at Section (codes "proof ") bytes
   len ← decimal_at proof_length name.1
   proof ← each_at hex_byte_at len.0 len.1
-  close ← word_at Hex (10 ∷ []) proof.1
+  close ← word_at Hex (newline ∷ []) proof.1
   Ok (proof.0, close.1)
 
 unfoldable pub case_at : Form → List ℕ → Taking Content
@@ -55,8 +57,8 @@ case_at form bytes = do
   program ← program_at first.1
   name ← word_at Section (codes "input ") program.1
   inputs ← counted_at name.1
-  outputs ← line_at form 111 outputs_at inputs.1
-  proof ← line_at form 112 proof_at outputs.1
+  outputs ← line_at form (initial (codes "output ")) outputs_at inputs.1
+  proof ← line_at form (initial (codes "proof ")) proof_at outputs.1
   last ← word_at Section last_line proof.1
   Ok (
     record {
@@ -67,12 +69,6 @@ case_at form bytes = do
     },
     last.1,
   )
-
--- nothing follows
-abbrev pub at_end : {A : Type 0} → Taking A → Result A Stop
-at_end (Ok (a, [])) = Ok a
-at_end (Ok (a, b ∷ bytes)) = Err (stopped Rest (b ∷ bytes))
-at_end (Err s) = Err s
 
 -- the case that all of the bytes spell
 abbrev pub case_in : Form → List ℕ → Result Content Stop
@@ -91,15 +87,6 @@ reading form bytes = refused (length bytes) (case_in form bytes)
 abbrev pub refusal_of : ℕ → ReadError → CaseRefused
 refusal_of len errors.Memory = refusals.Memory
 refusal_of len (errors.Stopped s) = refusals.Bad (record { at = len - s.left; kind = s.kind })
-
--- What a function returned, seen by view, is what taking gives, unless memory ran out.
-abbrev pub Fails : {Y : Type 0} → ReadError → Result Y Stop → Type 0
-Fails errors.Memory taking = Unit {0}
-Fails (errors.Stopped s) taking = taking ≡ Err s
-
-abbrev pub Gives : {X Y : Type 0} → (X → Y) → Result X ReadError → Result Y Stop → Type 0
-Gives view (Ok x) taking = taking ≡ Ok (view x)
-Gives view (Err e) taking = Fails e taking
 
 -- What a call answered is what reading gives, unless memory ran out.
 abbrev pub Answers : {A : Type 0} → Result A CaseRefused → Result A BadCase → Type 0

@@ -6,8 +6,9 @@ use Rattle.arr_ast.specs.declared.refusal.ProgramKind.TheVariants as programs
 use Rattle.field_ext.specs.Field.{K}
 use Rattle.proof_wire.specs.declared.refused.BadProof.{BadProof}
 use Rattle.proof_wire.specs.declared.refused.BadProof.TheVariants as proofs
-use Rattle.case_text.specs.declared.refusal.DueKind.{DueKind}
-use Rattle.case_text.specs.declared.refusal.DueKind.TheVariants as kinds
+use Rattle.text_parts.specs.declared.due.DueKind.{DueKind}
+use Rattle.text_parts.specs.declared.due.DueKind.TheVariants as kinds
+use Rattle.text_parts.specs.Bytes.{comma, newline, space}
 use Rattle.case_text.specs.declared.demo.DemoSummary.{DemoSummary}
 use Rattle.case_text.specs.declared.session.SessionSizes.{SessionSizes}
 use Rattle.case_text.specs.declared.sizes.LayerSize.{LayerSize}
@@ -56,16 +57,16 @@ program_kind_name programs.NoOutput = codes "nooutput"
 abbrev pub layer_lines : ℕ → List LayerSize → List ℕ
 layer_lines i [] = []
 layer_lines i (layer ∷ layers) =
-    concat (codes "layer " ∷ number i 32 ∷ number layer.positions 32 ∷ number layer.products 10
-    ∷ []) ++ layer_lines (i + 1) layers
+    concat (codes "layer " ∷ number i space ∷ number layer.positions space
+    ∷ number layer.products newline ∷ []) ++ layer_lines (i + 1) layers
 
 -- a word and a number on a line
 unfoldable pub line_text : List ℕ → ℕ → List ℕ
-line_text word n = word ++ number n 10
+line_text word n = word ++ number n newline
 
 -- a word and two numbers on a line
 unfoldable pub pair_text : List ℕ → ℕ → ℕ → List ℕ
-pair_text word first second = concat (word ∷ number first 32 ∷ number second 10 ∷ [])
+pair_text word first second = concat (word ∷ number first space ∷ number second newline ∷ [])
 
 -- what a proof takes
 abbrev pub totals_text : Sizes → List ℕ
@@ -79,18 +80,19 @@ sizes_text s = concat (line_text (codes "circuit ") (length s.layers - 1) ∷ la
 
 -- two elements, each by its real and its imaginary part
 unfoldable pub sides_text : K → K → List ℕ
-sides_text had want = concat (number had.re.value 44 ∷ number had.im.value 32 ∷ number want.re.value
-    44 ∷ number want.im.value 10 ∷ [])
+sides_text had want = concat (number had.re.value comma ∷ number had.im.value space
+    ∷ number want.re.value comma ∷ number want.im.value newline ∷ [])
 
 unfoldable pub failed_text : List ℕ → K → K → List ℕ
 failed_text word had want = word ++ sides_text had want
 
 unfoldable pub failed_layer_text : List ℕ → ℕ → K → K → List ℕ
-failed_layer_text word layer had want = concat (word ∷ number layer 32 ∷ sides_text had want ∷ [])
+failed_layer_text word layer had want =
+    concat (word ∷ number layer space ∷ sides_text had want ∷ [])
 
 unfoldable pub failed_round_text : List ℕ → ℕ → ℕ → K → K → List ℕ
 failed_round_text word layer round had want =
-    concat (word ∷ number layer 32 ∷ number round 32 ∷ sides_text had want ∷ [])
+    concat (word ∷ number layer space ∷ number round space ∷ sides_text had want ∷ [])
 
 abbrev pub bad_proof_text : BadProof → List ℕ
 bad_proof_text (proofs.Magic at) = line_text (codes "refused proof magic ") at
@@ -100,7 +102,7 @@ bad_proof_text (proofs.Long extra) = line_text (codes "refused proof long ") ext
 
 -- the digits of a digest in lower case
 abbrev pub digest_text : List ℕ → List ℕ
-digest_text digest = concat (codes "digest " ∷ encode_lower digest ∷ (10 ∷ []) ∷ [])
+digest_text digest = concat (codes "digest " ∷ encode_lower digest ∷ (newline ∷ []) ∷ [])
 
 -- the lines of a demo on the case that was generated, and on its proof
 abbrev pub generated_text : DemoSummary → List ℕ
@@ -112,7 +114,7 @@ proved_text s = concat (line_text (codes "layers ") s.layers ∷ line_text (code
     ∷ digest_text s.digest ∷ [])
 
 abbrev pub demo_text : DemoSummary → List ℕ
-demo_text s = concat (generated_text s ∷ proved_text s ∷ codes "accepted" ∷ (10 ∷ []) ∷ [])
+demo_text s = concat (generated_text s ∷ proved_text s ∷ codes "accepted" ∷ (newline ∷ []) ∷ [])
 
 -- the lines of a script's jobs: for each its client, and the reply to its case
 abbrev pub served_lines : List Served → List ℕ
@@ -123,7 +125,7 @@ served_lines (job ∷ jobs) =
 -- how many jobs there are, how many of them were proved, and how many weren't
 abbrev pub summary_text : ℕ → ℕ → List ℕ
 summary_text jobs proved =
-    concat (codes "jobs " ∷ number jobs 32 ∷ codes "proved " ∷ number proved 32 ∷ line_text
+    concat (codes "jobs " ∷ number jobs space ∷ codes "proved " ∷ number proved space ∷ line_text
     (codes "refused ") (jobs - proved) ∷ [])
 
 abbrev pub served_text : List Served → List ℕ
@@ -142,8 +144,8 @@ history_lines (line ∷ lines) = history_line_text line ++ history_lines lines
 -- how many jobs there are, and how many of them were proved, refused and withdrawn
 abbrev pub history_summary_text : ℕ → ℕ → ℕ → List ℕ
 history_summary_text jobs proved withdrawn =
-    concat (codes "jobs " ∷ number jobs 32 ∷ codes "proved " ∷ number proved 32 ∷ codes "refused "
-    ∷ number (jobs - proved - withdrawn) 32 ∷ line_text (codes "withdrawn ") withdrawn ∷ [])
+    concat (codes "jobs " ∷ number jobs space ∷ codes "proved " ∷ number proved space
+    ∷ codes "refused " ∷ number (jobs - proved - withdrawn) space ∷ line_text (codes "withdrawn ") withdrawn ∷ [])
 
 -- the replies, a line on all of them, how long the history is, and its lines
 abbrev pub history_text : History → List ℕ
@@ -154,7 +156,7 @@ history_text h =
 
 -- the line on a proof
 abbrev pub verdict_text : VerdictLine → List ℕ
-verdict_text verdicts.Accepted = codes "accepted" ++ 10 ∷ []
+verdict_text verdicts.Accepted = codes "accepted" ++ newline ∷ []
 verdict_text (verdicts.Sum layer round had claim) =
     failed_round_text (codes "rejected sum ") layer round had claim
 verdict_text (verdicts.End layer had want) =
@@ -163,22 +165,22 @@ verdict_text (verdicts.Input had want) = failed_text (codes "rejected input ") h
 
 -- whether the outputs are those that the program means
 abbrev pub meaning_text : Bool → List ℕ
-meaning_text true = codes "meaning same" ++ 10 ∷ []
-meaning_text false = codes "meaning differs" ++ 10 ∷ []
+meaning_text true = codes "meaning same" ++ newline ∷ []
+meaning_text false = codes "meaning differs" ++ newline ∷ []
 
 -- the first message that isn't the true one, by its layer and its round, or as the layer's last, on its line
 abbrev pub message_text : Option MessagePlace → List ℕ
-message_text None = codes "message none" ++ 10 ∷ []
+message_text None = codes "message none" ++ newline ∷ []
 message_text (Some (Round layer round)) = pair_text (codes "message ") layer round
 message_text (Some (Line layer)) =
-    concat (codes "message " ∷ number layer 32 ∷ codes "line" ∷ (10 ∷ []) ∷ [])
+    concat (codes "message " ∷ number layer space ∷ codes "line" ∷ (newline ∷ []) ∷ [])
 
 -- the first exceptional challenge, by its number and its value
 abbrev pub challenge_text : Option (ℕ × K) → List ℕ
-challenge_text None = codes "challenge none" ++ 10 ∷ []
+challenge_text None = codes "challenge none" ++ newline ∷ []
 challenge_text (Some named) =
-    concat (codes "challenge " ∷ number named.0 32 ∷ number named.1.re.value 44 ∷ number
-    named.1.im.value 10 ∷ [])
+    concat (codes "challenge " ∷ number named.0 space ∷ number named.1.re.value comma ∷ number
+    named.1.im.value newline ∷ [])
 
 -- the four lines of an audit
 abbrev pub audit_text : AuditLines → List ℕ
@@ -189,16 +191,17 @@ audit_text a = concat (verdict_text a.verdict ∷ meaning_text a.same ∷ messag
 abbrev pub session_text : SessionSizes → List ℕ
 session_text s = concat (line_text (codes "session ") s.challenges
     ∷ line_text (codes "to prover ") s.to_prover ∷ line_text (codes "to verifier ") s.to_verifier
-    ∷ codes "accepted" ∷ (10 ∷ []) ∷ [])
+    ∷ codes "accepted" ∷ (newline ∷ []) ∷ [])
 
 abbrev pub reply_text : Reply → List ℕ
 reply_text (replies.Outputs values) = codes "output " ++ counted_text values
-reply_text replies.Usage = codes "refused usage" ++ 10 ∷ []
-reply_text (replies.TooLong limit) = codes "refused long " ++ number limit 10
+reply_text replies.Usage = codes "refused usage" ++ newline ∷ []
+reply_text (replies.TooLong limit) = codes "refused long " ++ number limit newline
 reply_text (replies.Case bad) =
-    concat (codes "refused case " ∷ kind_name bad.kind ∷ (32 ∷ []) ∷ number bad.at 10 ∷ [])
+    concat (codes "refused case " ∷ kind_name bad.kind ∷ (space ∷ []) ∷ number bad.at newline ∷ [])
 reply_text (replies.Program kind at) =
-    concat (codes "refused program " ∷ program_kind_name kind ∷ (32 ∷ []) ∷ number at 10 ∷ [])
+    concat (codes "refused program " ∷ program_kind_name kind ∷ (space ∷ [])
+    ∷ number at newline ∷ [])
 reply_text (replies.Deep levels) = line_text (codes "refused program deep ") levels
 reply_text (replies.Wide height width) = pair_text (codes "refused program wide ") height width
 reply_text (replies.InputCount have need) = pair_text (codes "refused count input ") have need

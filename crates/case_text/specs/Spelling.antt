@@ -2,14 +2,15 @@
 use Rattle.std.specs.Prelude.{◌≡◌, ℕ, List, [], ◌∷◌, ◌++◌, length, codes, decimal, Option, Some, None, IfSome}
 use Rattle.std.specs.List.{concat}
 use Rattle.field_ext.specs.Field.{F}
-use Rattle.case_text.specs.Rules.{behind_value}
+use Rattle.text_parts.specs.Bytes.{newline}
+use Rattle.case_text.specs.Rules.{after_value}
 use Rattle.case_text.specs.declared.form.Form.{Form}
 use Rattle.case_text.specs.Hex.{IsHexOf, lower_digits}
 use Rattle.case_text.specs.Forms.{Allows}
 use Rattle.case_text.specs.Content.{Content, Fits}
 
 abbrev pub header : List ℕ
-header = codes "gkr case 1" ++ 10 ∷ []
+header = codes "gkr case 1" ++ newline ∷ []
 
 -- a decimal, and the byte after it
 abbrev pub number : ℕ → ℕ → List ℕ
@@ -17,20 +18,20 @@ number n close = decimal n ++ close ∷ []
 
 -- the program after its length, each on lines of its own
 abbrev pub program_text : List ℕ → List ℕ
-program_text program = concat (codes "program " ∷ number (length program) 10 ∷ program ∷ (10 ∷ [])
-    ∷ [])
+program_text program = concat (codes "program " ∷ number (length program) newline ∷ program
+    ∷ (newline ∷ []) ∷ [])
 
 -- values, a space after each but the last
 abbrev pub values_text : List F → List ℕ
 values_text [] = []
-values_text (v ∷ vs) = number v.value (behind_value (length vs)) ++ values_text vs
+values_text (v ∷ vs) = number v.value (after_value (length vs)) ++ values_text vs
 
 -- values after their count
 abbrev pub counted_text : List F → List ℕ
-counted_text vs = number (length vs) (behind_value (length vs)) ++ values_text vs
+counted_text vs = number (length vs) (after_value (length vs)) ++ values_text vs
 
 abbrev pub last_line : List ℕ
-last_line = codes "end" ++ 10 ∷ []
+last_line = codes "end" ++ newline ∷ []
 
 abbrev pub outputs_text : Option (List F) → List ℕ
 outputs_text None = []
@@ -40,7 +41,7 @@ outputs_text (Some vs) = codes "output " ++ counted_text vs
 abbrev pub proof_text : Option (List ℕ) → List ℕ → List ℕ
 proof_text None digits = []
 proof_text (Some proof) digits =
-    concat (codes "proof " ∷ number (length proof) 10 ∷ digits ∷ (10 ∷ []) ∷ [])
+    concat (codes "proof " ∷ number (length proof) newline ∷ digits ∷ (newline ∷ []) ∷ [])
 
 -- with its digits in lower case
 abbrev pub lower_proof_text : Option (List ℕ) → List ℕ

@@ -5,7 +5,7 @@ ghost use Rattle.case_text.specs.declared.form.Form.{Form};
 ghost use Rattle.case_text.specs.Content.{Content};
 ghost use Rattle.case_text.specs.Spelling.{Spells};
 ghost use Rattle.case_text.specs.Reading.{reading};
-ghost use Rattle.case_text.specs.Places.{IsPlace};
+ghost use Rattle.text_parts.specs.Places.{IsPlace};
 ghost use Rattle.case_text.specs.declared.refusal.BadCase.{BadCase};
 
 /// Bytes spell at most one case.

@@ -12,20 +12,17 @@ mod demo;
 mod form;
 mod history;
 mod outputs;
-mod parts;
 mod refusal;
-mod rule;
+mod rules;
 mod served;
 mod session;
 mod sizes;
-mod stop;
 
 pub use case::Case;
 pub use demo::DemoSummary;
 pub use form::Form;
 pub use history::{HistoryLine, ServedHistory, write_history};
 pub use outputs::Outputs;
-pub use parts::{decimal, word};
 pub use reading::{case_of, counted, read_case};
 pub use reply::{Reply, write_reply};
 
@@ -35,11 +32,10 @@ mod reply;
 mod verdict;
 mod writing;
 
-pub use refusal::{BadCase, CaseRefused, DueKind};
-pub use rule::Rule;
+pub use refusal::{BadCase, CaseRefused, refusal_of};
 pub use served::{ServedJob, ServedJobs, write_served};
 pub use session::SessionSizes;
 pub use sizes::{CircuitSizes, LayerSize};
-pub use stop::{ReadError, Stop, stop_at};
+pub use text_parts::DueKind;
 pub use verdict::{AuditLines, MessagePlace, VerdictLine};
 pub use writing::write_case;

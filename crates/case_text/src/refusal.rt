@@ -1,27 +1,10 @@
 //! Why bytes are no case, or no script of cases.
 
-use thiserror::Error;
+ghost use Rattle.std.specs.Prelude.{◌≡◌, length};
+ghost use Rattle.case_text.specs.Reading.{refusal_of};
 
-/// What was due where a byte wasn't taken.
-#[derive(Clone, Copy, Debug, PartialEq, Eq)]
-pub enum DueKind {
-    /// The first line.
-    Header,
-    /// Another fixed word with its space or line end, or the line end after the program.
-    Section,
-    /// A digit of a number, or the space or line end after it.
-    Number,
-    /// A digit that takes a value to the field's size or past it.
-    Range,
-    /// A digit that takes a count or a length past its limit.
-    Length,
-    /// A hex digit, or the line end after them.
-    Hex,
-    /// The bytes end where a part is due.
-    End,
-    /// Bytes follow the whole text.
-    Rest,
-}
+use text_parts::{DueKind, ReadError};
+use thiserror::Error;
 
 /// A refusal of bytes that are no text.
 #[derive(Clone, Copy, Debug, PartialEq, Eq)]
@@ -41,4 +24,17 @@ pub enum CaseRefused {
     /// Memory ran out.
     #[error("out of memory")]
     Memory,
+}
+
+/// The refusal of the bytes whose reading ended so: the place is how many were taken.
+pub fn refusal_of(error: ReadError, bytes: &[u8]) -> CaseRefused
+    ensures { result ≡ refusal_of (length bytes.now) error }
+{
+    match error {
+        ReadError::Memory => CaseRefused::Memory,
+        ReadError::Stopped(stop) => CaseRefused::Bad(BadCase {
+            at: stop.place(bytes),
+            kind: stop.kind,
+        }),
+    }
 }

@@ -7,7 +7,7 @@ use crate::case::Case;
 use crate::demo::DemoSummary;
 use crate::history::{ServedHistory, write_history};
 use crate::outputs::Outputs;
-use crate::refusal::{BadCase, DueKind};
+use crate::refusal::BadCase;
 use crate::served::{ServedJobs, write_served};
 use crate::session::{SessionSizes, put_session};
 use crate::sizes::{CircuitSizes, LayerSize};
@@ -16,6 +16,7 @@ use crate::writing::{hex_text, put_counted, put_number, write_case};
 use arr_ast::ProgramKind;
 use proof_wire::BadProof;
 use std::alloc::{AllocError, Global};
+use text_parts::DueKind;
 
 /// What the program answers: one line; for a circuit a line each of its height, its layers and its sizes; the text of a case
 /// that was proved; or the lines of an audit or of a demo.

@@ -1,7 +1,7 @@
 //! Writing the text of a case.
 
 ghost use Rattle.std.specs.Prelude.{◌≡◌, ◌++◌, IfOk, OnOk, IfSome};
-ghost use Rattle.case_text.specs.Rules.{behind_value};
+ghost use Rattle.case_text.specs.Rules.{after_value};
 ghost use Rattle.case_text.specs.declared.form.Form.{Form};
 ghost use Rattle.case_text.specs.Forms.{Allows};
 ghost use Rattle.case_text.specs.Spelling.{number as number_text, values_text, counted_text, program_text, outputs_text, lower_proof_text, lower_case_text, Spells};
@@ -17,12 +17,12 @@ use itoa::Buffer;
 use std::alloc::{AllocError, Global};
 
 /// A decimal, and the byte after it.
-pub fn put_number(out: &mut Vec<u8>, number: u64, behind: u8) -> Result<(), AllocError>
-    ensures { OnOk result (out.new.items ≡ out.old.items ++ number_text number behind) }
+pub fn put_number(out: &mut Vec<u8>, number: u64, after: u8) -> Result<(), AllocError>
+    ensures { OnOk result (out.new.items ≡ out.old.items ++ number_text number after) }
 {
     let mut digits = Buffer::new();
     out.extend_from_slice(digits.format(number).as_bytes())?;
-    out.push(behind)?;
+    out.push(after)?;
     Ok(())
 }
 
@@ -32,20 +32,20 @@ fn put_values(out: &mut Vec<u8>, values: &[Fp]) -> Result<(), AllocError>
     let mut following = values.len();
     for value in values {
         following -= 1;
-        put_number(out, u64::from(value.value()), behind_value(following))?;
+        put_number(out, u64::from(value.value()), after_value(following))?;
     }
     Ok(())
 }
 
 /// What comes after a value that this many follow.
-pub fn behind_value(following: usize) -> u8
-    ensures { result ≡ behind_value following }
+pub fn after_value(following: usize) -> u8
+    ensures { result ≡ after_value following }
 {
     if following == 0 { b'\n' } else { b' ' }
 }
 
 /// At least as many bytes as the text of a case has.
-fn room_for(case: &Case) -> usize {
+fn capacity_for(case: &Case) -> usize {
     let values = case.inputs().len() + case.outputs().unwrap_or(&[]).len();
     let proof = case.proof().unwrap_or(&[]).len();
     100 + case.program().len() + 11 * values + 2 * proof
@@ -65,7 +65,7 @@ fn put_program(out: &mut Vec<u8>, program: &[u8]) -> Result<(), AllocError>
 pub fn put_counted(out: &mut Vec<u8>, values: &[Fp]) -> Result<(), AllocError>
     ensures { OnOk result (out.new.items ≡ out.old.items ++ counted_text values.now) }
 {
-    put_number(out, values.len() as u64, behind_value(values.len()))?;
+    put_number(out, values.len() as u64, after_value(values.len()))?;
     put_values(out, values)
 }
 
@@ -111,7 +111,7 @@ fn lower_text(alloc: Global, case: &Case) -> Result<Vec<u8>, AllocError>
         (λ text. IfSome case.now.proof (λ proof. IsHexOf proof (encode_lower proof))) }
     ensures fits { IfOk result (λ text. Fits case.now) }
 {
-    let mut out = Vec::with_capacity(alloc, room_for(case))?;
+    let mut out = Vec::with_capacity(alloc, capacity_for(case))?;
     out.extend_from_slice(b"gkr case 1\n")?;
     put_program(&mut out, case.program())?;
     out.extend_from_slice(b"input ")?;

@@ -1,4 +1,2 @@
-mod Positive
 mod ScriptTexts
-mod JobLoop
-mod Readings
+mod HistoryTexts

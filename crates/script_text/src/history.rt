@@ -1,17 +1,19 @@
 //! Reading a script whose jobs may be withdrawn.
 
 ghost use Rattle.std.specs.Prelude.{◌≡◌, List, IfOk, Ok};
-ghost use Rattle.case_text.specs.Reading.{Gives, Answers};
+ghost use Rattle.text_parts.specs.Parts.{Gives};
+ghost use Rattle.case_text.specs.Reading.{Answers};
 ghost use Rattle.script_text.specs.declared.script.MarkedJob.{MarkedJob};
 ghost use Rattle.script_text.specs.Scripts.{SpellsHistoryScript, history_script_reading, jobs_of, mark_at};
 
 use crate::reading::{Job, placed};
 use crate::script::{MarkedJob, ScriptJob};
-use case_text::{CaseRefused, DueKind, ReadError, stop_at, word};
+use case_text::CaseRefused;
 use std::alloc::Global;
+use text_parts::{DueKind, ReadError, stop_at, word};
 
 /// Takes the mark after a job, where there is one.
-#[tactic(auto, unfolding(crate::specs::Scripts::mark_at))]
+#[tactic(auto, unfolding(crate::specs::Scripts::mark_at, text_parts::specs::Parts::choice_at))]
 fn mark(bytes: &[u8]) -> Result<(bool, &[u8]), ReadError>
     ensures { Gives (λ x. (x.0, x.1.now)) result (mark_at bytes.now) }
 {

@@ -1,14 +1,16 @@
 //! Reading a script.
 
-ghost use Rattle.std.specs.Prelude.{◌≡◌, ◌≤◌, ◌^◌, List, IfOk, Ok};
-ghost use Rattle.case_text.specs.Reading.{Gives, Answers};
+ghost use Rattle.std.specs.Prelude.{◌≡◌, List, IfOk, Ok};
+ghost use Rattle.text_parts.specs.Parts.{Gives};
+ghost use Rattle.case_text.specs.Reading.{Answers};
 ghost use Rattle.script_text.specs.declared.script.ScriptJob.{ScriptJob};
-ghost use Rattle.script_text.specs.Scripts.{client_number, positive_at, jobs_of, script_reading, SpellsScript};
+ghost use Rattle.script_text.specs.Scripts.{client_at, client_number, jobs_of, script_reading, SpellsScript};
 
 use crate::reading::{Job, placed};
 use crate::script::ScriptJob;
-use case_text::{CaseRefused, DueKind, Form, ReadError, Rule, case_of, decimal, stop_at, word};
+use case_text::{CaseRefused, Form, case_of};
 use std::alloc::Global;
+use text_parts::{DueKind, ReadError, Rule, decimal, stop_at, word};
 
 /// The number of a client, which isn't 0.
 fn client_number() -> Rule
@@ -17,24 +19,23 @@ fn client_number() -> Rule
     Rule {
         limit: 65,
         over: DueKind::Length,
-        behind_zero: b'\n',
-        behind_other: b'\n',
+        after_zero: b'\n',
+        after_other: b'\n',
     }
 }
 
-/// Takes a decimal that isn't 0, and the byte after it.
-#[tactic(auto, unfolding(crate::specs::Scripts::positive_at))]
-fn positive(rule: Rule, bytes: &[u8]) -> Result<(u32, &[u8]), ReadError>
-    requires { rule.limit ≤ 2 ^ 31 }
-    ensures { Gives (λ x. (x.0, x.1.now)) result (positive_at rule bytes.now) }
+/// Takes the number of a client, and the byte after it.
+#[tactic(auto, unfolding(text_parts::specs::Parts::except_at))]
+fn client(bytes: &[u8]) -> Result<(u32, &[u8]), ReadError>
+    ensures { Gives (λ x. (x.0, x.1.now)) result (client_at bytes.now) }
 {
     match bytes {
         [] => Err(stop_at(bytes, DueKind::End)),
         [first, ..] => {
             if *first == b'0' {
-                return Err(stop_at(bytes, rule.over));
+                return Err(stop_at(bytes, DueKind::Length));
             }
-            decimal(rule, bytes)
+            decimal(client_number(), bytes)
         }
     }
 }
@@ -47,7 +48,7 @@ impl Job for ScriptJob {
     #[tactic(auto, unfolding(crate::specs::Scripts::job_at))]
     fn take(alloc: Global, bytes: &[u8]) -> Result<(ScriptJob, &[u8]), ReadError> {
         let rest = word(DueKind::Section, b"client ", bytes)?;
-        let (client, rest) = positive(client_number(), rest)?;
+        let (client, rest) = client(rest)?;
         let (case, rest) = case_of(alloc, Form::Plain, rest)?;
         Ok((ScriptJob { client, case }, rest))
     }

@@ -1,11 +1,13 @@
 //! Reading the jobs of a script, whichever kind they are of.
 
 ghost use Rattle.std.specs.Prelude.{◌≡◌, length};
-ghost use Rattle.case_text.specs.Reading.{Answers, Gives, refused};
-ghost use Rattle.script_text.specs.Scripts.{follows, jobs_at, jobs_of, script_in};
+ghost use Rattle.text_parts.specs.Parts.{Gives, follows};
+ghost use Rattle.case_text.specs.Reading.{Answers, refused};
+ghost use Rattle.script_text.specs.Scripts.{job_initial, jobs_at, jobs_of, script_in};
 
-use case_text::{CaseRefused, DueKind, ReadError, stop_at, word};
+use case_text::{CaseRefused, refusal_of};
 use std::alloc::Global;
+use text_parts::{DueKind, ReadError, end, stop_at, word};
 
 /// The most jobs of a script.
 const MOST_JOBS: u32 = 256;
@@ -13,8 +15,7 @@ const MOST_JOBS: u32 = 256;
 /// A job as a script has it.
 pub(crate) trait Job: Drop {
     ghost use Rattle.std.specs.Prelude.{List, ℕ};
-    ghost use Rattle.case_text.specs.Due.{Taking};
-    ghost use Rattle.case_text.specs.Reading.{Gives};
+    ghost use Rattle.text_parts.specs.Parts.{Gives, Taking};
 
     /// The job at the beginning of the bytes and what follows it, or where taking it stops.
     ghost taking: { List ℕ → Taking Self };
@@ -26,7 +27,7 @@ pub(crate) trait Job: Drop {
 
 /// Whether a job follows, where this many more may.
 fn job_follows(left: u32, bytes: &[u8]) -> Result<bool, ReadError>
-    ensures { Gives (λ x. x) result (follows left bytes.now) }
+    ensures { Gives (λ x. x) result (follows job_initial left bytes.now) }
 {
     if left == 0 {
         return Ok(false);
@@ -38,7 +39,7 @@ fn job_follows(left: u32, bytes: &[u8]) -> Result<bool, ReadError>
 }
 
 /// Takes the jobs of a script, and its last line.
-#[tactic(auto, using(crate::proofs::JobLoop::job_goes_on, crate::proofs::JobLoop::job_ends, crate::proofs::JobLoop::choice_ends))]
+#[tactic(auto, using(text_parts::proofs::api::Listed::item_goes_on, text_parts::proofs::api::Listed::item_fails, text_parts::proofs::api::Listed::test_fails))]
 fn jobs<J: Job>(alloc: Global, bytes: &[u8]) -> Result<(Vec<J>, &[u8]), ReadError>
     ensures { Gives (λ x. (x.0.items, x.1.now)) result (jobs_at J.taking 256 bytes.now) }
 {
@@ -60,13 +61,12 @@ fn jobs<J: Job>(alloc: Global, bytes: &[u8]) -> Result<(Vec<J>, &[u8]), ReadErro
 }
 
 /// Takes a script, after which nothing comes.
+#[tactic(auto, using(text_parts::proofs::api::Whole::end_taken, text_parts::proofs::api::Whole::end_fails))]
 fn whole<J: Job>(alloc: Global, bytes: &[u8]) -> Result<Vec<J>, ReadError>
     ensures { Gives (λ jobs. jobs.items) result (script_in J.taking bytes.now) }
 {
     let (jobs, rest) = jobs(alloc, bytes)?;
-    if !rest.is_empty() {
-        return Err(stop_at(rest, DueKind::Rest));
-    }
+    end(rest)?;
     Ok(jobs)
 }
 
@@ -76,6 +76,6 @@ pub(crate) fn placed<J: Job>(alloc: Global, bytes: &[u8]) -> Result<Vec<J>, Case
 {
     match whole(alloc, bytes) {
         Ok(jobs) => Ok(jobs),
-        Err(error) => Err(error.refusal(bytes)),
+        Err(error) => Err(refusal_of(error, bytes)),
     }
 }

@@ -1,2 +1,1 @@
 mod SessionTexts
-mod Readings

@@ -3,13 +3,14 @@ use Rattle.std.specs.Prelude.{◌≡◌, ℕ, List, [], ◌∷◌, ◌++◌, len
 use Rattle.std.specs.List.{concat}
 use Rattle.field_ext.specs.Field.{F}
 use Rattle.case_text.specs.declared.form.Form.TheVariants.{Plain}
-use Rattle.case_text.specs.declared.refusal.DueKind.TheVariants.{Section}
+use Rattle.text_parts.specs.declared.due.DueKind.TheVariants.{Section}
 use Rattle.case_text.specs.declared.refusal.BadCase.{BadCase}
-use Rattle.case_text.specs.declared.stop.Stop.{Stop}
+use Rattle.text_parts.specs.declared.stop.Stop.{Stop}
 use Rattle.case_text.specs.Content.{AreValues, Content}
 use Rattle.case_text.specs.Spelling.{Spells, counted_text}
-use Rattle.case_text.specs.Due.{Taking, ◌>>=◌, word_at}
-use Rattle.case_text.specs.Reading.{at_end, case_at, counted_at, refused}
+use Rattle.text_parts.specs.Bytes.{newline}
+use Rattle.text_parts.specs.Parts.{Taking, ◌>>=◌, at_end, word_at}
+use Rattle.case_text.specs.Reading.{case_at, counted_at, refused}
 
 -- the words are the real and the imaginary part of one challenge after another
 pub record SessionContent : Type 0 where
@@ -17,7 +18,7 @@ pub record SessionContent : Type 0 where
   pub words : List F
 
 abbrev pub done : List ℕ
-done = codes "done" ++ 10 ∷ []
+done = codes "done" ++ newline ∷ []
 
 -- These bytes are a text of the session: that of its case, its words after their count, and the last line.
 pub record SpellsSession (bytes : List ℕ) (session : SessionContent) : Type 0 where

@@ -1,7 +1,7 @@
 //! What holds of session text by its definitions alone.
 
 ghost use Rattle.std.specs.Prelude.{◌≡◌, List, [], ◌++◌, ℕ, Err};
-ghost use Rattle.case_text.specs.Places.{IsPlace};
+ghost use Rattle.text_parts.specs.Places.{IsPlace};
 ghost use Rattle.case_text.specs.declared.refusal.BadCase.{BadCase};
 ghost use Rattle.session_text.specs.Sessions.{SessionContent, SpellsSession, session_reading};
 

@@ -1,13 +1,15 @@
 //! Reading a session.
 
 ghost use Rattle.std.specs.Prelude.{◌≡◌, IfOk, Ok, length};
-ghost use Rattle.case_text.specs.Reading.{Answers, Gives};
+ghost use Rattle.text_parts.specs.Parts.{Gives};
+ghost use Rattle.case_text.specs.Reading.{Answers};
 ghost use Rattle.session_text.specs.Sessions.{SessionContent, SpellsSession, session_at, session_in, session_reading, words_at};
 
 use crate::session::SessionCase;
-use case_text::{CaseRefused, DueKind, Form, ReadError, case_of, counted, stop_at, word};
+use case_text::{CaseRefused, Form, case_of, counted, refusal_of};
 use field_ext::Fp;
 use std::alloc::Global;
+use text_parts::{DueKind, ReadError, end, word};
 
 /// Takes the line of the words.
 #[tactic(auto, unfolding(crate::specs::Sessions::words_at))]
@@ -30,14 +32,12 @@ fn session(alloc: Global, bytes: &[u8]) -> Result<(SessionCase, &[u8]), ReadErro
 }
 
 /// Takes a session, after which nothing comes.
-#[tactic(auto, using(case_text::proofs::api::Whole::rest_follows))]
+#[tactic(auto, using(text_parts::proofs::api::Whole::end_taken, text_parts::proofs::api::Whole::end_fails))]
 fn whole(alloc: Global, bytes: &[u8]) -> Result<SessionCase, ReadError>
     ensures { Gives (λ s. s) result (session_in bytes.now) }
 {
     let (session, rest) = session(alloc, bytes)?;
-    if !rest.is_empty() {
-        return Err(stop_at(rest, DueKind::Rest));
-    }
+    end(rest)?;
     Ok(session)
 }
 
@@ -47,7 +47,7 @@ fn placed(alloc: Global, bytes: &[u8]) -> Result<SessionCase, CaseRefused>
 {
     match whole(alloc, bytes) {
         Ok(session) => Ok(session),
-        Err(error) => Err(error.refusal(bytes)),
+        Err(error) => Err(refusal_of(error, bytes)),
     }
 }
 
@@ -55,7 +55,6 @@ fn placed(alloc: Global, bytes: &[u8]) -> Result<SessionCase, CaseRefused>
 ///
 /// `Bad` comes where they spell none, with the place of the first byte that isn't taken and what was due there.
 /// `Memory` comes where memory for its lists runs out.
-#[tactic(auto, using(crate::proofs::Readings::session_found, crate::proofs::Readings::session_only))]
 pub fn read_session(alloc: Global, bytes: &[u8]) -> Result<SessionCase, CaseRefused>
     // What is read is spelled so.
     ensures found { IfOk result (λ session. SpellsSession bytes.now session) }
