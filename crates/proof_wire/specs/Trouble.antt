@@ -1,4 +1,4 @@
--- What is wrong with bytes that should be a proof of a form and a shape: the first trouble from the front.
+-- What is wrong with bytes that should be a proof of a form and a shape: the first trouble from the beginning.
 use Rattle.std.specs.Prelude.{◌≡◌, ◌≢◌, ℕ, ◌+◌, ◌*◌, ◌<◌, ◌≤◌, ◌++◌, List, length, take, drop, get_or}
 use Rattle.std.specs.List.{flat_map}
 use Rattle.field_ext.specs.Field.{prime, K}
@@ -52,12 +52,12 @@ pub record OutOfRange (form : ProofForm) (ks bytes : List ℕ) (at : ℕ) : Type
 -- all coefficients are there and good, and more bytes follow
 pub record GoesOn (form : ProofForm) (ks bytes : List ℕ) (extra : ℕ) : Type 0 where
   pub some : 0 < extra
-  pub behind : length bytes ≡ length_of form ks + extra
+  pub after : length bytes ≡ length_of form ks + extra
   pub opens : Opens form bytes
   pub good : (i : ℕ) → i < coefficient_count form (drop 1 ks) → InRange bytes i
 
 -- the bytes begin with these coefficients after the first four bytes
-pub record IsFront (form : ProofForm) (elements : List K) (bytes : List ℕ) : Type 0 where
+pub record BeginWith (form : ProofForm) (elements : List K) (bytes : List ℕ) : Type 0 where
   pub spelled : take (4 + 8 * length elements) bytes ≡ magic form ++ flat_map bytes_of elements
   pub good : (i : ℕ) → i < length elements → InRange bytes i
 

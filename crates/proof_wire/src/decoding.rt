@@ -7,7 +7,7 @@ ghost use Rattle.proof_wire.specs.declared.refused.ProofRefused.TheVariants.{Mem
 ghost use Rattle.proof_wire.specs.Forms.{magic};
 ghost use Rattle.proof_wire.specs.Spelling.{coefficient_count, spelling};
 ghost use Rattle.proof_wire.specs.Lists.{HaveShape};
-ghost use Rattle.proof_wire.specs.Trouble.{Foreign, InRange, IsFront, Opens, RefusedFor, element_at};
+ghost use Rattle.proof_wire.specs.Trouble.{Foreign, InRange, BeginWith, Opens, RefusedFor, element_at};
 
 use crate::cutting::cut;
 use crate::form::ProofForm;
@@ -19,7 +19,7 @@ use field_ext::Ext;
 use std::alloc::Global;
 
 /// The messages that the bytes spell by lines, for a circuit of this shape. The refusal names the first trouble from the
-/// front. No more memory is asked for than for the coefficients that are there.
+/// beginning. No more memory is asked for than for the coefficients that are there.
 pub fn decode(alloc: Global, bytes: &[u8], shape: &Shape) -> Result<Messages, ProofRefused>
     ensures of { IfOk result
         (λ messages. HaveShape ProofForm.Line (drop 1 shape.now.ks) messages.layers) }
@@ -34,7 +34,7 @@ pub fn decode(alloc: Global, bytes: &[u8], shape: &Shape) -> Result<Messages, Pr
 }
 
 /// The messages that the bytes spell in this form, for a circuit of this shape. The refusal names the first trouble from
-/// the front. No more memory is asked for than for the coefficients that are there.
+/// the beginning. No more memory is asked for than for the coefficients that are there.
 pub fn decode_as(
     alloc: Global,
     form: ProofForm,
@@ -114,7 +114,7 @@ fn read_elements(
     ensures whole { IfOk result
         (λ elements. (length elements.items < coefficient_count form (drop 1 shape.now.ks))
         → length bytes.now < 12 + 8 * length elements.items) }
-    ensures front { IfOk result (λ elements. IsFront form elements.items bytes.now) }
+    ensures prefix { IfOk result (λ elements. BeginWith form elements.items bytes.now) }
     ensures exact { IfErr result (λ e. RefusedFor form shape.now.ks bytes.now e) }
 {
     let there = (bytes.len() - 4) / 8;

@@ -18,7 +18,7 @@ pub fn one_length()
 {}
 
 /// No proof of a form and a shape is a prefix of a longer one.
-pub fn no_front()
+pub fn no_prefix()
     ensures { (form : ProofForm) (ks : List ℕ) (some others : Messages) (more : List ℕ)
         → HaveShape form (drop 1 ks) some.layers → HaveShape form (drop 1 ks) others.layers
         → spelling form some ++ more ≡ spelling form others → more ≡ [] }

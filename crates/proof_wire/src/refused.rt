@@ -2,7 +2,7 @@
 
 use std::alloc::{AllocError, AllocFailed};
 
-/// What is wrong with bytes that should be a proof: the first trouble from the front.
+/// What is wrong with bytes that should be a proof: the first trouble from the beginning.
 #[derive(Clone, Copy, Debug, PartialEq, Eq)]
 pub enum BadProof {
     /// The byte at `at` is there, and is not that of the form's first four.

@@ -11,7 +11,7 @@ use Rattle.proof_two.specs.declared.pairs.Pairs.{Pairs}
 use Rattle.proof_two.specs.Spelling.{pair_of, layer_elements, all_elements, magic_two, spelling_two}
 use Rattle.proof_two.specs.Lists.{HasPairs, HavePairs}
 use Rattle.proof_two.proofs.api.Lengths.{rounds_length, layer_count}
-use Rattle.proof_wire.proofs.api.Apart.{front_same}
+use Rattle.proof_wire.proofs.api.Apart.{prefix_same}
 use Rattle.proof_wire.proofs.api.Apart.{back_same}
 use Rattle.proof_wire.proofs.api.Apart.{cons_same}
 use Rattle.proof_wire.proofs.api.Apart.{pieces_apart}
@@ -36,7 +36,7 @@ layer_apart : (k : ℕ) (x y : LayerPairs) → HasPairs k x → HasPairs k y →
 layer_apart k x y a b e =
     let size : length (flat_map pair_of x.rounds) ≡ length (flat_map pair_of y.rounds) =
     rounds_length x.rounds ∙ ap (λ n. 2 * n) (a.rounds ∙ sym b.rounds) ∙ sym (rounds_length y.rounds) in
-    let rounds = rounds_apart x.rounds y.rounds (front_same (flat_map pair_of x.rounds) x.last (flat_map pair_of y.rounds) y.last size e) in
+    let rounds = rounds_apart x.rounds y.rounds (prefix_same (flat_map pair_of x.rounds) x.last (flat_map pair_of y.rounds) y.last size e) in
     let last = back_same (flat_map pair_of x.rounds) x.last (flat_map pair_of y.rounds) y.last size e in
     λ i. record { rounds = rounds i; last = last i }
 
@@ -51,7 +51,7 @@ layers_apart (k ∷ ks) (x ∷ xs) (y ∷ ys) a b e =
     let whole : layer_elements x ++ all_elements xs ≡ layer_elements y ++ all_elements ys =
     sym (flat_map-cons layer_elements x xs) ∙ e ∙ flat_map-cons layer_elements y ys in
     cons_same x y xs ys
-    (layer_apart k x y a.0 b.0 (front_same (layer_elements x) (all_elements xs) (layer_elements y) (all_elements ys) size whole))
+    (layer_apart k x y a.0 b.0 (prefix_same (layer_elements x) (all_elements xs) (layer_elements y) (all_elements ys) size whole))
     (layers_apart ks xs ys a.1 b.1 (back_same (layer_elements x) (all_elements xs) (layer_elements y) (all_elements ys) size whole))
 
 pub one_reading : (ks : List ℕ) (some others : Pairs) → HavePairs (drop 1 ks) some.layers → HavePairs (drop 1 ks) others.layers → spelling_two some ≡ spelling_two others → some ≡ others

@@ -37,7 +37,7 @@ any_reading ks (Two a) (One b) p q e = absurd (differ (ap is_two (sym e)) refl)
 any_reading ks (Two a) (Two b) p q e = ap Two (one_reading ks a b p q e)
 
 pub any_front : (ks : List ℕ) (some others : AnyProof) (more : List ℕ) → HasAnyShape ks some → HasAnyShape ks others → any_spelling some ++ more ≡ any_spelling others → more ≡ []
-any_front ks (One a) (One b) more p q e = wire_lengths.no_front Line ks a b more p q e
+any_front ks (One a) (One b) more p q e = wire_lengths.no_prefix Line ks a b more p q e
 any_front ks (One a) (Two b) more p q e = absurd (differ (ap is_two e) refl)
 any_front ks (Two a) (One b) more p q e = absurd (differ (ap is_two (sym e)) refl)
 any_front ks (Two a) (Two b) more p q e = nothing more (omega (arith, length-append (spelling_two a) more, ap length e, spelling_length ks a p, spelling_length ks b q))

@@ -17,8 +17,8 @@ use Rattle.proof_wire.specs.Spelling.{coefficients_of, layer_coefficients, all_c
 use Rattle.proof_wire.specs.Lists.{HasShape, HaveShape}
 use Rattle.proof_wire.proofs.api.Lengths.{rounds_length, layer_count}
 
-pub front_same : {A : Type 0} (xs ys us vs : List A) → length xs ≡ length us → xs ++ ys ≡ us ++ vs → xs ≡ us
-front_same xs ys us vs n e = sym (take-append_seam xs ys) ∙ ap (λ m. take m (xs ++ ys)) n ∙ ap (take (length us)) e ∙ take-append_seam us vs
+pub prefix_same : {A : Type 0} (xs ys us vs : List A) → length xs ≡ length us → xs ++ ys ≡ us ++ vs → xs ≡ us
+prefix_same xs ys us vs n e = sym (take-append_seam xs ys) ∙ ap (λ m. take m (xs ++ ys)) n ∙ ap (take (length us)) e ∙ take-append_seam us vs
 
 pub back_same : {A : Type 0} (xs ys us vs : List A) → length xs ≡ length us → xs ++ ys ≡ us ++ vs → ys ≡ vs
 back_same xs ys us vs n e = sym (drop-append_seam xs ys) ∙ ap (λ m. drop m (xs ++ ys)) n ∙ ap (drop (length us)) e ∙ drop-append_seam us vs
@@ -34,7 +34,7 @@ pieces_apart f n p l a (x ∷ xs) [] e = absurd (omega (arith, p, l x, ap length
 pieces_apart f n p l a (x ∷ xs) (y ∷ ys) e =
     let s : f x ++ flat_map f xs ≡ f y ++ flat_map f ys = sym (flat_map-cons f x xs) ∙ e ∙ flat_map-cons f y ys in
     let m : length (f x) ≡ length (f y) = l x ∙ sym (l y) in
-    cons_same x y xs ys (a x y (front_same (f x) (flat_map f xs) (f y) (flat_map f ys) m s)) (pieces_apart f n p l a xs ys (back_same (f x) (flat_map f xs) (f y) (flat_map f ys) m s))
+    cons_same x y xs ys (a x y (prefix_same (f x) (flat_map f xs) (f y) (flat_map f ys) m s)) (pieces_apart f n p l a xs ys (back_same (f x) (flat_map f xs) (f y) (flat_map f ys) m s))
 
 first_same : (a b c x y z : K) → a ∷ b ∷ c ∷ [] ≡ x ∷ y ∷ z ∷ [] → a ≡ x
 first_same a b c x y z e = cc e
@@ -63,7 +63,7 @@ module _ (form : ProofForm) where
   layer_apart k x y a b e =
       let size : length (flat_map coefficients_of x.rounds) ≡ length (flat_map coefficients_of y.rounds) =
       rounds_length x.rounds ∙ ap (λ n. 3 * n) (a.rounds ∙ sym b.rounds) ∙ sym (rounds_length y.rounds) in
-      let rounds = rounds_apart x.rounds y.rounds (front_same (flat_map coefficients_of x.rounds) x.last (flat_map coefficients_of y.rounds) y.last size e) in
+      let rounds = rounds_apart x.rounds y.rounds (prefix_same (flat_map coefficients_of x.rounds) x.last (flat_map coefficients_of y.rounds) y.last size e) in
       let last = back_same (flat_map coefficients_of x.rounds) x.last (flat_map coefficients_of y.rounds) y.last size e in
       λ i. record { rounds = rounds i; last = last i }
 
@@ -78,7 +78,7 @@ module _ (form : ProofForm) where
       let whole : layer_coefficients x ++ all_coefficients xs ≡ layer_coefficients y ++ all_coefficients ys =
       sym (flat_map-cons layer_coefficients x xs) ∙ e ∙ flat_map-cons layer_coefficients y ys in
       cons_same x y xs ys
-      (layer_apart k x y a.0 b.0 (front_same (layer_coefficients x) (all_coefficients xs) (layer_coefficients y) (all_coefficients ys) size whole))
+      (layer_apart k x y a.0 b.0 (prefix_same (layer_coefficients x) (all_coefficients xs) (layer_coefficients y) (all_coefficients ys) size whole))
       (layers_apart ks xs ys a.1 b.1 (back_same (layer_coefficients x) (all_coefficients xs) (layer_coefficients y) (all_coefficients ys) size whole))
 
   pub one_reading : (ks : List ℕ) (some others : Messages) → HaveShape form (drop 1 ks) some.layers → HaveShape form (drop 1 ks) others.layers → spelling form some ≡ spelling form others → some ≡ others

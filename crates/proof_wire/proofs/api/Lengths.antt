@@ -44,6 +44,6 @@ module _ (form : ProofForm) where
       length-append (magic form) (flat_map bytes_of (all_coefficients messages.layers))
       ∙ ap (λ n. 4 + n) (bytes_length (all_coefficients messages.layers) ∙ ap (λ n. 8 * n) (count_is (drop 1 ks) messages.layers h))
 
-  pub no_front : (ks : List ℕ) (some others : Messages) (more : List ℕ) → HaveShape form (drop 1 ks) some.layers → HaveShape form (drop 1 ks) others.layers →
+  pub no_prefix : (ks : List ℕ) (some others : Messages) (more : List ℕ) → HaveShape form (drop 1 ks) some.layers → HaveShape form (drop 1 ks) others.layers →
       spelling form some ++ more ≡ spelling form others → more ≡ []
-  no_front ks some others more a b e = nothing more (omega (arith, length-append (spelling form some) more, ap length e, spelling_length ks some a, spelling_length ks others b))
+  no_prefix ks some others more a b e = nothing more (omega (arith, length-append (spelling form some) more, ap length e, spelling_length ks some a, spelling_length ks others b))

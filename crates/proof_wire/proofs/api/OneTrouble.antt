@@ -33,7 +33,7 @@ module _ (form : ProofForm) where
   short_range ks bytes at need next f g = g.bad (f.good g.index g.there)
 
   short_long : (ks bytes : List ℕ) (at need extra : ℕ) → EndsEarly form ks bytes at need → GoesOn form ks bytes extra → ⊥
-  short_long ks bytes at need extra f g = omega (arith, f.at_end, f.whole, f.early, g.behind)
+  short_long ks bytes at need extra f g = omega (arith, f.at_end, f.whole, f.early, g.after)
 
   range_long : (ks bytes : List ℕ) (at extra : ℕ) → OutOfRange form ks bytes at → GoesOn form ks bytes extra → ⊥
   range_long ks bytes at extra f g = f.bad (g.good f.index f.among)
@@ -54,4 +54,4 @@ module _ (form : ProofForm) where
   one_trouble ks bytes (Long extra) (Magic next) f g = absurd (opened bytes next f.opens g)
   one_trouble ks bytes (Long extra) (Short at need) f g = absurd (short_long ks bytes at need extra g f)
   one_trouble ks bytes (Long extra) (Range at) f g = absurd (range_long ks bytes at extra g f)
-  one_trouble ks bytes (Long extra) (Long more) f g = ap Long (omega (arith, f.behind, g.behind))
+  one_trouble ks bytes (Long extra) (Long more) f g = ap Long (omega (arith, f.after, g.after))

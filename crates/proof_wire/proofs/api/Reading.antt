@@ -10,17 +10,17 @@ use Rattle.field_ext.specs.Field.{K, prime}
 use Rattle.field_ext.specs.Bytes.{bytes_of, real_half, imaginary_half}
 use Rattle.proof_wire.specs.declared.form.ProofForm.{ProofForm}
 use Rattle.proof_wire.specs.Forms.{magic}
-use Rattle.proof_wire.specs.Trouble.{InRange, IsFront, Opens, element_at}
+use Rattle.proof_wire.specs.Trouble.{InRange, BeginWith, Opens, element_at}
 use Rattle.field_ext.proofs.api.ElementBytes.{below_word}
 
-pub front_none : (form : ProofForm) (bytes : List ℕ) → 4 ≤ length bytes → Opens form bytes → IsFront form [] bytes
-front_none form bytes h o = record { spelled = o ∙ take_all (length bytes) (magic form) h; good = λ i u. absurd (omega (arith, u)) }
+pub prefix_none : (form : ProofForm) (bytes : List ℕ) → 4 ≤ length bytes → Opens form bytes → BeginWith form [] bytes
+prefix_none form bytes h o = record { spelled = o ∙ take_all (length bytes) (magic form) h; good = λ i u. absurd (omega (arith, u)) }
 
 pub last_or_before : (i n : ℕ) → i < n + 1 → (i < n) ⊎ (n ≡ i)
 last_or_before i n h = grind arith
 
-pub front_more : (form : ProofForm) (es : List K) (x : K) (bytes : List ℕ) → InRange bytes (length es) → bytes_of x ≡ element_at bytes (length es) → IsFront form es bytes → IsFront form (es ++ x ∷ []) bytes
-front_more form es x bytes r e f = record {
+pub prefix_more : (form : ProofForm) (es : List K) (x : K) (bytes : List ℕ) → InRange bytes (length es) → bytes_of x ≡ element_at bytes (length es) → BeginWith form es bytes → BeginWith form (es ++ x ∷ []) bytes
+prefix_more form es x bytes r e f = record {
   spelled = ap (λ n. take n bytes) (ap (λ n. 4 + 8 * n) (length-append es (x ∷ [])) ∙ omega arith)
       ∙ take-add (4 + 8 * length es) 8 bytes
       ∙ ap (λ ys. ys ++ element_at bytes (length es)) f.spelled

@@ -25,7 +25,7 @@ module _ (form : ProofForm) where
   faultless ks m (Magic at) a t = t.differs (begins (flat_map bytes_of (all_coefficients m.layers)) at t.early)
   faultless ks m (Short at need) a t = omega (arith, t.at_end, t.whole, t.early, spelling_length form ks m a)
   faultless ks m (Range at) a t = t.bad (spelled_in_range form (all_coefficients m.layers) t.index (subst (λ n. t.index < n) (sym (count_is form (drop 1 ks) m.layers a)) t.among))
-  faultless ks m (Long extra) a t = omega (arith, t.some, t.behind, spelling_length form ks m a)
+  faultless ks m (Long extra) a t = omega (arith, t.some, t.after, spelling_length form ks m a)
 
   pub only_memory : (ks : List ℕ) (m : Messages) (bytes : List ℕ) (e : ProofRefused) → HaveShape form (drop 1 ks) m.layers → bytes ≡ spelling form m → RefusedFor form ks bytes e → e ≡ Memory
   only_memory ks m bytes (Bad trouble) a s t = absurd (faultless ks m trouble a (subst (λ ys. TroubleIs form ks ys trouble) s t))
