@@ -7,3 +7,4 @@ pub mod Replies
 pub mod RunLaws
 pub mod Runs
 pub mod Reported
+pub mod Waiting

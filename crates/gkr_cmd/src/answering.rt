@@ -6,6 +6,7 @@ ghost use Rattle.case_text.specs.declared.form.Form.TheVariants.{Full};
 ghost use Rattle.phase_run.specs.Work.{IsWorkerCount};
 ghost use Rattle.gkr_words.specs.Commands.{HasWorkers};
 ghost use Rattle.gkr_cmd.specs.Replies.{form_of, IsAnswer, IsAuditAnswer, IsCaseReply, IsCircuitAnswer, IsConvertAnswer, IsEvalAnswer, IsVerifyAnswer, IsWithinLimit};
+ghost use Rattle.gkr_cmd.specs.Waiting.{CaseWaits};
 ghost use Rattle.case_prove.specs.Answers.{IsProveAnswer};
 
 use crate::reply_error::ReplyError;
@@ -22,15 +23,33 @@ use std::marker::Sync;
 use std::sync::Wait;
 use std::thread::Threads;
 
-/// The reply of a command to an input that isn't too long.
+/// The reply of a command that doesn't run the prover to an input that isn't too long.
 #[tactic(auto, using(crate::proofs::Replied::answered))]
-pub fn answer<R: Threads + Wait + Sync, G: Gate>(
+pub fn answer_alone(alloc: Global, command: CaseCommand, input: &[u8]) -> Result<Reply, ReplyError>
+    requires alone { ¬ CaseWaits command }
+    requires limit { IsWithinLimit input.now }
+    ensures reply { IfOk result (λ reply. IsCaseReply (form_of command)
+        (IsAnswer command) input.now reply) }
+    ensures fault { result ≢ Err ReplyError.ReadFault }
+{
+    let case = match read_case(alloc, input, form_of(command)) {
+        Ok(case) => case,
+        Err(CaseRefused::Bad(bad)) => return Ok(Reply::Case(bad)),
+        Err(CaseRefused::Memory) => return Err(ReplyError::Memory),
+    };
+    answer_case_alone(alloc, command, &case)
+}
+
+/// The reply of a command that runs the prover to an input that isn't too long.
+#[tactic(auto, using(crate::proofs::Replied::answered))]
+pub fn answer_waiting<R: Threads + Wait + Sync, G: Gate>(
     rt: &R,
     alloc: Global,
     command: CaseCommand,
     input: &[u8],
     gate: &G,
 ) -> Result<Reply, ReplyError>
+    requires waits { CaseWaits command }
     requires workers { HasWorkers (Command.OfCase command) }
     requires limit { IsWithinLimit input.now }
     ensures reply { IfOk result (λ reply. IsCaseReply (form_of command)
@@ -42,7 +61,7 @@ pub fn answer<R: Threads + Wait + Sync, G: Gate>(
         Err(CaseRefused::Bad(bad)) => return Ok(Reply::Case(bad)),
         Err(CaseRefused::Memory) => return Err(ReplyError::Memory),
     };
-    answer_case(rt, alloc, command, &case, gate)
+    answer_case_waiting(rt, alloc, command, &case, gate)
 }
 
 /// The form of the case that a command reads.
@@ -55,15 +74,9 @@ fn form_of(command: CaseCommand) -> Form
     }
 }
 
-/// What a command says of a case.
-fn answer_case<R: Threads + Wait + Sync, G: Gate>(
-    rt: &R,
-    alloc: Global,
-    command: CaseCommand,
-    case: &Case,
-    gate: &G,
-) -> Result<Reply, ReplyError>
-    requires workers { HasWorkers (Command.OfCase command) }
+/// What a command that doesn't run the prover says of a case.
+fn answer_case_alone(alloc: Global, command: CaseCommand, case: &Case) -> Result<Reply, ReplyError>
+    requires alone { ¬ CaseWaits command }
     requires outputs { Allows (form_of command) case.now.outputs }
     requires proof { Allows (form_of command) case.now.proof }
     ensures reply { IfOk result (λ reply. IsAnswer command case.now reply) }
@@ -72,10 +85,31 @@ fn answer_case<R: Threads + Wait + Sync, G: Gate>(
     match command {
         CaseCommand::Eval => evaluate(alloc, case),
         CaseCommand::Circuit => lay_out(alloc, case),
-        CaseCommand::Prove { workers, kind } => prove(rt, alloc, case, kind, workers, gate),
         CaseCommand::Verify => verify(alloc, case),
-        CaseCommand::Audit => audit(rt, alloc, case),
         CaseCommand::Convert(version) => convert(alloc, case, version),
+        CaseCommand::Prove { .. } | CaseCommand::Audit => unreachable!(),
+    }
+}
+
+/// What a command that runs the prover says of a case.
+fn answer_case_waiting<R: Threads + Wait + Sync, G: Gate>(
+    rt: &R,
+    alloc: Global,
+    command: CaseCommand,
+    case: &Case,
+    gate: &G,
+) -> Result<Reply, ReplyError>
+    requires waits { CaseWaits command }
+    requires workers { HasWorkers (Command.OfCase command) }
+    requires outputs { Allows (form_of command) case.now.outputs }
+    requires proof { Allows (form_of command) case.now.proof }
+    ensures reply { IfOk result (λ reply. IsAnswer command case.now reply) }
+    ensures fault { result ≢ Err ReplyError.ReadFault }
+{
+    match command {
+        CaseCommand::Prove { workers, kind } => prove(rt, alloc, case, kind, workers, gate),
+        CaseCommand::Audit => audit(rt, alloc, case),
+        _ => unreachable!(),
     }
 }
 

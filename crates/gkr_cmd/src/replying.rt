@@ -1,16 +1,18 @@
 //! Making the whole reply.
 
-ghost use Rattle.std.specs.Prelude.{◌≡◌, ◌≢◌, ◌↔◌, ◌+◌, List, ℕ, IfOk, IfSome, OnOk, IsErrOf, None, Some, Ok, Err};
+ghost use Rattle.std.specs.Prelude.{◌≡◌, ◌≢◌, ◌↔◌, ◌+◌, List, ℕ, length, ◌<◌, ◌≤◌, true, false, IfOk, IfSome, OnOk, IsErrOf, None, Some, Ok, Err};
 ghost use Rattle.io_edge.specs.Causes.{Rose};
-ghost use Rattle.gkr_words.specs.Commands.{HasPiece, HasWorkers, IsService, ReadsCase, case_limit, input_limit, read_buffer};
+ghost use Rattle.gkr_words.specs.Commands.{HasPiece, HasWorkers, ReadsCase, case_limit, input_limit, read_buffer};
 ghost use Rattle.gkr_cmd.specs.Reached.{IsReadUpTo, ReadsWithin};
 ghost use Rattle.gkr_cmd.specs.Replies.{IsCommandReply, status_of};
 ghost use Rattle.gkr_cmd.specs.Runs.{IsInput};
+ghost use Rattle.gkr_cmd.specs.Waiting.{CaseWaits, Waits};
 
-use crate::answering::answer;
+use crate::answering::{answer_alone, answer_waiting};
 use crate::demo::demo;
 use crate::input::read_input;
 use crate::reply_error::ReplyError;
+use crate::serving::reply_service;
 use crate::session::run_session;
 use crate::status::Status;
 use case_text::Reply;
@@ -24,15 +26,21 @@ use std::thread::Threads;
 /// The most bytes of a case.
 pub(crate) const CASE_LIMIT: u32 = 4_194_304;
 
-/// The reply of a command on a case to what it reads.
-fn run_command<R: Threads + Wait + Sync, S: Source, G: Gate>(
-    rt: &R,
+/// Whether these are more bytes than those of a case.
+fn is_too_long(input: &[u8]) -> bool
+    ensures long { result ≡ true → case_limit < length input.now }
+    ensures short { result ≡ false → length input.now ≤ case_limit }
+{
+    input.len() > CASE_LIMIT as usize
+}
+
+/// The reply of a command on a case that doesn't run the prover to what it reads.
+fn run_case_alone<S: Source>(
     alloc: Global,
     command: CaseCommand,
     source: &mut S,
-    gate: &G,
 ) -> Result<Reply, ReplyError>
-    requires { HasWorkers (Command.OfCase command) }
+    requires alone { ¬ CaseWaits command }
     ensures reply { IfOk result (λ reply. (input : List ℕ) → S.left source.old ≡ Some input
         → IsCommandReply (Some (Command.OfCase command)) input reply) }
     ensures named { IfOk result (λ reply. status_of reply ≢ Status.Usage) }
@@ -46,14 +54,43 @@ fn run_command<R: Threads + Wait + Sync, S: Source, G: Gate>(
         → S.faults source.new ≡ S.faults source.old }
 {
     let input = read_input(alloc, source, CASE_LIMIT as usize)?;
-    if input.len() > CASE_LIMIT as usize {
+    if is_too_long(&input) {
         return Ok(Reply::TooLong(CASE_LIMIT));
     }
-    answer(rt, alloc, command, &input, gate)
+    answer_alone(alloc, command, &input)
 }
 
-/// The reply to a command other than `serve`, or to words that are no command, and to what it reads.
-pub fn reply_alone<R: Threads + Wait + Sync, S: Source, G: Gate>(
+/// The reply of a command on a case that runs the prover to what it reads.
+fn run_case_waiting<R: Threads + Wait + Sync, S: Source, G: Gate>(
+    rt: &R,
+    alloc: Global,
+    command: CaseCommand,
+    source: &mut S,
+    gate: &G,
+) -> Result<Reply, ReplyError>
+    requires waits { CaseWaits command }
+    requires workers { HasWorkers (Command.OfCase command) }
+    ensures reply { IfOk result (λ reply. (input : List ℕ) → S.left source.old ≡ Some input
+        → IsCommandReply (Some (Command.OfCase command)) input reply) }
+    ensures named { IfOk result (λ reply. status_of reply ≢ Status.Usage) }
+    ensures read { OnOk result (IsReadUpTo (case_limit + 1) (S.left source.old)
+        (S.left source.new)) }
+    ensures within { ReadsWithin (case_limit + 1) read_buffer (S.left source.old)
+        (S.left source.new) (S.calls source.old) (S.calls source.new) }
+    ensures fault { IsErrOf result ReplyError.ReadFault
+        → Rose (S.faults source.old) (S.faults source.new) }
+    ensures no_fault { result ≢ Err ReplyError.ReadFault
+        → S.faults source.new ≡ S.faults source.old }
+{
+    let input = read_input(alloc, source, CASE_LIMIT as usize)?;
+    if is_too_long(&input) {
+        return Ok(Reply::TooLong(CASE_LIMIT));
+    }
+    answer_waiting(rt, alloc, command, &input, gate)
+}
+
+/// The reply to a command that waits for no thread, or to words that are no command, and to what it reads.
+pub fn reply_alone<R: Threads + Sync, S: Source, G: Gate>(
     rt: &R,
     alloc: Global,
     command: Option<Command>,
@@ -62,7 +99,7 @@ pub fn reply_alone<R: Threads + Wait + Sync, S: Source, G: Gate>(
 ) -> Result<Reply, ReplyError>
     requires workers { IfSome command HasWorkers }
     requires piece { IfSome command HasPiece }
-    requires alone { ¬ IsService command }
+    requires alone { ¬ Waits command }
     ensures reply { IfOk result (λ reply. (input : List ℕ)
         → IsInput command (S.left source.old) input → IsCommandReply command input reply) }
     ensures usage { IfOk result (λ reply. (status_of reply ≡ Status.Usage) ↔ (command ≡ None)) }
@@ -78,11 +115,43 @@ pub fn reply_alone<R: Threads + Wait + Sync, S: Source, G: Gate>(
 {
     match command {
         None => Ok(Reply::Usage),
-        Some(Command::OfCase(command)) => run_command(rt, alloc, command, source, gate),
-        Some(Command::Demo { number, workers }) => demo(rt, alloc, number, workers, gate),
+        Some(Command::OfCase(command)) => run_case_alone(alloc, command, source),
         Some(Command::Session { piece, workers }) => {
             run_session(rt, alloc, piece, workers, source, gate)
         }
-        Some(Command::Serve { .. } | Command::ServeHistory { .. }) => unreachable!(),
+        _ => unreachable!(),
+    }
+}
+
+/// The reply to a command that may wait for threads, and to what it reads.
+pub fn reply_waiting<R: Threads + Wait + Sync, S: Source, G: Gate>(
+    rt: &R,
+    alloc: Global,
+    command: Option<Command>,
+    source: &mut S,
+    gate: &G,
+) -> Result<Reply, ReplyError>
+    requires workers { IfSome command HasWorkers }
+    requires waits { Waits command }
+    ensures reply { IfOk result (λ reply. (input : List ℕ)
+        → IsInput command (S.left source.old) input → IsCommandReply command input reply) }
+    ensures usage { IfOk result (λ reply. (status_of reply ≡ Status.Usage) ↔ (command ≡ None)) }
+    ensures read { ReadsCase command → OnOk result (IsReadUpTo (input_limit command + 1)
+        (S.left source.old) (S.left source.new)) }
+    ensures within { ReadsCase command → ReadsWithin (input_limit command + 1) read_buffer
+        (S.left source.old) (S.left source.new) (S.calls source.old) (S.calls source.new) }
+    ensures unread { ¬ ReadsCase command → source.new ≡ source.old }
+    ensures fault { IsErrOf result ReplyError.ReadFault
+        → Rose (S.faults source.old) (S.faults source.new) }
+    ensures no_fault { result ≢ Err ReplyError.ReadFault
+        → S.faults source.new ≡ S.faults source.old }
+{
+    match command {
+        Some(Command::OfCase(command)) => run_case_waiting(rt, alloc, command, source, gate),
+        Some(Command::Demo { number, workers }) => demo(rt, alloc, number, workers, gate),
+        Some(Command::Serve { .. } | Command::ServeHistory { .. }) => {
+            reply_service(rt, alloc, command, source, gate)
+        }
+        _ => unreachable!(),
     }
 }

@@ -1,17 +1,17 @@
 //! The whole program.
 
 ghost use Rattle.std.specs.Prelude.{◌≡◌, IfNone, IfSome, map, string_bytes};
-ghost use Rattle.gkr_words.specs.Commands.{HasWorkers, IsService, ReadsCase, command_of};
+ghost use Rattle.gkr_words.specs.Commands.{HasWorkers, ReadsCase, command_of};
 ghost use Rattle.gkr_cmd.specs.Headline.{KeepsPromises};
 ghost use Rattle.gkr_cmd.specs.RunLaws.{RunLaws};
+ghost use Rattle.gkr_cmd.specs.Waiting.{Waits};
 
 use crate::laws::{
     accepted_is_done, audited_is_done, converted_replies_alike, convertible_is_done, demo_is_done,
     evaluable_is_done, laid_out_is_done, provable_is_done, session_is_done,
 };
 use crate::output::finish;
-use crate::replying::reply_alone;
-use crate::serving::reply_service;
+use crate::replying::{reply_alone, reply_waiting};
 use crate::status::Status;
 use case_prove::laws::{
     accepted_falsehood_is_named, audit_has_the_verdict, audit_is_one, audit_says_the_meaning,
@@ -19,7 +19,7 @@ use case_prove::laws::{
     proved_is_unnamed, sound,
 };
 use case_text::laws::read_exactly;
-use gkr_words::{Command, named_command};
+use gkr_words::{CaseCommand, Command, named_command};
 use io_edge::{Gate, Sink, Source};
 use std::alloc::Global;
 use std::marker::Sync;
@@ -53,12 +53,12 @@ fn run_laws()
     read_exactly();
 }
 
-/// Runs the command that the words name, unless that is `serve`, as `gkr_run` does.
+/// Runs the command that the words name, unless that runs the prover or is `serve`, as `gkr_run` does.
 ///
-/// No bound lets it wait, so it returns. None is answered where the words name `serve`, and then
-/// nothing was read or written.
+/// No bound lets it wait, so it returns. None is answered where the words name another command, and
+/// then nothing was read or written.
 #[tactic(auto, using(crate::proofs::InputReads::none_within))]
-pub fn run_alone<R: Threads + Wait + Sync, S: Source, K: Sink, G: Gate>(
+pub fn run_alone<R: Threads + Sync, S: Source, K: Sink, G: Gate>(
     rt: &R,
     alloc: Global,
     words: &[String],
@@ -86,7 +86,7 @@ pub fn run_alone<R: Threads + Wait + Sync, S: Source, K: Sink, G: Gate>(
     })) }
     ensures unread { ¬ ReadsCase (command_of (map string_bytes words.now))
         → source.new ≡ source.old }
-    ensures service { IfNone result (IsService (command_of (map string_bytes words.now))) }
+    ensures waits { IfNone result (Waits (command_of (map string_bytes words.now))) }
     ensures untaken { IfNone result (source.new ≡ source.old) }
     ensures unwritten { IfNone result (sink.new ≡ sink.old) }
 {
@@ -94,16 +94,22 @@ pub fn run_alone<R: Threads + Wait + Sync, S: Source, K: Sink, G: Gate>(
     let Ok(command) = named_command(alloc, words) else {
         return Some(Status::Memory);
     };
-    if let Some(Command::Serve { .. } | Command::ServeHistory { .. }) = command {
+    if let Some(
+        Command::OfCase(CaseCommand::Prove { .. } | CaseCommand::Audit)
+        | Command::Demo { .. }
+        | Command::Serve { .. }
+        | Command::ServeHistory { .. },
+    ) = command
+    {
         return None;
     }
     let made = reply_alone(rt, alloc, command, source, gate);
     Some(finish(alloc, made, sink))
 }
 
-/// Runs the command `serve`, which the words name.
+/// Runs the command that the words name, which runs the prover or is `serve`.
 #[tactic(auto, using(crate::proofs::InputReads::none_within))]
-fn run_service<R: Threads + Wait + Sync, S: Source, K: Sink, G: Gate>(
+fn run_waiting<R: Threads + Wait + Sync, S: Source, K: Sink, G: Gate>(
     rt: &R,
     alloc: Global,
     words: &[String],
@@ -111,7 +117,7 @@ fn run_service<R: Threads + Wait + Sync, S: Source, K: Sink, G: Gate>(
     sink: &mut K,
     gate: &G,
 ) -> Status
-    requires service { IsService (command_of (map string_bytes words.now)) }
+    requires waits { Waits (command_of (map string_bytes words.now)) }
     ensures run { KeepsPromises (record {
       words = map string_bytes words.now;
       before = record {
@@ -130,18 +136,21 @@ fn run_service<R: Threads + Wait + Sync, S: Source, K: Sink, G: Gate>(
       };
       ended = result;
     }) }
+    ensures unread { ¬ ReadsCase (command_of (map string_bytes words.now))
+        → source.new ≡ source.old }
 {
     run_laws();
     let Ok(command) = named_command(alloc, words) else {
         return Status::Memory;
     };
-    let made = reply_service(rt, alloc, command, source, gate);
+    let made = reply_waiting(rt, alloc, command, source, gate);
     finish(alloc, made, sink)
 }
 
 /// Runs the command that the words name: reads the whole input, makes the whole reply, writes it.
 ///
-/// The threads of `serve` wait for each other. All other commands run in `run_alone`, which returns.
+/// Workers that are kept wait for each other, and so do the threads of `serve`. Commands that run no
+/// prover are run by `run_alone`, which returns.
 pub fn gkr_run<R: Threads + Wait + Sync, S: Source, K: Sink, G: Gate>(
     rt: &R,
     alloc: Global,
@@ -175,6 +184,6 @@ pub fn gkr_run<R: Threads + Wait + Sync, S: Source, K: Sink, G: Gate>(
 {
     match run_alone(rt, alloc, words, source, sink, gate) {
         Some(status) => status,
-        None => run_service(rt, alloc, words, source, sink, gate),
+        None => run_waiting(rt, alloc, words, source, sink, gate),
     }
 }

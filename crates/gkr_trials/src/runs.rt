@@ -1,6 +1,6 @@
 //! Runs of the commands in memory.
 
-use gkr_cmd::{Status, run_alone};
+use gkr_cmd::{Status, gkr_run};
 use io_edge::{OpenGate, SteadySink, SteadySource};
 use std::alloc::{AllocError, Global};
 use std::marker::Sync;
@@ -31,8 +31,7 @@ pub fn run<R: Threads + Wait + Sync>(
     }
     let mut source = SteadySource::new(alloc, input, 4096)?;
     let mut sink = SteadySink::new(alloc, CAPACITY)?;
-    let ended = run_alone(rt, alloc, &owned, &mut source, &mut sink, &OpenGate);
-    let status = ended.unwrap_or(Status::Usage);
+    let status = gkr_run(rt, alloc, &owned, &mut source, &mut sink, &OpenGate);
     if status == Status::Memory {
         return Err(AllocError);
     }
