@@ -7,7 +7,7 @@ use Rattle.proof_two.specs.declared.kind.ProofVersion.{ProofVersion}
 use Rattle.proof_two.specs.Kinds.{kind_spelling}
 use Rattle.case_text.specs.Content.{Content, Fits}
 use Rattle.case_text.specs.Spelling.{Spells, lower_case_text}
-use Rattle.case_text.specs.declared.form.Form.TheVariants.{Full}
+use Rattle.case_text.specs.declared.case.form.Form.TheVariants.{Full}
 use Rattle.case_prove.specs.Converted.{IsConverted}
 use Rattle.case_prove.proofs.api.ProvedOutputs.{sound}
 use Rattle.case_prove.proofs.ProvedSizes.{few_outputs, fits, kind_length}

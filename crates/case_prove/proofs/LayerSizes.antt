@@ -3,7 +3,7 @@ use Rattle.std.proofs.Common.{◌≡◌, ℕ, ◌+◌, List, [], ◌∷◌, ◌+
 use Rattle.std.specs.List.{range_with_len}
 use Rattle.std.proofs.lemmas.List.FromFn.{map-range_with_len_more}
 use Rattle.circuit_core.specs.Parts.{Parts}
-use Rattle.case_text.specs.declared.sizes.LayerSize.{LayerSize}
+use Rattle.case_text.specs.declared.reply.sizes.LayerSize.{LayerSize}
 use Rattle.case_prove.specs.Circuits.{layer_size}
 
 pub one_more : (p : Parts) (layer : ℕ) (size : LayerSize) (old new : List LayerSize) → old ≡ map (layer_size p) (range_with_len 0 layer) → new ≡ old ++ size ∷ [] → size ≡ layer_size p layer

@@ -23,7 +23,7 @@ use Rattle.proof_two.specs.Spelling.{all_elements, magic_two}
 use Rattle.case_text.specs.Rules.{after_value}
 use Rattle.case_text.specs.Content.{Content, Fits}
 use Rattle.case_text.specs.Spelling.{header, number, program_text, values_text, counted_text, outputs_text, proof_text, last_line, lower_case_text, Spells}
-use Rattle.case_text.specs.declared.form.Form.TheVariants.{Full}
+use Rattle.case_text.specs.declared.case.form.Form.TheVariants.{Full}
 use Rattle.case_text.proofs.api.HexWriting.{lower_is_hex, lower_spells}
 
 -- ---- the bytes of a proof are bytes

@@ -13,7 +13,7 @@ use Rattle.proof_wire.specs.Spelling.{length_of}
 use Rattle.arr_compile.specs.Circuits.{IsCompiled, IsCircuitRefusal}
 use Rattle.case_text.specs.Content.{Content}
 use Rattle.case_text.specs.Sizes.{Sizes}
-use Rattle.case_text.specs.declared.sizes.LayerSize.{LayerSize}
+use Rattle.case_text.specs.declared.reply.sizes.LayerSize.{LayerSize}
 use Rattle.case_prove.specs.declared.refused.Refused.{Refused}
 use Rattle.case_prove.specs.declared.refused.Refused.TheVariants.{Program, Input, Output, Proof, Memory}
 

@@ -21,7 +21,7 @@ ghost use Rattle.audit_core.specs.Audit.{names_nothing};
 ghost use Rattle.audit_core.specs.declared.report.Audit.{Audit};
 ghost use Rattle.case_text.specs.Content.{Content, Fits};
 ghost use Rattle.case_text.specs.Spelling.{Spells, lower_case_text};
-ghost use Rattle.case_text.specs.declared.form.Form.TheVariants.{Full};
+ghost use Rattle.case_text.specs.declared.case.form.Form.TheVariants.{Full};
 ghost use Rattle.case_prove.specs.Audited.{IsAudited};
 ghost use Rattle.case_prove.specs.Proved.{IsProved};
 ghost use Rattle.case_prove.specs.Sound.{HasExceptionalChallenge, HasMeaning};

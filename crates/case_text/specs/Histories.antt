@@ -1,8 +1,8 @@
 -- The history of a script's jobs.
 use Rattle.std.specs.Prelude.{ℕ, ◌+◌, Bool, true, false, cond, List, [], ◌∷◌}
 use Rattle.case_text.specs.Served.{Served}
-use Rattle.case_text.specs.declared.history.HistoryLine.{HistoryLine}
-use Rattle.case_text.specs.declared.history.HistoryLine.TheVariants.{Submit, Take, Finish, Withdraw}
+use Rattle.case_text.specs.declared.reply.history.HistoryLine.{HistoryLine}
+use Rattle.case_text.specs.declared.reply.history.HistoryLine.TheVariants.{Submit, Take, Finish, Withdraw}
 
 -- the replies to the jobs, in the script's order, and what happened to them, in order too
 pub record History : Type 0 where

@@ -9,10 +9,10 @@ use Rattle.text_parts.specs.declared.stop.ReadError.{ReadError}
 use Rattle.text_parts.specs.declared.stop.ReadError.TheVariants as errors
 use Rattle.text_parts.specs.Bytes.{initial, newline}
 use Rattle.text_parts.specs.Parts.{Taking, ◌>>=◌, at_end, counted_bytes_at, decimal_at, each_at, in_order, word_at}
-use Rattle.case_text.specs.declared.refusal.BadCase.{BadCase}
-use Rattle.case_text.specs.declared.refusal.CaseRefused.{CaseRefused}
-use Rattle.case_text.specs.declared.refusal.CaseRefused.TheVariants as refusals
-use Rattle.case_text.specs.declared.form.Form.{Form}
+use Rattle.case_text.specs.declared.case.refusal.BadCase.{BadCase}
+use Rattle.case_text.specs.declared.case.refusal.CaseRefused.{CaseRefused}
+use Rattle.case_text.specs.declared.case.refusal.CaseRefused.TheVariants as refusals
+use Rattle.case_text.specs.declared.case.form.Form.{Form}
 use Rattle.case_text.specs.Rules.{text_length, value_count, value_rule, proof_length}
 use Rattle.case_text.specs.Content.{Content}
 use Rattle.case_text.specs.Spelling.{header, last_line}

@@ -9,19 +9,19 @@ use Rattle.proof_wire.specs.declared.refused.BadProof.TheVariants as proofs
 use Rattle.text_parts.specs.declared.due.DueKind.{DueKind}
 use Rattle.text_parts.specs.declared.due.DueKind.TheVariants as kinds
 use Rattle.text_parts.specs.Bytes.{comma, newline, space}
-use Rattle.case_text.specs.declared.demo.DemoSummary.{DemoSummary}
-use Rattle.case_text.specs.declared.session.SessionSizes.{SessionSizes}
-use Rattle.case_text.specs.declared.sizes.LayerSize.{LayerSize}
-use Rattle.case_text.specs.declared.verdict.VerdictLine.{VerdictLine}
-use Rattle.case_text.specs.declared.verdict.VerdictLine.TheVariants as verdicts
-use Rattle.case_text.specs.declared.verdict.MessagePlace.{MessagePlace}
-use Rattle.case_text.specs.declared.verdict.MessagePlace.TheVariants.{Round, Line}
-use Rattle.case_text.specs.declared.verdict.AuditLines.{AuditLines}
+use Rattle.case_text.specs.declared.reply.demo.DemoSummary.{DemoSummary}
+use Rattle.case_text.specs.declared.reply.session.SessionSizes.{SessionSizes}
+use Rattle.case_text.specs.declared.reply.sizes.LayerSize.{LayerSize}
+use Rattle.case_text.specs.declared.reply.verdict.VerdictLine.{VerdictLine}
+use Rattle.case_text.specs.declared.reply.verdict.VerdictLine.TheVariants as verdicts
+use Rattle.case_text.specs.declared.reply.verdict.MessagePlace.{MessagePlace}
+use Rattle.case_text.specs.declared.reply.verdict.MessagePlace.TheVariants.{Round, Line}
+use Rattle.case_text.specs.declared.reply.verdict.AuditLines.{AuditLines}
 use Rattle.case_text.specs.Sizes.{Sizes}
 use Rattle.case_text.specs.Served.{Served, proved_count}
 use Rattle.case_text.specs.Histories.{History, withdrawn_count}
-use Rattle.case_text.specs.declared.history.HistoryLine.{HistoryLine}
-use Rattle.case_text.specs.declared.history.HistoryLine.TheVariants.{Submit, Take, Finish, Withdraw}
+use Rattle.case_text.specs.declared.reply.history.HistoryLine.{HistoryLine}
+use Rattle.case_text.specs.declared.reply.history.HistoryLine.TheVariants.{Submit, Take, Finish, Withdraw}
 use Rattle.case_text.specs.declared.reply.Reply.{Reply}
 use Rattle.case_text.specs.declared.reply.Reply.TheVariants as replies
 use Rattle.case_text.specs.Spelling.{number, counted_text, lower_case_text}

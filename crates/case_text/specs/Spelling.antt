@@ -4,7 +4,7 @@ use Rattle.std.specs.List.{concat}
 use Rattle.field_ext.specs.Field.{F}
 use Rattle.text_parts.specs.Bytes.{newline}
 use Rattle.case_text.specs.Rules.{after_value}
-use Rattle.case_text.specs.declared.form.Form.{Form}
+use Rattle.case_text.specs.declared.case.form.Form.{Form}
 use Rattle.case_text.specs.Hex.{IsHexOf, lower_digits}
 use Rattle.case_text.specs.Forms.{Allows}
 use Rattle.case_text.specs.Content.{Content, Fits}

@@ -1,5 +1,11 @@
 //! Cases, by their parts.
 
+pub(crate) mod form;
+pub(crate) mod reading;
+pub(crate) mod refusal;
+mod rules;
+pub(crate) mod writing;
+
 use field_ext::Fp;
 use std::marker::Model;
 

@@ -1,12 +1,12 @@
 //! What holds of case text by its definitions alone.
 
 ghost use Rattle.std.specs.Prelude.{◌≡◌, ◌↔◌, List, [], ◌++◌, ℕ, Ok, Err};
-ghost use Rattle.case_text.specs.declared.form.Form.{Form};
+ghost use Rattle.case_text.specs.declared.case.form.Form.{Form};
 ghost use Rattle.case_text.specs.Content.{Content};
 ghost use Rattle.case_text.specs.Spelling.{Spells};
 ghost use Rattle.case_text.specs.Reading.{reading};
 ghost use Rattle.text_parts.specs.Places.{IsPlace};
-ghost use Rattle.case_text.specs.declared.refusal.BadCase.{BadCase};
+ghost use Rattle.case_text.specs.declared.case.refusal.BadCase.{BadCase};
 
 /// Bytes spell at most one case.
 pub fn one_case()

@@ -8,34 +8,20 @@
 #![tactic(auto)]
 
 mod case;
-mod demo;
-mod form;
-mod history;
-mod outputs;
-mod refusal;
-mod rules;
-mod served;
-mod session;
-mod sizes;
+pub mod laws;
+mod reply;
 
 pub use case::Case;
-pub use demo::DemoSummary;
-pub use form::Form;
-pub use history::{HistoryLine, ServedHistory, write_history};
-pub use outputs::Outputs;
-pub use reading::{case_of, counted, read_case};
+pub use case::form::Form;
+pub use case::reading::{case_of, counted, read_case};
+pub use case::refusal::{BadCase, CaseRefused, refusal_of};
+pub use case::writing::write_case;
+pub use reply::demo::DemoSummary;
+pub use reply::history::{HistoryLine, ServedHistory, write_history};
+pub use reply::outputs::Outputs;
+pub use reply::served::{ServedJob, ServedJobs, write_served};
+pub use reply::session::SessionSizes;
+pub use reply::sizes::{CircuitSizes, LayerSize};
+pub use reply::verdict::{AuditLines, MessagePlace, VerdictLine};
 pub use reply::{Reply, write_reply};
-
-pub mod laws;
-mod reading;
-mod reply;
-mod verdict;
-mod writing;
-
-pub use refusal::{BadCase, CaseRefused, refusal_of};
-pub use served::{ServedJob, ServedJobs, write_served};
-pub use session::SessionSizes;
-pub use sizes::{CircuitSizes, LayerSize};
 pub use text_parts::DueKind;
-pub use verdict::{AuditLines, MessagePlace, VerdictLine};
-pub use writing::write_case;

@@ -3,16 +3,24 @@
 ghost use Rattle.std.specs.Prelude.{◌≡◌, ◌-◌, ◌++◌, IfOk, OnOk, length};
 ghost use Rattle.case_text.specs.Replies.{reply_text, sizes_text, layer_lines, line_text, pair_text, totals_text, bad_proof_text, digest_text, generated_text, proved_text, demo_text, kind_name, program_kind_name};
 
+pub(crate) mod demo;
+pub(crate) mod history;
+pub(crate) mod outputs;
+pub(crate) mod served;
+pub(crate) mod session;
+pub(crate) mod sizes;
+pub(crate) mod verdict;
+
 use crate::case::Case;
-use crate::demo::DemoSummary;
-use crate::history::{ServedHistory, write_history};
-use crate::outputs::Outputs;
-use crate::refusal::BadCase;
-use crate::served::{ServedJobs, write_served};
-use crate::session::{SessionSizes, put_session};
-use crate::sizes::{CircuitSizes, LayerSize};
-use crate::verdict::{AuditLines, VerdictLine, put_audit, put_verdict};
-use crate::writing::{hex_text, put_counted, put_number, write_case};
+use crate::case::refusal::BadCase;
+use crate::case::writing::{hex_text, put_counted, put_number, write_case};
+use crate::reply::demo::DemoSummary;
+use crate::reply::history::{ServedHistory, write_history};
+use crate::reply::outputs::Outputs;
+use crate::reply::served::{ServedJobs, write_served};
+use crate::reply::session::{SessionSizes, put_session};
+use crate::reply::sizes::{CircuitSizes, LayerSize};
+use crate::reply::verdict::{AuditLines, VerdictLine, put_audit, put_verdict};
 use arr_ast::ProgramKind;
 use proof_wire::BadProof;
 use std::alloc::{AllocError, Global};

@@ -1,13 +1,13 @@
 -- Where `verify` ends well the case is accepted, and if its outputs aren't the meaning, some challenge is exceptional.
 use Rattle.std.proofs.Common.{◌≡◌, ℕ, List, subst, Option, Some, Ok, refl}
-use Rattle.case_text.specs.declared.form.Form.TheVariants.{Full}
+use Rattle.case_text.specs.declared.case.form.Form.TheVariants.{Full}
 use Rattle.case_text.specs.Content.{Content}
 use Rattle.case_text.specs.Reading.{reading}
 use Rattle.case_text.specs.declared.reply.Reply.{Reply}
 use Rattle.case_text.specs.declared.reply.Reply.TheVariants as replies
 use Rattle.case_prove.specs.Sound.{HasExceptionalChallenge, HasMeaning}
 use Rattle.case_prove.specs.Verified.{HasAcceptedProof, IsVerdictOn, proof_form}
-use Rattle.case_text.specs.declared.verdict.VerdictLine.TheVariants as reported
+use Rattle.case_text.specs.declared.reply.verdict.VerdictLine.TheVariants as reported
 use Rattle.gkr_layers.specs.declared.verdict.Verdict.{Verdict}
 use Rattle.gkr_layers.specs.declared.verdict.Verdict.TheVariants as verdicts
 use Rattle.gkr_cmd.specs.declared.status.Status.TheVariants.{Done}

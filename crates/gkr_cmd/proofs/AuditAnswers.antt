@@ -4,10 +4,10 @@ use Rattle.io_edge.specs.Written.{Grows}
 use Rattle.proof_wire.specs.declared.form.ProofForm.TheVariants.{Line}
 use Rattle.audit_core.specs.declared.report.Audit.{Audit}
 use Rattle.case_text.specs.Content.{Content}
-use Rattle.case_text.specs.declared.form.Form.TheVariants.{Full}
+use Rattle.case_text.specs.declared.case.form.Form.TheVariants.{Full}
 use Rattle.case_text.specs.declared.reply.Reply.{Reply}
 use Rattle.case_text.specs.declared.reply.Reply.TheVariants as replies
-use Rattle.case_text.specs.declared.verdict.AuditLines.{AuditLines}
+use Rattle.case_text.specs.declared.reply.verdict.AuditLines.{AuditLines}
 use Rattle.case_prove.specs.Audited.{IsAudited}
 use Rattle.gkr_cmd.specs.declared.status.Status.TheVariants.{Done}
 use Rattle.gkr_words.specs.declared.words.Command.{Command}

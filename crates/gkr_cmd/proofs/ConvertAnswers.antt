@@ -18,10 +18,10 @@ use Rattle.case_text.specs.Content.{Content}
 use Rattle.case_text.specs.Reading.{reading}
 use Rattle.case_text.specs.Replies.{reply_text}
 use Rattle.case_text.specs.Spelling.{lower_case_text}
-use Rattle.case_text.specs.declared.form.Form.TheVariants.{Full}
+use Rattle.case_text.specs.declared.case.form.Form.TheVariants.{Full}
 use Rattle.case_text.specs.declared.reply.Reply.{Reply}
 use Rattle.case_text.specs.declared.reply.Reply.TheVariants as replies
-use Rattle.case_text.specs.declared.verdict.VerdictLine.{VerdictLine}
+use Rattle.case_text.specs.declared.reply.verdict.VerdictLine.{VerdictLine}
 use Rattle.case_prove.specs.Converted.{FailsSum, IsConverted, own_sums}
 use Rattle.case_prove.specs.Verified.{HasProof, IsVerdictOn, Says, transcript_verdict}
 use Rattle.gkr_cmd.specs.declared.status.Status.TheVariants.{Done}

@@ -4,7 +4,7 @@ use Rattle.field_ext.specs.Field.{F}
 use Rattle.sha2.specs.Sha256.{sha256}
 use Rattle.circuit_core.specs.Parts.{height}
 use Rattle.case_text.specs.Content.{Content}
-use Rattle.case_text.specs.declared.demo.DemoSummary.{DemoSummary}
+use Rattle.case_text.specs.declared.reply.demo.DemoSummary.{DemoSummary}
 use Rattle.case_text.specs.declared.reply.Reply.{Reply}
 use Rattle.case_text.specs.declared.reply.Reply.TheVariants as replies
 use Rattle.gkr_cmd.specs.Demo.{IsDemo, demo_case}

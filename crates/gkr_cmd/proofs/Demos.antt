@@ -17,8 +17,8 @@ use Rattle.arr_lower.proofs.api.Counted.{is-list}
 use Rattle.gkr_layers.specs.declared.verdict.Verdict.TheVariants.{Accepted}
 use Rattle.case_text.specs.Content.{Content, Fits}
 use Rattle.case_text.specs.Sizes.{Sizes}
-use Rattle.case_text.specs.declared.sizes.LayerSize.{LayerSize}
-use Rattle.case_text.specs.declared.demo.DemoSummary.{DemoSummary}
+use Rattle.case_text.specs.declared.reply.sizes.LayerSize.{LayerSize}
+use Rattle.case_text.specs.declared.reply.demo.DemoSummary.{DemoSummary}
 use Rattle.case_prove.specs.Circuits.{IsLaidOut, layer_size, sizes_of}
 use Rattle.proof_two.specs.declared.kind.ProofKind.TheVariants.{ByLines}
 use Rattle.proof_two.specs.declared.kind.ProofVersion.TheVariants.{One}

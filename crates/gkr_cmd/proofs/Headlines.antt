@@ -4,7 +4,7 @@ use Rattle.std.specs.Prelude.{IfOk, OnOk, IsErrOf}
 use Rattle.io_edge.specs.Causes.{Rose}
 use Rattle.case_prove.specs.Verified.{HasAcceptedProof}
 use Rattle.case_text.specs.Replies.{reply_text}
-use Rattle.case_text.specs.declared.form.Form.TheVariants.{Full, Plain}
+use Rattle.case_text.specs.declared.case.form.Form.TheVariants.{Full, Plain}
 use Rattle.case_text.specs.declared.reply.Reply.{Reply}
 use Rattle.io_edge.specs.Written.{Grows}
 use Rattle.std.specs.Prelude.{◌+◌}

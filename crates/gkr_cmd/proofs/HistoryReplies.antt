@@ -1,7 +1,7 @@
 -- A script whose jobs may be withdrawn is answered with a history.
 use Rattle.std.proofs.Common.{◌≡◌, ◌≤◌, ℕ, List, length, Result, Ok, Err, refl, subst}
 use Rattle.case_text.specs.Histories.{History}
-use Rattle.case_text.specs.declared.refusal.BadCase.{BadCase}
+use Rattle.case_text.specs.declared.case.refusal.BadCase.{BadCase}
 use Rattle.case_text.specs.declared.reply.Reply.{Reply}
 use Rattle.case_text.specs.declared.reply.Reply.TheVariants as replies
 use Rattle.script_text.specs.declared.script.MarkedJob.{MarkedJob}

@@ -1,13 +1,13 @@
 -- Words and an input have at most one reply, where each case has at most one answer.
 use Rattle.std.proofs.Common.{◌≡◌, ℕ, List, subst, Option, Some, None, Result, Ok, Err, sym, ap, ◌∙◌, arith}
-use Rattle.case_text.specs.declared.form.Form.{Form}
+use Rattle.case_text.specs.declared.case.form.Form.{Form}
 use Rattle.proof_two.specs.declared.kind.ProofKind.{ProofKind}
 use Rattle.proof_two.specs.declared.kind.ProofVersion.{ProofVersion}
 use Rattle.proof_two.specs.declared.kind.ProofKind.TheVariants.{ByLines}
 use Rattle.proof_two.specs.declared.kind.ProofVersion.TheVariants.{One}
 use Rattle.case_text.specs.Content.{Content}
 use Rattle.case_text.specs.Reading.{reading}
-use Rattle.case_text.specs.declared.refusal.BadCase.{BadCase}
+use Rattle.case_text.specs.declared.case.refusal.BadCase.{BadCase}
 use Rattle.case_text.specs.declared.reply.Reply.{Reply}
 use Rattle.case_text.specs.declared.reply.Reply.TheVariants as replies
 use Rattle.gkr_cmd.specs.declared.status.Status.TheVariants.{Done}

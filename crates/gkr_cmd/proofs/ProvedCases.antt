@@ -1,7 +1,7 @@
 -- Where `prove` ends well, its text is that of the case with the one honest proof, and of an accepted case.
 use Rattle.std.proofs.Common.{◌≡◌, ◌↔◌, ◌<◌, ℕ, List, length, subst, Option, Some, Ok, refl, arith}
-use Rattle.case_text.specs.declared.form.Form.{Form}
-use Rattle.case_text.specs.declared.form.Form.TheVariants.{Full, Plain}
+use Rattle.case_text.specs.declared.case.form.Form.{Form}
+use Rattle.case_text.specs.declared.case.form.Form.TheVariants.{Full, Plain}
 use Rattle.proof_two.specs.declared.kind.ProofKind.{ProofKind}
 use Rattle.case_text.specs.Content.{Content, Fits}
 use Rattle.case_text.specs.Reading.{reading}

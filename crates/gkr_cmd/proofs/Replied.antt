@@ -17,14 +17,14 @@ use Rattle.proof_two.specs.declared.kind.ProofVersion.TheVariants.{Two}
 use Rattle.case_prove.specs.Verified.{IsVerdictOn, RefusesVerify}
 use Rattle.case_text.specs.Forms.{Allows}
 use Rattle.gkr_layers.specs.declared.verdict.Verdict.{Verdict}
-use Rattle.case_text.specs.declared.verdict.AuditLines.{AuditLines}
-use Rattle.case_text.specs.declared.verdict.VerdictLine.{VerdictLine}
-use Rattle.case_text.specs.declared.verdict.VerdictLine.TheVariants as reported
+use Rattle.case_text.specs.declared.reply.verdict.AuditLines.{AuditLines}
+use Rattle.case_text.specs.declared.reply.verdict.VerdictLine.{VerdictLine}
+use Rattle.case_text.specs.declared.reply.verdict.VerdictLine.TheVariants as reported
 use Rattle.proof_two.specs.declared.kind.ProofKind.{ProofKind}
 use Rattle.case_text.specs.Content.{Content}
 use Rattle.case_text.specs.Reading.{reading}
-use Rattle.case_text.specs.declared.form.Form.{Form}
-use Rattle.case_text.specs.declared.form.Form.TheVariants.{Full}
+use Rattle.case_text.specs.declared.case.form.Form.{Form}
+use Rattle.case_text.specs.declared.case.form.Form.TheVariants.{Full}
 use Rattle.case_text.specs.declared.reply.Reply.{Reply}
 use Rattle.case_text.specs.declared.reply.Reply.TheVariants as replies
 use Rattle.gkr_cmd.specs.declared.reply_error.ReplyError.{ReplyError}

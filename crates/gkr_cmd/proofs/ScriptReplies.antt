@@ -7,7 +7,7 @@ use Rattle.case_prove.specs.Answers.{IsProveAnswer, is_proved_case}
 use Rattle.case_text.specs.Content.{Content}
 use Rattle.case_text.specs.Replies.{reply_text}
 use Rattle.case_text.specs.Served.{Served}
-use Rattle.case_text.specs.declared.refusal.BadCase.{BadCase}
+use Rattle.case_text.specs.declared.case.refusal.BadCase.{BadCase}
 use Rattle.case_text.specs.declared.reply.Reply.{Reply}
 use Rattle.case_text.specs.declared.reply.Reply.TheVariants as replies
 use Rattle.script_text.specs.declared.script.ScriptJob.{ScriptJob}

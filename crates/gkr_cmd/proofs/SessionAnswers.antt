@@ -10,10 +10,10 @@ use Rattle.arr_compile.specs.declared.refused.BadProgram.TheVariants.{At, Deep, 
 use Rattle.arr_compile.specs.Circuits.{IsCircuitRefusal}
 use Rattle.case_text.specs.Content.{Content}
 use Rattle.case_text.specs.Replies.{reply_text}
-use Rattle.case_text.specs.declared.refusal.BadCase.{BadCase}
+use Rattle.case_text.specs.declared.case.refusal.BadCase.{BadCase}
 use Rattle.case_text.specs.declared.reply.Reply.{Reply}
 use Rattle.case_text.specs.declared.reply.Reply.TheVariants as replies
-use Rattle.case_text.specs.declared.session.SessionSizes.{SessionSizes}
+use Rattle.case_text.specs.declared.reply.session.SessionSizes.{SessionSizes}
 use Rattle.case_prove.specs.Circuits.{IsCircuitMiscounted}
 use Rattle.session_text.specs.Sessions.{SessionContent, session_reading}
 use Rattle.session_prove.specs.Sessions.{IsPaired, IsSession, IsWordMiscounted}

@@ -14,7 +14,7 @@ use Rattle.gkr_layers.specs.declared.verdict.Verdict.TheVariants as verdicts
 use Rattle.case_text.specs.Content.{Content}
 use Rattle.case_text.specs.declared.reply.Reply.{Reply}
 use Rattle.case_text.specs.declared.reply.Reply.TheVariants as replies
-use Rattle.case_text.specs.declared.verdict.VerdictLine.{VerdictLine}
+use Rattle.case_text.specs.declared.reply.verdict.VerdictLine.{VerdictLine}
 use Rattle.case_prove.specs.Started.{start_of}
 use Rattle.case_prove.specs.Verified.{HasProof, IsVerdictOn, RefusesVerify, Says, proof_form}
 use Rattle.case_prove.specs.declared.refused.Refused.{Refused}

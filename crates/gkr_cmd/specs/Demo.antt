@@ -9,7 +9,7 @@ use Rattle.gkr_layers.specs.declared.verdict.Verdict.TheVariants.{Accepted}
 use Rattle.proof_two.specs.declared.kind.ProofKind.TheVariants.{ByLines}
 use Rattle.proof_two.specs.declared.kind.ProofVersion.TheVariants.{One}
 use Rattle.case_text.specs.Content.{Content}
-use Rattle.case_text.specs.declared.demo.DemoSummary.{DemoSummary}
+use Rattle.case_text.specs.declared.reply.demo.DemoSummary.{DemoSummary}
 use Rattle.case_prove.specs.Proved.{IsProved}
 use Rattle.case_prove.specs.Verified.{IsVerdictOn}
 

@@ -9,8 +9,8 @@ use Rattle.proof_two.specs.declared.kind.ProofVersion.{ProofVersion}
 use Rattle.case_text.specs.Content.{Content}
 use Rattle.case_text.specs.Reading.{reading}
 use Rattle.case_text.specs.Replies.{verdict_text}
-use Rattle.case_text.specs.declared.form.Form.TheVariants.{Plain, Full}
-use Rattle.case_text.specs.declared.verdict.VerdictLine.TheVariants.{Accepted}
+use Rattle.case_text.specs.declared.case.form.Form.TheVariants.{Plain, Full}
+use Rattle.case_text.specs.declared.reply.verdict.VerdictLine.TheVariants.{Accepted}
 use Rattle.gkr_cmd.specs.declared.status.Status.{Status}
 use Rattle.gkr_cmd.specs.declared.status.Status.TheVariants as statuses
 use Rattle.gkr_words.specs.declared.words.Command.{Command}

@@ -7,11 +7,11 @@ use Rattle.proof_wire.specs.declared.form.ProofForm.TheVariants.{Line}
 use Rattle.proof_two.specs.declared.kind.ProofVersion.{ProofVersion}
 use Rattle.proof_two.specs.declared.kind.ProofVersion.TheVariants.{Two}
 use Rattle.gkr_verify.specs.declared.sums.LayerSum.{LayerSum}
-use Rattle.case_text.specs.declared.form.Form.{Form}
-use Rattle.case_text.specs.declared.form.Form.TheVariants.{Plain, Full}
+use Rattle.case_text.specs.declared.case.form.Form.{Form}
+use Rattle.case_text.specs.declared.case.form.Form.TheVariants.{Plain, Full}
 use Rattle.case_text.specs.Content.{Content}
 use Rattle.case_text.specs.Reading.{reading}
-use Rattle.case_text.specs.declared.refusal.BadCase.{BadCase}
+use Rattle.case_text.specs.declared.case.refusal.BadCase.{BadCase}
 use Rattle.case_text.specs.declared.reply.Reply.{Reply}
 use Rattle.case_text.specs.declared.reply.Reply.TheVariants as replies
 use Rattle.arr_compile.specs.Circuits.{IsTooLarge}
@@ -21,9 +21,9 @@ use Rattle.case_prove.specs.Evaluated.{IsEvaluated, IsMiscounted}
 use Rattle.case_prove.specs.Audited.{IsAudited}
 use Rattle.case_prove.specs.Converted.{FailsSum, IsConverted}
 use Rattle.case_prove.specs.Verified.{IsVerdictOn, IsOutputMiscounted, IsBadProof, proof_form}
-use Rattle.case_text.specs.declared.verdict.AuditLines.{AuditLines}
-use Rattle.case_text.specs.declared.verdict.VerdictLine.{VerdictLine}
-use Rattle.case_text.specs.declared.verdict.VerdictLine.TheVariants as reported
+use Rattle.case_text.specs.declared.reply.verdict.AuditLines.{AuditLines}
+use Rattle.case_text.specs.declared.reply.verdict.VerdictLine.{VerdictLine}
+use Rattle.case_text.specs.declared.reply.verdict.VerdictLine.TheVariants as reported
 use Rattle.gkr_layers.specs.declared.verdict.Verdict.{Verdict}
 use Rattle.gkr_cmd.specs.Reported.{audit_lines, sum_line, verdict_line}
 use Rattle.gkr_cmd.specs.declared.status.Status.{Status}

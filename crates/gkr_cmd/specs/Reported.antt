@@ -7,11 +7,11 @@ use Rattle.case_prove.specs.declared.refused.Refused.{Refused}
 use Rattle.case_prove.specs.declared.refused.Refused.TheVariants as refusals
 use Rattle.case_text.specs.declared.reply.Reply.{Reply}
 use Rattle.case_text.specs.declared.reply.Reply.TheVariants as replies
-use Rattle.case_text.specs.declared.verdict.AuditLines.{AuditLines}
-use Rattle.case_text.specs.declared.verdict.MessagePlace.{MessagePlace}
-use Rattle.case_text.specs.declared.verdict.MessagePlace.TheVariants.{Round, Line}
-use Rattle.case_text.specs.declared.verdict.VerdictLine.{VerdictLine}
-use Rattle.case_text.specs.declared.verdict.VerdictLine.TheVariants as reported
+use Rattle.case_text.specs.declared.reply.verdict.AuditLines.{AuditLines}
+use Rattle.case_text.specs.declared.reply.verdict.MessagePlace.{MessagePlace}
+use Rattle.case_text.specs.declared.reply.verdict.MessagePlace.TheVariants.{Round, Line}
+use Rattle.case_text.specs.declared.reply.verdict.VerdictLine.{VerdictLine}
+use Rattle.case_text.specs.declared.reply.verdict.VerdictLine.TheVariants as reported
 use Rattle.gkr_layers.specs.declared.verdict.Verdict.{Verdict}
 use Rattle.gkr_verify.specs.declared.sums.LayerSum.{LayerSum}
 use Rattle.gkr_layers.specs.declared.verdict.Verdict.TheVariants as verdicts

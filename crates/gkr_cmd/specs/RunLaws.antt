@@ -14,8 +14,8 @@ use Rattle.proof_two.specs.declared.kind.ProofVersion.{ProofVersion}
 use Rattle.case_text.specs.Content.{Content, Fits}
 use Rattle.case_text.specs.Reading.{reading}
 use Rattle.case_text.specs.Spelling.{Spells, lower_case_text}
-use Rattle.case_text.specs.declared.form.Form.{Form}
-use Rattle.case_text.specs.declared.form.Form.TheVariants.{Full, Plain}
+use Rattle.case_text.specs.declared.case.form.Form.{Form}
+use Rattle.case_text.specs.declared.case.form.Form.TheVariants.{Full, Plain}
 use Rattle.case_text.specs.declared.reply.Reply.{Reply}
 use Rattle.gkr_layers.specs.declared.verdict.Verdict.TheVariants as verdicts
 use Rattle.gkr_cmd.specs.declared.status.Status.TheVariants as statuses

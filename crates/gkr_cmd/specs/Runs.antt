@@ -24,14 +24,14 @@ use Rattle.case_text.specs.Content.{Content}
 use Rattle.case_text.specs.Histories.{History}
 use Rattle.case_text.specs.Replies.{audit_text, history_text, reply_text, served_text, session_text}
 use Rattle.case_text.specs.Served.{Served}
-use Rattle.case_text.specs.declared.session.SessionSizes.{SessionSizes}
+use Rattle.case_text.specs.declared.reply.session.SessionSizes.{SessionSizes}
 use Rattle.script_text.specs.declared.script.MarkedJob.{MarkedJob}
 use Rattle.script_text.specs.declared.script.ScriptJob.{ScriptJob}
 use Rattle.script_prove.specs.Served.{AreServed, IsServedHistory}
 use Rattle.session_text.specs.Sessions.{SessionContent}
 use Rattle.session_prove.specs.Sessions.{IsPaired, IsSession}
 use Rattle.case_text.specs.Spelling.{lower_case_text}
-use Rattle.case_text.specs.declared.form.Form.TheVariants.{Full}
+use Rattle.case_text.specs.declared.case.form.Form.TheVariants.{Full}
 use Rattle.case_text.specs.declared.reply.Reply.{Reply}
 use Rattle.gkr_words.specs.declared.words.Command.{Command}
 use Rattle.gkr_words.specs.declared.words.Command.TheVariants.{OfCase, Demo, Serve, ServeHistory, Session}

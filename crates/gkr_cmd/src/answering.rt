@@ -2,7 +2,7 @@
 
 ghost use Rattle.std.specs.Prelude.{◌≡◌, ◌≢◌, IfOk};
 ghost use Rattle.case_text.specs.Forms.{Allows};
-ghost use Rattle.case_text.specs.declared.form.Form.TheVariants.{Full};
+ghost use Rattle.case_text.specs.declared.case.form.Form.TheVariants.{Full};
 ghost use Rattle.phase_run.specs.Work.{IsWorkerCount};
 ghost use Rattle.gkr_words.specs.Commands.{HasWorkers};
 ghost use Rattle.gkr_cmd.specs.Replies.{form_of, IsAnswer, IsAuditAnswer, IsCaseReply, IsCircuitAnswer, IsConvertAnswer, IsEvalAnswer, IsVerifyAnswer, IsWithinLimit};

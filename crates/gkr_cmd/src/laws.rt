@@ -2,7 +2,7 @@
 
 ghost use Rattle.std.specs.Prelude.{◌≡◌, ◌≢◌, ◌<◌, ◌≤◌, ◌^◌, ◌↔◌, List, ℕ, [], ◌∷◌, None, Some, codes, decimal};
 ghost use Rattle.case_text.specs.Content.{Content};
-ghost use Rattle.case_text.specs.declared.form.Form.TheVariants.{Full, Plain};
+ghost use Rattle.case_text.specs.declared.case.form.Form.TheVariants.{Full, Plain};
 ghost use Rattle.case_text.specs.declared.reply.Reply.{Reply};
 ghost use Rattle.gkr_cmd.specs.declared.status.Status.TheVariants.{Done};
 ghost use Rattle.gkr_cmd.specs.Replies.{IsAuditAnswer, IsCaseReply, IsCircuitAnswer, IsConvertAnswer, IsDemoAnswer, IsEvalAnswer, IsVerifyAnswer, IsOfCase, IsOfSession, IsReply, IsSessionReply, status_of};

@@ -1,8 +1,8 @@
 -- The replies to a script, and the history of its table.
 use Rattle.std.specs.Prelude.{◌≡◌, ℕ, Bool, List, map, length, Some, slice_get, get_or}
 use Rattle.case_text.specs.Served.{Served, withdrawn_job}
-use Rattle.case_text.specs.declared.history.HistoryLine.{HistoryLine}
-use Rattle.case_text.specs.declared.history.HistoryLine.TheVariants as lines
+use Rattle.case_text.specs.declared.reply.history.HistoryLine.{HistoryLine}
+use Rattle.case_text.specs.declared.reply.history.HistoryLine.TheVariants as lines
 use Rattle.job_core.specs.declared.entry.Entry.{Entry}
 use Rattle.job_core.specs.declared.entry.Entry.TheVariants as entries
 use Rattle.prove_serve.specs.History.{IsHistoryOf}

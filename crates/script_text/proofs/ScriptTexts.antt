@@ -12,7 +12,7 @@ use Rattle.text_parts.proofs.api.Choice.{FirstIs, IsOther, head_is, not_byte}
 use Rattle.text_parts.proofs.api.Except.{Except, except_exact}
 use Rattle.text_parts.proofs.api.Listed.{AreUpTo, item_step, listed_exact}
 use Rattle.text_parts.proofs.api.Rows.{IsNumber, Spelled, as_row, made_row, number_row, part_row, word_row}
-use Rattle.case_text.specs.declared.form.Form.TheVariants.{Plain}
+use Rattle.case_text.specs.declared.case.form.Form.TheVariants.{Plain}
 use Rattle.case_text.specs.Content.{Content}
 use Rattle.case_text.specs.Spelling.{number}
 use Rattle.case_text.proofs.api.Lines.{case_exact}

@@ -1,16 +1,16 @@
 -- A script: cases of clients, one after another.
 use Rattle.std.specs.Prelude.{◌≡◌, ℕ, ◌<◌, ◌≤◌, List, [], ◌∷◌, ◌++◌, length, codes, is_some, Bool, true, false, Result, Ok, Err}
 use Rattle.std.specs.List.{concat}
-use Rattle.case_text.specs.declared.form.Form.TheVariants.{Plain}
+use Rattle.case_text.specs.declared.case.form.Form.TheVariants.{Plain}
 use Rattle.text_parts.specs.declared.due.DueKind.TheVariants.{Section, Length}
 use Rattle.text_parts.specs.declared.stop.Stop.{Stop}
 use Rattle.text_parts.specs.declared.rule.Rule.{Rule}
 use Rattle.text_parts.specs.Bytes.{digit_zero, initial, newline}
 use Rattle.text_parts.specs.Parts.{Taking, ◌>>=◌, at_end, decimal_at, except_at, given_at, in_order, listed_at, optional_at, word_at}
 use Rattle.text_parts.specs.Listed.{AreListed}
-use Rattle.case_text.specs.declared.refusal.BadCase.{BadCase}
+use Rattle.case_text.specs.declared.case.refusal.BadCase.{BadCase}
 use Rattle.std.specs.Global.{Vec}
-use Rattle.case_text.specs.declared.refusal.CaseRefused.{CaseRefused}
+use Rattle.case_text.specs.declared.case.refusal.CaseRefused.{CaseRefused}
 use Rattle.script_text.specs.declared.script.ScriptJob.{ScriptJob}
 use Rattle.script_text.specs.declared.script.MarkedJob.{MarkedJob}
 use Rattle.case_text.specs.Spelling.{Spells, number}

@@ -2,7 +2,7 @@
 
 ghost use Rattle.std.specs.Prelude.{◌≡◌, List, [], ◌++◌, ℕ, Err};
 ghost use Rattle.text_parts.specs.Places.{IsPlace};
-ghost use Rattle.case_text.specs.declared.refusal.BadCase.{BadCase};
+ghost use Rattle.case_text.specs.declared.case.refusal.BadCase.{BadCase};
 ghost use Rattle.script_text.specs.declared.script.ScriptJob.{ScriptJob};
 ghost use Rattle.script_text.specs.declared.script.MarkedJob.{MarkedJob};
 ghost use Rattle.script_text.specs.Scripts.{SpellsHistoryScript, SpellsScript, history_script_reading, script_reading};

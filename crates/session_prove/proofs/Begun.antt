@@ -6,7 +6,7 @@ use Rattle.circuit_core.specs.Parts.{Parts, layer_values}
 use Rattle.circuit_eval.specs.Tables.{AreTables}
 use Rattle.gkr_layers.specs.Layers.{challenges_of}
 use Rattle.case_text.specs.Content.{Content}
-use Rattle.case_text.specs.declared.session.SessionSizes.{SessionSizes}
+use Rattle.case_text.specs.declared.reply.session.SessionSizes.{SessionSizes}
 use Rattle.case_prove.specs.Evaluated.{IsEvaluated}
 use Rattle.live_session.specs.Proving.{Proving}
 use Rattle.live_session.specs.Verifying.{Session}

@@ -7,7 +7,7 @@ use Rattle.gkr_layers.specs.Layers.{challenges_of}
 use Rattle.gkr_layers.specs.declared.verdict.Verdict.{Verdict}
 use Rattle.gkr_layers.specs.declared.verdict.Verdict.TheVariants.{Accepted}
 use Rattle.case_text.specs.Content.{Content}
-use Rattle.case_text.specs.declared.session.SessionSizes.{SessionSizes}
+use Rattle.case_text.specs.declared.reply.session.SessionSizes.{SessionSizes}
 use Rattle.case_prove.proofs.api.ProvedCases.{OneCircuit}
 use Rattle.case_prove.proofs.api.ProvedOutputs.{OneTree, one_meaning}
 use Rattle.live_session.specs.Proving.{verdict_known}

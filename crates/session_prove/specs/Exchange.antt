@@ -4,7 +4,7 @@ use Rattle.circuit_core.specs.Parts.{layer_values}
 use Rattle.circuit_eval.specs.Tables.{AreTables}
 use Rattle.gkr_layers.specs.Layers.{challenges_of}
 use Rattle.gkr_layers.specs.declared.verdict.Verdict.TheVariants.{Accepted}
-use Rattle.case_text.specs.declared.session.SessionSizes.{SessionSizes}
+use Rattle.case_text.specs.declared.reply.session.SessionSizes.{SessionSizes}
 use Rattle.live_session.specs.Proving.{Proving, prover_sent, stop_of, verdict_known}
 use Rattle.live_session.specs.Verifying.{Session, progress_in, verifier_sent}
 use Rattle.live_session.specs.declared.progress.Progress.TheVariants.{Ended}

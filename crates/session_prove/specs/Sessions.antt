@@ -6,7 +6,7 @@ use Rattle.gkr_layers.specs.Layers.{challenges_of}
 use Rattle.arr_compile.specs.Circuits.{IsCompiled}
 use Rattle.live_session.specs.Verifying.{Session}
 use Rattle.case_text.specs.Content.{Content}
-use Rattle.case_text.specs.declared.session.SessionSizes.{SessionSizes}
+use Rattle.case_text.specs.declared.reply.session.SessionSizes.{SessionSizes}
 use Rattle.case_prove.specs.Circuits.{RefusesCircuit}
 use Rattle.case_prove.specs.Evaluated.{IsEvaluated}
 use Rattle.session_prove.specs.Challenges.{challenges_in}

@@ -8,7 +8,7 @@ ghost use Rattle.arr_compile.specs.Circuits.{IsCompiled};
 ghost use Rattle.gkr_layers.specs.Layers.{challenges_of};
 ghost use Rattle.live_session.specs.Verifying.{Session, element_count};
 ghost use Rattle.case_text.specs.Content.{Content};
-ghost use Rattle.case_text.specs.declared.session.SessionSizes.{SessionSizes};
+ghost use Rattle.case_text.specs.declared.reply.session.SessionSizes.{SessionSizes};
 ghost use Rattle.session_prove.specs.Exchange.{HasEnded, whole_session};
 ghost use Rattle.session_prove.specs.Sessions.{IsSession};
 

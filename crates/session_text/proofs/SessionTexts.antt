@@ -6,7 +6,7 @@ use Rattle.text_parts.specs.declared.due.DueKind.TheVariants.{Section}
 use Rattle.text_parts.specs.Exact.{IsExact}
 use Rattle.text_parts.proofs.api.Compose.{same_texts}
 use Rattle.text_parts.proofs.api.Rows.{Spelled, as_row, made_row, part_row, word_row}
-use Rattle.case_text.specs.declared.form.Form.TheVariants.{Plain}
+use Rattle.case_text.specs.declared.case.form.Form.TheVariants.{Plain}
 use Rattle.case_text.specs.Content.{AreValues, Content}
 use Rattle.case_text.specs.Spelling.{counted_text}
 use Rattle.case_text.proofs.api.Lines.{case_exact, counted_row}

@@ -2,9 +2,9 @@
 use Rattle.std.specs.Prelude.{◌≡◌, ℕ, List, [], ◌∷◌, ◌++◌, length, codes, Result, Ok}
 use Rattle.std.specs.List.{concat}
 use Rattle.field_ext.specs.Field.{F}
-use Rattle.case_text.specs.declared.form.Form.TheVariants.{Plain}
+use Rattle.case_text.specs.declared.case.form.Form.TheVariants.{Plain}
 use Rattle.text_parts.specs.declared.due.DueKind.TheVariants.{Section}
-use Rattle.case_text.specs.declared.refusal.BadCase.{BadCase}
+use Rattle.case_text.specs.declared.case.refusal.BadCase.{BadCase}
 use Rattle.text_parts.specs.declared.stop.Stop.{Stop}
 use Rattle.case_text.specs.Content.{AreValues, Content}
 use Rattle.case_text.specs.Spelling.{Spells, counted_text}

@@ -2,7 +2,7 @@
 
 ghost use Rattle.std.specs.Prelude.{◌≡◌, List, [], ◌++◌, ℕ, Err};
 ghost use Rattle.text_parts.specs.Places.{IsPlace};
-ghost use Rattle.case_text.specs.declared.refusal.BadCase.{BadCase};
+ghost use Rattle.case_text.specs.declared.case.refusal.BadCase.{BadCase};
 ghost use Rattle.session_text.specs.Sessions.{SessionContent, SpellsSession, session_reading};
 
 /// Bytes spell at most one session.

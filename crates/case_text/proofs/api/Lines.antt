@@ -12,8 +12,8 @@ use Rattle.text_parts.proofs.api.Compose.{same_texts}
 use Rattle.text_parts.proofs.api.Choice.{FirstIs, IsOther}
 use Rattle.text_parts.proofs.api.Decimals.{closes}
 use Rattle.text_parts.proofs.api.Rows.{Spelled, absent_row, counted_bytes_row, decimal_row, each_row, made_row, number_row, optional_first, optional_row, part_row, said, there_row, word_row}
-use Rattle.case_text.specs.declared.form.Form.{Form}
-use Rattle.case_text.specs.declared.form.Form.TheVariants as forms
+use Rattle.case_text.specs.declared.case.form.Form.{Form}
+use Rattle.case_text.specs.declared.case.form.Form.TheVariants as forms
 use Rattle.case_text.specs.Rules.{after_value, text_length, value_count, value_rule, proof_length}
 use Rattle.case_text.specs.Content.{Content, AreValues}
 use Rattle.case_text.specs.Forms.{Allows}

@@ -6,9 +6,9 @@ use Rattle.text_parts.specs.Parts.{Taking, at_end}
 use Rattle.text_parts.specs.Places.{IsPlace}
 use Rattle.text_parts.specs.Exact.{IsExact}
 use Rattle.text_parts.proofs.api.Whole.{stop_place, whole_found, whole_only}
-use Rattle.case_text.specs.declared.form.Form.{Form}
-use Rattle.case_text.specs.declared.refusal.CaseRefused.{CaseRefused}
-use Rattle.case_text.specs.declared.refusal.BadCase.{BadCase}
+use Rattle.case_text.specs.declared.case.form.Form.{Form}
+use Rattle.case_text.specs.declared.case.refusal.CaseRefused.{CaseRefused}
+use Rattle.case_text.specs.declared.case.refusal.BadCase.{BadCase}
 use Rattle.case_text.specs.Content.{Content}
 use Rattle.case_text.specs.Spelling.{Spells}
 use Rattle.case_text.specs.Reading.{case_at, reading, refused, Answers}

@@ -1,7 +1,7 @@
 use Rattle.std.proofs.Common.{sym, subst}
 use Rattle.case_text.specs.Content.{Content, Fits}
 use Rattle.case_text.specs.Spelling.{Spells, lower_case_text}
-use Rattle.case_text.specs.declared.form.Form.TheVariants.{Full}
+use Rattle.case_text.specs.declared.case.form.Form.TheVariants.{Full}
 use Rattle.case_prove.proofs.ProvedText.{spells}
 use Rattle.case_prove.proofs.laws.proved_is_full.Goals as goal
 

@@ -1,4 +1,4 @@
-use Rattle.case_text.specs.declared.form.Form.TheVariants.{Full}
+use Rattle.case_text.specs.declared.case.form.Form.TheVariants.{Full}
 use Rattle.gkr_cmd.specs.Replies.{IsVerifyAnswer}
 use Rattle.case_prove.specs.Verified.{HasAcceptedProof}
 use Rattle.case_prove.proofs.api.AcceptedProofs.{verdict_on}

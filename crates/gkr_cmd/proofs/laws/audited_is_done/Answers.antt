@@ -1,4 +1,4 @@
-use Rattle.case_text.specs.declared.form.Form.TheVariants.{Full}
+use Rattle.case_text.specs.declared.case.form.Form.TheVariants.{Full}
 use Rattle.gkr_cmd.specs.Replies.{IsAuditAnswer}
 use Rattle.gkr_cmd.specs.Runs.{HasLineProof}
 use Rattle.gkr_cmd.proofs.AuditAnswers.{audit_done}

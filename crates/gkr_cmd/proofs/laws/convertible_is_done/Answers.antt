@@ -1,4 +1,4 @@
-use Rattle.case_text.specs.declared.form.Form.TheVariants.{Full}
+use Rattle.case_text.specs.declared.case.form.Form.TheVariants.{Full}
 use Rattle.gkr_cmd.specs.Replies.{IsConvertAnswer}
 use Rattle.gkr_cmd.specs.Runs.{IsConvertible}
 use Rattle.gkr_cmd.proofs.ConvertAnswers.{convert_done}

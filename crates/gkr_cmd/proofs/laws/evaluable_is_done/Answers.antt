@@ -1,4 +1,4 @@
-use Rattle.case_text.specs.declared.form.Form.TheVariants.{Plain}
+use Rattle.case_text.specs.declared.case.form.Form.TheVariants.{Plain}
 use Rattle.gkr_cmd.specs.Replies.{IsEvalAnswer}
 use Rattle.gkr_cmd.specs.Runs.{IsEvaluable}
 use Rattle.gkr_cmd.proofs.EvalAnswers.{eval_done}

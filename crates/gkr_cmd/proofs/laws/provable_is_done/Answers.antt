@@ -1,4 +1,4 @@
-use Rattle.case_text.specs.declared.form.Form.TheVariants.{Plain}
+use Rattle.case_text.specs.declared.case.form.Form.TheVariants.{Plain}
 use Rattle.case_prove.specs.Answers.{IsProveAnswer}
 use Rattle.gkr_cmd.specs.Runs.{HasCircuit}
 use Rattle.gkr_cmd.proofs.ProveAnswers.{prove_done}

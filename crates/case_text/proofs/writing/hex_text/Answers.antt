@@ -1,6 +1,0 @@
-use Rattle.std.proofs.Common.{arith}
-use Rattle.case_text.proofs.api.HexWriting.{lower_is_hex}
-use Rattle.case_text.proofs.writing.hex_text.Goals as goal
-
-pub returns-clause-hex : goal.returns-clause-hex
-returns-clause-hex c = lower_is_hex c.args.bytes.now (λ i. let f = c.type_inv.bytes i in omega arith)
