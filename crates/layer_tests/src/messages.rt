@@ -1,6 +1,8 @@
 //! The messages of a layer's rounds for given challenges, by hand.
 
-ghost use Rattle.std.specs.Prelude.{◌≡◌, [], IfOk};
+ghost use Rattle.std.specs.Prelude.{◌≡◌, ◌<◌, [], IfOk, length};
+ghost use Rattle.circuit_core.specs.Parts.{height};
+ghost use Rattle.circuit_core.specs.Sound.{exponent_at};
 ghost use Rattle.circuit_eval.specs.Tables.{FitLayers};
 
 use circuit_core::{Circuit, Kind};
@@ -43,21 +45,73 @@ pub(crate) fn values_of<R: Threads + Sync + AllocGlobal>(
     Ok(layer_values(rt, rt.alloc(), circuit, inputs)?)
 }
 
+/// The message of these coefficients.
+pub(crate) fn message(coefficients: [i32; 3]) -> [Ext; 3] {
+    let [c0, c1, c2] = coefficients;
+    [number(c0), number(c1), number(c2)]
+}
+
+/// Sees the message of a round of one piece, as multiples of an element, and binds the challenge.
+fn follows_round<R: Abort>(
+    rt: &R,
+    sum: &mut GateTables<'_>,
+    coefficients: [i32; 3],
+    challenge: i32,
+    unit: Ext,
+)
+    requires { sum.old.lent ≡ [] }
+    ensures { sum.new.lent ≡ [] }
+{
+    assert!(rt; sum.rounds_left() > 0);
+    assert_eq!(rt; sum.pieces(), 1);
+    let [c0, c1, c2] = message(coefficients);
+    let want = [c0 * unit, c1 * unit, c2 * unit];
+    assert_eq!(rt; sum.piece_sum(0), want);
+    sum.bind(number(challenge));
+    assert!(rt; !sum.is_fresh());
+}
+
 /// Sees the messages of all rounds, of one piece each, as multiples of an element, and binds each challenge.
 fn follows<R: Abort>(rt: &R, sum: &mut GateTables<'_>, rounds: &[([i32; 3], i32)], unit: Ext)
     requires { sum.old.lent ≡ [] }
 {
     assert!(rt; sum.is_fresh());
-    for (message, challenge) in rounds {
-        assert!(rt; sum.rounds_left() > 0);
-        assert_eq!(rt; sum.pieces(), 1);
-        let [c0, c1, c2] = *message;
-        let want = [number(c0) * unit, number(c1) * unit, number(c2) * unit];
-        assert_eq!(rt; sum.piece_sum(0), want);
-        sum.bind(number(*challenge));
-        assert!(rt; !sum.is_fresh());
+    for (coefficients, challenge) in rounds {
+        follows_round(rt, sum, *coefficients, *challenge, unit);
     }
     assert_eq!(rt; sum.rounds_left(), 0);
+}
+
+/// Sees the messages of all rounds of a circuit's layer, with the claim at a point.
+fn follows_layer<R: Abort + AllocGlobal>(
+    rt: &R,
+    circuit: &Circuit,
+    layer: u32,
+    values: &Values,
+    point: &[Ext],
+    rounds: &[([i32; 3], i32)],
+) -> Result<(), Fail>
+    requires layer { layer < height circuit.now.parts }
+    requires values { FitLayers circuit.now.parts values.now }
+    requires position { length point.now ≡ exponent_at circuit.now.parts layer }
+{
+    let mut sum = GateTables::start(rt.alloc(), circuit, layer, values, point)?;
+    follows(rt, &mut sum, rounds, Ext::one());
+    Ok(())
+}
+
+/// Sees the messages of the copy of 5, with the claim at 2.
+fn follows_a_copy<R: Threads + Sync + Abort + AllocGlobal>(
+    rt: &R,
+    circuit: &Circuit,
+) -> Result<(), Fail> {
+    let point = [number(2)];
+    if circuit.height() != 1 || circuit.coordinates(0) != 1 {
+        return Err(Fail::new("another circuit"));
+    }
+    let values = values_of(rt, circuit, &[Fp::reduce(5)])?;
+    let rounds = [([0, -5, 15], 3), ([120, -80, -40], 4)];
+    follows_layer(rt, circuit, 0, &values, &point, &rounds)
 }
 
 #[test]
@@ -65,32 +119,48 @@ fn copies_one_value(rt: HostRuntime) -> Result<(), Fail> {
     let Ok(circuit) = copy(rt.alloc()) else {
         return Err(Fail::new("no circuit"));
     };
-    let point = [number(2)];
-    if circuit.height() != 1 || circuit.coordinates(0) != 1 {
-        return Err(Fail::new("another circuit"));
-    }
-    let values = values_of(&rt, &circuit, &[Fp::reduce(5)])?;
-    let mut sum = GateTables::start(rt.alloc(), &circuit, 0, &values, &point)?;
-    let rounds = [([0, -5, 15], 3), ([120, -80, -40], 4)];
-    follows(&rt, &mut sum, &rounds, Ext::one());
-    Ok(())
+    follows_a_copy(&rt, &circuit)
 }
 
-#[test]
-fn copies_a_value_outside_the_base_field(rt: HostRuntime) -> Result<(), Fail> {
+/// Sees the messages of two gates that copy the values of a table of two, with the claim at 2, as multiples of an element.
+fn follows_gates<R: Abort + AllocGlobal>(rt: &R, values: &Table, unit: Ext) -> Result<(), Fail> {
     let gates = [gate(Kind::Add, 0, 0), gate(Kind::Add, 1, 0)];
-    let unit = Ext::of(Fp::zero(), Fp::one());
-    let values = table(rt.alloc(), &[0, 5], unit)?;
     let point = [number(2)];
     if values.k() != 1 {
         return Err(Fail::new("another size"));
     }
     let buffers = Buffers::new(rt.alloc(), 2, 2)?;
-    let Ok(mut sum) = GateTables::start_in(buffers, &gates, &values, &point) else {
+    let Ok(mut sum) = GateTables::start_in(buffers, &gates, values, &point) else {
         return Err(Fail::new("too little room"));
     };
     let rounds = [([0, -5, 15], 3), ([120, -80, -40], 4)];
-    follows(&rt, &mut sum, &rounds, unit);
+    follows(rt, &mut sum, &rounds, unit);
+    Ok(())
+}
+
+#[test]
+fn copies_a_value_outside_the_base_field(rt: HostRuntime) -> Result<(), Fail> {
+    let unit = Ext::of(Fp::zero(), Fp::one());
+    let values = table(rt.alloc(), &[0, 5], unit)?;
+    follows_gates(&rt, &values, unit)
+}
+
+/// Sees the messages of the copy of these values, with a claim at 2 and, four times, at 3.
+fn follows_two_points<R: Abort + AllocGlobal>(
+    rt: &R,
+    circuit: &Circuit,
+    values: &Values,
+) -> Result<(), Fail>
+    requires { FitLayers circuit.now.parts values.now }
+{
+    let (first, second) = ([number(2)], [number(3)]);
+    if circuit.height() != 1 || circuit.coordinates(0) != 1 {
+        return Err(Fail::new("another circuit"));
+    }
+    let four = number(4);
+    let mut sum = GateTables::start_two(rt.alloc(), circuit, 0, values, &first, &second, four)?;
+    let rounds = [([0, -45, 115], 3), ([900, -600, -300], 4)];
+    follows(rt, &mut sum, &rounds, Ext::one());
     Ok(())
 }
 
@@ -100,16 +170,24 @@ fn copies_at_two_points(rt: HostRuntime) -> Result<(), Fail> {
     let Ok(circuit) = copy(rt.alloc()) else {
         return Err(Fail::new("no circuit"));
     };
-    let (first, second) = ([number(2)], [number(3)]);
-    if circuit.height() != 1 || circuit.coordinates(0) != 1 {
+    let values = values_of(&rt, &circuit, &[Fp::reduce(5)])?;
+    follows_two_points(&rt, &circuit, &values)
+}
+
+/// Sees the messages of the product of 3 and 4, with the claim at 0.
+fn follows_a_product<R: Threads + Sync + Abort + AllocGlobal>(
+    rt: &R,
+    circuit: &Circuit,
+) -> Result<(), Fail> {
+    let point = [number(0)];
+    if circuit.height() != 2 || circuit.coordinates(1) != 1 {
         return Err(Fail::new("another circuit"));
     }
-    let values = values_of(&rt, &circuit, &[Fp::reduce(5)])?;
-    let four = number(4);
-    let mut sum = GateTables::start_two(rt.alloc(), &circuit, 0, &values, &first, &second, four)?;
-    let rounds = [([0, -45, 115], 3), ([900, -600, -300], 4)];
-    follows(&rt, &mut sum, &rounds, Ext::one());
-    Ok(())
+    let values = values_of(rt, circuit, &[Fp::reduce(3), Fp::reduce(4)])?;
+    let three = [0, 3, -3];
+    let four = [0, 4, -4];
+    let rounds = [(three, 0), (four, 0), (three, 0), (four, 0)];
+    follows_layer(rt, circuit, 1, &values, &point, &rounds)
 }
 
 #[test]
@@ -117,19 +195,5 @@ fn multiplies_two_values(rt: HostRuntime) -> Result<(), Fail> {
     let Ok(circuit) = product(rt.alloc()) else {
         return Err(Fail::new("no circuit"));
     };
-    let point = [number(0)];
-    if circuit.height() != 2 || circuit.coordinates(1) != 1 {
-        return Err(Fail::new("another circuit"));
-    }
-    let values = values_of(&rt, &circuit, &[Fp::reduce(3), Fp::reduce(4)])?;
-    let mut sum = GateTables::start(rt.alloc(), &circuit, 1, &values, &point)?;
-    let three = [0, 3, -3];
-    let four = [0, 4, -4];
-    follows(
-        &rt,
-        &mut sum,
-        &[(three, 0), (four, 0), (three, 0), (four, 0)],
-        Ext::one(),
-    );
-    Ok(())
+    follows_a_product(&rt, &circuit)
 }

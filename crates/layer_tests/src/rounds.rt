@@ -1,7 +1,9 @@
 //! A claim bound by rounds, by hand.
 
+use crate::messages::message;
 use line_reduce::point_at;
 use poly_roots::value_at;
+use std::process::Abort;
 use sumcheck_verify::{Rounds, SumFault};
 use test_circuits::number;
 
@@ -24,18 +26,27 @@ fn binds_a_claim_by_rounds(rt: HostRuntime) {
     assert_eq!(rt; rounds.claim(), -number(66));
 }
 
+/// Takes a message, binds the challenge, and sees the claim after it.
+fn leads_to<R: Abort>(
+    rt: &R,
+    rounds: &mut Rounds,
+    coefficients: [i32; 3],
+    challenge: i32,
+    claim: i32,
+) {
+    assert!(rt; !rounds.waiting());
+    assert_eq!(rt; rounds.take(message(coefficients)), Ok(()));
+    assert!(rt; rounds.waiting());
+    rounds.bind(number(challenge));
+    assert_eq!(rt; rounds.claim(), number(claim));
+}
+
 /// The copy of 5: the claim 10 at the output point 2, bound at 3 and at 4, and the line between these two at 6.
 #[test]
 fn leads_a_copy_to_its_last_claim(rt: HostRuntime) {
     let mut rounds = Rounds::start(number(10));
-    for (message, challenge, claim) in [([0, -5, 15], 3, 120), ([120, -80, -40], 4, -840)] {
-        let [c0, c1, c2] = message;
-        assert!(rt; !rounds.waiting());
-        assert_eq!(rt; rounds.take([number(c0), number(c1), number(c2)]), Ok(()));
-        assert!(rt; rounds.waiting());
-        rounds.bind(number(challenge));
-        assert_eq!(rt; rounds.claim(), number(claim));
-    }
+    leads_to(&rt, &mut rounds, [0, -5, 15], 3, 120);
+    leads_to(&rt, &mut rounds, [120, -80, -40], 4, -840);
     let mut point = [number(0)];
     point_at(&[number(3)], &[number(4)], number(6), &mut point);
     assert_eq!(rt; point, [number(9)]);

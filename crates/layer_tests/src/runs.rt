@@ -47,6 +47,22 @@ fn run(kind: Kind, first: u32, count: u32, left: (u32, u32), right: (u32, u32)) 
     }
 }
 
+/// Compares runs with those wanted.
+fn are_runs<R: Abort>(rt: &R, found: &[Run], want: &[Run]) {
+    assert_eq!(rt; found.len(), want.len());
+    for (found, want) in found.iter().zip(want) {
+        assert_eq!(rt; *found, *want);
+    }
+}
+
+/// Sees the runs of a circuit's one layer.
+fn has_runs<R: Abort + AllocGlobal>(rt: &R, circuit: &Circuit, want: &[Run]) -> Result<(), Fail> {
+    assert!(rt; circuit.height() == 1);
+    let layer = runs_of(rt.alloc(), circuit, 0)?;
+    are_runs(rt, layer.runs(), want);
+    Ok(())
+}
+
 /// Sees the runs of the one layer of these gates.
 fn splits<R: Abort + AllocGlobal>(
     rt: &R,
@@ -57,13 +73,7 @@ fn splits<R: Abort + AllocGlobal>(
     let Ok(circuit) = made(rt.alloc(), gates, width) else {
         return Err(Fail::new("no circuit"));
     };
-    assert!(rt; circuit.height() == 1);
-    let layer = runs_of(rt.alloc(), &circuit, 0)?;
-    assert_eq!(rt; layer.runs().len(), want.len());
-    for (found, want) in layer.runs().iter().zip(want) {
-        assert_eq!(rt; *found, *want);
-    }
-    Ok(())
+    has_runs(rt, &circuit, want)
 }
 
 /// The run of gate 0 alone.
@@ -141,19 +151,37 @@ fn counted<L: Ledger>(layer: &RunLayer, z: &[Ext], b: &[Ext], c: &[Ext], blank: 
     wiring_runs(layer, z, b, c, &mut steps)
 }
 
+/// Compares the wiring polynomials by runs with those wanted.
+fn weighs<R: Abort>(rt: &R, layer: &RunLayer, z: &[Ext], b: &[Ext], c: &[Ext], want: (Ext, Ext))
+    requires position { length z.now ≡ layer.now.k }
+    requires left { length b.now ≡ layer.now.below }
+    requires right { length c.now ≡ layer.now.below }
+{
+    let weights = counted::<Brand>(layer, z, b, c, Blank::new(1));
+    assert_eq!(rt; weights, want);
+}
+
+/// Sees what the runs of a circuit's one layer weigh at 2, 3 and 4.
+fn weighs_at_three<R: Abort + AllocGlobal>(
+    rt: &R,
+    circuit: &Circuit,
+    want: (Ext, Ext),
+) -> Result<(), Fail> {
+    assert!(rt; circuit.height() == 1);
+    assert!(rt; circuit.coordinates(0) == 1 && circuit.coordinates(1) == 1);
+    let (z, b, c) = ([number(2)], [number(3)], [number(4)]);
+    let layer = runs_of(rt.alloc(), circuit, 0)?;
+    weighs(rt, &layer, &z, &b, &c, want);
+    Ok(())
+}
+
 /// At 2, 3 and 4: (1 - 2)(1 - 3)(1 - 4) of gate 0, and (2)(3)(1 - 4) of gate 1.
 #[test]
 fn weighs_a_copy_by_its_run(rt: HostRuntime) -> Result<(), Fail> {
     let Ok(circuit) = made(rt.alloc(), &[add(0, 0), add(1, 0)], 2) else {
         return Err(Fail::new("no circuit"));
     };
-    assert!(rt; circuit.height() == 1);
-    assert!(rt; circuit.coordinates(0) == 1 && circuit.coordinates(1) == 1);
-    let (z, b, c) = ([number(2)], [number(3)], [number(4)]);
-    let layer = runs_of(rt.alloc(), &circuit, 0)?;
-    let weights = counted::<Brand>(&layer, &z, &b, &c, Blank::new(1));
-    assert_eq!(rt; weights, (number(-24), Ext::zero()));
-    Ok(())
+    weighs_at_three(&rt, &circuit, (number(-24), Ext::zero()))
 }
 
 /// So many coordinates, each another.
@@ -178,6 +206,55 @@ fn wired(circuit: &Circuit, wirings: &[LayerWiring], z: &[Ext], b: &[Ext], c: &[
     wiring.at(circuit, 0, z, b, c)
 }
 
+/// Sees that the wiring of layer 0, by its runs or gate by gate, is the walk over its gates at these points.
+fn agrees_at<R: Abort>(
+    rt: &R,
+    circuit: &Circuit,
+    wirings: &[LayerWiring],
+    z: &[Ext],
+    b: &[Ext],
+    c: &[Ext],
+)
+    requires some { 0 < height circuit.now.parts }
+    requires wirings { AreWiringsOf circuit.now.parts wirings.now }
+{
+    assert!(rt; z.len() == circuit.coordinates(0));
+    assert!(rt; b.len() == circuit.coordinates(1) && c.len() == circuit.coordinates(1));
+    let found = wired(circuit, wirings, z, b, c);
+    assert_eq!(rt; found, wiring_at(circuit, 0, z, b, c));
+}
+
+/// Sees the same at points of the layer's sizes.
+fn agrees_at_points<R: Abort + AllocGlobal>(
+    rt: &R,
+    circuit: &Circuit,
+    wirings: &[LayerWiring],
+) -> Result<(), Fail>
+    requires some { 0 < height circuit.now.parts }
+    requires wirings { AreWiringsOf circuit.now.parts wirings.now }
+{
+    let z = point(rt.alloc(), circuit.coordinates(0), 5)?;
+    let b = point(rt.alloc(), circuit.coordinates(1), 7)?;
+    let c = point(rt.alloc(), circuit.coordinates(1), 11)?;
+    agrees_at(rt, circuit, wirings, &z, &b, &c);
+    Ok(())
+}
+
+/// Sees whether layer 0 is gone over by its runs.
+fn is_by_runs<R: Abort>(rt: &R, wirings: &[LayerWiring], by_runs: bool)
+    requires { 0 < length wirings.now }
+{
+    assert!(rt; matches!(&wirings[0], LayerWiring::Runs(_)) == by_runs);
+}
+
+/// Sees that the wiring of a circuit's one layer, by its runs or gate by gate, is the walk over its gates.
+fn is_wired<R: Abort + AllocGlobal>(rt: &R, circuit: &Circuit, by_runs: bool) -> Result<(), Fail> {
+    assert!(rt; circuit.height() == 1);
+    let wirings = wirings(rt.alloc(), circuit)?;
+    is_by_runs(rt, &wirings, by_runs);
+    agrees_at_points(rt, circuit, &wirings)
+}
+
 /// Sees that the layer's wiring, by its runs or gate by gate, is the walk over its gates.
 fn agrees<R: Abort + AllocGlobal>(
     rt: &R,
@@ -188,17 +265,7 @@ fn agrees<R: Abort + AllocGlobal>(
     let Ok(circuit) = made(rt.alloc(), gates, width) else {
         return Err(Fail::new("no circuit"));
     };
-    assert!(rt; circuit.height() == 1);
-    let z = point(rt.alloc(), circuit.coordinates(0), 5)?;
-    let b = point(rt.alloc(), circuit.coordinates(1), 7)?;
-    let c = point(rt.alloc(), circuit.coordinates(1), 11)?;
-    assert!(rt; z.len() == circuit.coordinates(0));
-    assert!(rt; b.len() == circuit.coordinates(1) && c.len() == circuit.coordinates(1));
-    let wirings = wirings(rt.alloc(), &circuit)?;
-    assert!(rt; matches!(&wirings[0], LayerWiring::Runs(_)) == by_runs);
-    let found = wired(&circuit, &wirings, &z, &b, &c);
-    assert_eq!(rt; found, wiring_at(&circuit, 0, &z, &b, &c));
-    Ok(())
+    is_wired(rt, &circuit, by_runs)
 }
 
 /// Products of operands that stand still, move by one and move by two, sums of neighbours, and a gate among them that no run
@@ -230,7 +297,18 @@ fn tangled(alloc: Global) -> Result<Vec<CircuitGate>, AllocError> {
 
 #[test]
 fn goes_over_runs_where_they_are_few(rt: HostRuntime) -> Result<(), Fail> {
-    agrees(&rt, &neighbours(rt.alloc())?, 8192, true)?;
-    agrees(&rt, &mixed(rt.alloc())?, 8192, true)?;
-    agrees(&rt, &tangled(rt.alloc())?, 8192, false)
+    let gates = neighbours(rt.alloc())?;
+    agrees(&rt, &gates, 8192, true)
+}
+
+#[test]
+fn goes_over_runs_of_several_kinds(rt: HostRuntime) -> Result<(), Fail> {
+    let gates = mixed(rt.alloc())?;
+    agrees(&rt, &gates, 8192, true)
+}
+
+#[test]
+fn goes_over_gates_where_runs_are_many(rt: HostRuntime) -> Result<(), Fail> {
+    let gates = tangled(rt.alloc())?;
+    agrees(&rt, &gates, 8192, false)
 }

@@ -1,9 +1,26 @@
 //! The tables of a circuit of two layers, by hand.
 
-use circuit_eval::layer_values;
+ghost use Rattle.std.specs.Prelude.{◌<◌, length};
+
+use circuit_eval::{Values, layer_values};
 use field_ext::Fp;
+use std::process::Abort;
 use std::test::Fail;
 use test_circuits::{numbers, product};
+
+/// Compares the values of a layer with those wanted.
+fn holds<R: Abort + AllocGlobal>(
+    rt: &R,
+    values: &Values,
+    layer: usize,
+    want: &[i32],
+) -> Result<(), Fail>
+    requires { layer < length values.now }
+{
+    let want = numbers(rt.alloc(), want)?;
+    assert_eq!(rt; values.table(layer).values(), want.as_slice());
+    Ok(())
+}
 
 #[test]
 fn holds_the_values_of_each_layer(rt: HostRuntime) -> Result<(), Fail> {
@@ -15,9 +32,7 @@ fn holds_the_values_of_each_layer(rt: HostRuntime) -> Result<(), Fail> {
         return Err(Fail::new("another circuit"));
     }
     let values = layer_values(&rt, rt.alloc(), &circuit, &inputs)?;
-    for (layer, want) in [(0, &[0, 12][..]), (1, &[0, 12]), (2, &[0, 3, 4, 0])] {
-        let want = numbers(rt.alloc(), want)?;
-        assert_eq!(rt; values.table(layer).values(), want.as_slice());
-    }
-    Ok(())
+    holds(&rt, &values, 0, &[0, 12])?;
+    holds(&rt, &values, 1, &[0, 12])?;
+    holds(&rt, &values, 2, &[0, 3, 4, 0])
 }

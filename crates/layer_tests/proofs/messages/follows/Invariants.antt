@@ -2,5 +2,5 @@
 use Rattle.std.proofs.Common.{◌≡◌, []}
 use Rattle.layer_tests.proofs.messages.follows.Given as goal
 
-abbrev pub invariant-loop-message : goal.invariant-loop-message
-invariant-loop-message g l = l.sum.lent ≡ []
+abbrev pub invariant-loop-coefficients : goal.invariant-loop-coefficients
+invariant-loop-coefficients g l = l.sum.lent ≡ []

@@ -1,5 +1,5 @@
 -- The ledger that counts the steps
-use Rattle.layer_tests.proofs.runs.weighs_a_copy_by_its_run.Given as goal
+use Rattle.layer_tests.proofs.runs.weighs.Given as goal
 
 abbrev pub ghosts-counted : goal.ghosts-counted
 ghosts-counted g a = record { name = a.blank.name; parts = a.blank.parts }
