@@ -22,15 +22,29 @@ fn proved<R: Abort + AllocGlobal + Threads + Wait + Sync>(
     rt: &R,
     circuit: &Circuit,
     inputs: &[Fp],
-    challenges: &[i32],
+    given: &mut Given,
 ) -> Result<Vec<u8>, Fail> {
     let alloc = rt.alloc();
     assert!(rt; inputs.len() == circuit.inputs() as usize);
-    let values = layer_values(rt, alloc, circuit, inputs)?;
-    let mut given = Given::of(numbers(alloc, challenges)?);
     assert!(rt; given.has(challenge_count(circuit)));
-    let messages = prove(rt, alloc, circuit, &values, &mut given, 1, &OpenGate)?;
+    let values = layer_values(rt, alloc, circuit, inputs)?;
+    let messages = prove(rt, alloc, circuit, &values, given, 1, &OpenGate)?;
     Ok(encode(alloc, &messages)?)
+}
+
+/// Sees the proof by lines with these challenges.
+fn proves<R: Abort + AllocGlobal + Threads + Wait + Sync>(
+    rt: &R,
+    circuit: &Circuit,
+    inputs: &[Fp],
+    challenges: &[i32],
+    messages: &[i32],
+) -> Result<(), Fail> {
+    let mut given = Given::of(numbers(rt.alloc(), challenges)?);
+    let bytes = proved(rt, circuit, inputs, &mut given)?;
+    let want = bytes_of(rt.alloc(), ProofForm::Line, messages)?;
+    assert!(rt; bytes.as_slice() == want.as_slice());
+    Ok(())
 }
 
 #[test]
@@ -39,14 +53,8 @@ fn proves_a_copy(rt: HostRuntime) -> Result<(), Fail> {
         return Err(Fail::new("no circuit"));
     };
     let five = [Fp::reduce(5)];
-    let bytes = proved(&rt, &circuit, &five, &[2, 3, 4, 6])?;
-    let want = bytes_of(
-        rt.alloc(),
-        ProofForm::Line,
-        &[0, -5, 15, 120, -80, -40, 15, 5],
-    )?;
-    assert!(rt; bytes.as_slice() == want.as_slice());
-    Ok(())
+    let messages = [0, -5, 15, 120, -80, -40, 15, 5];
+    proves(&rt, &circuit, &five, &[2, 3, 4, 6], &messages)
 }
 
 #[test]
@@ -55,13 +63,16 @@ fn proves_a_product(rt: HostRuntime) -> Result<(), Fail> {
         return Err(Fail::new("no circuit"));
     };
     let inputs = [Fp::reduce(3), Fp::reduce(4)];
-    let bytes = proved(&rt, &circuit, &inputs, &[0, 0, 0, 0, 0, 0, 0, 0, 0])?;
     let messages = [
         0, 12, -12, 0, 12, -12, 0, 0, 0, 3, -3, 0, 4, -4, 0, 3, -3, 0, 4, -4, 0, 0, 0,
     ];
-    let want = bytes_of(rt.alloc(), ProofForm::Line, &messages)?;
-    assert!(rt; bytes.as_slice() == want.as_slice());
-    Ok(())
+    proves(
+        &rt,
+        &circuit,
+        &inputs,
+        &[0, 0, 0, 0, 0, 0, 0, 0, 0],
+        &messages,
+    )
 }
 
 /// The bytes of the proof by pairs with these challenges.
@@ -69,15 +80,29 @@ fn proved_by_pairs<R: Abort + AllocGlobal + Threads + Wait + Sync>(
     rt: &R,
     circuit: &Circuit,
     inputs: &[Fp],
-    challenges: &[i32],
+    given: &mut Given,
 ) -> Result<Vec<u8>, Fail> {
     let alloc = rt.alloc();
     assert!(rt; inputs.len() == circuit.inputs() as usize);
-    let values = layer_values(rt, alloc, circuit, inputs)?;
-    let mut given = Given::of(numbers(alloc, challenges)?);
     assert!(rt; given.has(challenge_count(circuit)));
-    let messages = prove_pair(rt, alloc, circuit, &values, &mut given, 2, &OpenGate)?;
+    let values = layer_values(rt, alloc, circuit, inputs)?;
+    let messages = prove_pair(rt, alloc, circuit, &values, given, 2, &OpenGate)?;
     Ok(encode_pair(alloc, &messages)?)
+}
+
+/// Sees the proof by pairs with these challenges.
+fn proves_by_pairs<R: Abort + AllocGlobal + Threads + Wait + Sync>(
+    rt: &R,
+    circuit: &Circuit,
+    inputs: &[Fp],
+    challenges: &[i32],
+    messages: &[i32],
+) -> Result<(), Fail> {
+    let mut given = Given::of(numbers(rt.alloc(), challenges)?);
+    let bytes = proved_by_pairs(rt, circuit, inputs, &mut given)?;
+    let want = bytes_of(rt.alloc(), ProofForm::Pair, messages)?;
+    assert!(rt; bytes.as_slice() == want.as_slice());
+    Ok(())
 }
 
 #[test]
@@ -86,14 +111,8 @@ fn proves_a_copy_by_a_pair(rt: HostRuntime) -> Result<(), Fail> {
         return Err(Fail::new("no circuit"));
     };
     let five = [Fp::reduce(5)];
-    let bytes = proved_by_pairs(&rt, &circuit, &five, &[2, 3, 4, 6])?;
-    let want = bytes_of(
-        rt.alloc(),
-        ProofForm::Pair,
-        &[0, -5, 15, 120, -80, -40, 15, 20],
-    )?;
-    assert!(rt; bytes.as_slice() == want.as_slice());
-    Ok(())
+    let messages = [0, -5, 15, 120, -80, -40, 15, 20];
+    proves_by_pairs(&rt, &circuit, &five, &[2, 3, 4, 6], &messages)
 }
 
 /// The claim on the layer below is at 3 and, twice, at -1.
@@ -103,11 +122,14 @@ fn proves_a_product_by_pairs(rt: HostRuntime) -> Result<(), Fail> {
         return Err(Fail::new("no circuit"));
     };
     let inputs = [Fp::reduce(3), Fp::reduce(4)];
-    let bytes = proved_by_pairs(&rt, &circuit, &inputs, &[2, 3, -1, 2, 1, 2, -1, 3, 5])?;
     let messages = [
         0, -12, 36, 288, -192, -96, 36, -12, 0, 6, 6, 12, -24, 12, 12, -24, 12, 0, -18, 66, -3, 30,
     ];
-    let want = bytes_of(rt.alloc(), ProofForm::Pair, &messages)?;
-    assert!(rt; bytes.as_slice() == want.as_slice());
-    Ok(())
+    proves_by_pairs(
+        &rt,
+        &circuit,
+        &inputs,
+        &[2, 3, -1, 2, 1, 2, -1, 3, 5],
+        &messages,
+    )
 }

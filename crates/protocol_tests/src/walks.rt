@@ -1,17 +1,19 @@
 //! Verdicts by pairs on layers of gates in no order, less than a block of 256 positions wide and two blocks wide, beside the
 //! sums over gates and leaves that define the wiring polynomials and the input's extension.
 
+ghost use Rattle.std.specs.Prelude.{◌<◌};
+
+use crate::answered::answer_to;
 use crate::spelled::bytes_of;
 use circuit_core::{Circuit, CircuitGate, CircuitRefused, Kind, Layer, Leaf};
 use field_ext::{Ext, Fp};
-use gkr_verify::{Verdict, challenge_count, check_pair};
-use pair_reduce::decode_pair;
+use gkr_verify::Verdict;
 use proof_wire::ProofForm;
 use std::alloc::{AllocError, Global};
 use std::process::Abort;
 use std::test::Fail;
 use test_circuits::gate;
-use transcript_fs::{Challenges, Given};
+use transcript_fs::Given;
 
 /// Gates of both kinds in no order that runs follow, over `2^k` positions.
 fn tangled(alloc: Global, k: u32) -> Result<Vec<CircuitGate>, AllocError> {
@@ -72,6 +74,65 @@ fn at_both(first: &[Ext], second: &[Ext], weight: Ext, number: usize) -> Ext {
     equality(first, number) + weight * equality(second, number)
 }
 
+/// Zeros but for the second layer's pair.
+fn elements(alloc: Global, k: usize, pair: [i32; 2]) -> Result<Vec<i32>, AllocError> {
+    let mut elements = vec![in alloc; 0i32; 2 * (6 * k.min(9) + 2)]?;
+    let behind = elements.len();
+    if 2 <= behind {
+        elements[behind - 2] = pair[0];
+        elements[behind - 1] = pair[1];
+    }
+    Ok(elements)
+}
+
+/// The bytes of messages of zeros but for the second layer's pair.
+fn pair_bytes(alloc: Global, k: usize, pair: [i32; 2]) -> Result<Vec<u8>, AllocError> {
+    let elements = elements(alloc, k, pair)?;
+    bytes_of(alloc, ProofForm::Pair, &elements)
+}
+
+/// The inputs 1, 2, 3 ..
+fn counted(alloc: Global, count: u32) -> Result<Vec<Fp>, AllocError> {
+    let mut inputs = Vec::new(alloc);
+    for j in 0..count {
+        inputs.push(Fp::reduce(j as u64 + 1))?;
+    }
+    Ok(inputs)
+}
+
+/// The verdict on these bytes, for inputs 1, 2, 3 .. and outputs of zeros.
+fn verdict_on_bytes<R: Abort + AllocGlobal>(
+    rt: &R,
+    circuit: &Circuit,
+    bytes: &[u8],
+    given: &mut Given,
+) -> Result<Verdict, Fail> {
+    let inputs = counted(rt.alloc(), circuit.inputs())?;
+    let outputs = vec![in rt.alloc(); Fp::zero(); circuit.outputs() as usize]?;
+    answer_to(
+        rt,
+        ProofForm::Pair,
+        circuit,
+        &inputs,
+        &outputs,
+        bytes,
+        given,
+    )
+}
+
+/// Sees the verdict on messages of zeros but for the second layer's pair, for inputs 1, 2, 3 .. and outputs of zeros.
+fn sees_pair<R: Abort + AllocGlobal>(
+    rt: &R,
+    circuit: &Circuit,
+    k: usize,
+    pair: [i32; 2],
+    want: &Verdict,
+) -> Result<(), Fail> {
+    let verdict = verdict_on(rt, circuit, k, pair)?;
+    assert_eq!(rt; verdict, *want);
+    Ok(())
+}
+
 /// The verdict on messages of zeros but for the second layer's pair, for inputs 1, 2, 3 .. and outputs of zeros.
 fn verdict_on<R: Abort + AllocGlobal>(
     rt: &R,
@@ -79,26 +140,9 @@ fn verdict_on<R: Abort + AllocGlobal>(
     k: usize,
     pair: [i32; 2],
 ) -> Result<Verdict, Fail> {
-    let alloc = rt.alloc();
-    let mut elements = vec![in alloc; 0i32; 2 * (6 * k.min(9) + 2)]?;
-    let behind = elements.len();
-    if 2 <= behind {
-        elements[behind - 2] = pair[0];
-        elements[behind - 1] = pair[1];
-    }
-    let bytes = bytes_of(alloc, ProofForm::Pair, &elements)?;
-    let Ok(messages) = decode_pair(alloc, &bytes, circuit.shape()) else {
-        return Err(Fail::new("no messages"));
-    };
-    let mut inputs = Vec::new(alloc);
-    for j in 0..circuit.inputs() {
-        inputs.push(Fp::reduce(j as u64 + 1))?;
-    }
-    let outputs = vec![in alloc; Fp::zero(); circuit.outputs() as usize]?;
-    let mut given = Given::of(drawn(alloc, 5 * k.min(9) + 2)?);
-    assert!(rt; given.has(challenge_count(circuit)));
-    assert!(rt; inputs.len() == circuit.inputs() as usize);
-    Ok(check_pair(alloc, circuit, &inputs, &outputs, &messages, &mut given)?)
+    let bytes = pair_bytes(rt.alloc(), k, pair)?;
+    let mut given = Given::of(drawn(rt.alloc(), 5 * k.min(9) + 2)?);
+    verdict_on_bytes(rt, circuit, &bytes, &mut given)
 }
 
 /// The sum over the gates of a kind at the place of the second layer's claim, for the challenges after the output's point.
@@ -132,33 +176,55 @@ fn inputs_sum(inputs: usize, drawn: &[Ext], k: usize) -> Ext {
     sum
 }
 
+/// Sees the verdicts on three pairs, whose wanted sums are those over these gates and the inputs.
+fn sees_sums<R: Abort + AllocGlobal>(
+    rt: &R,
+    circuit: &Circuit,
+    gates: &[CircuitGate],
+    drawn: &[Ext],
+    k: usize,
+) -> Result<(), Fail> {
+    let had = Ext::zero();
+    let add = Verdict::End {
+        layer: 1,
+        had,
+        want: gates_sum(gates, Kind::Add, drawn, k),
+    };
+    let mul = Verdict::End {
+        layer: 1,
+        had,
+        want: Ext::zero() - gates_sum(gates, Kind::Mul, drawn, k),
+    };
+    let input = Verdict::Input {
+        had,
+        want: inputs_sum(circuit.inputs() as usize, drawn, k),
+    };
+    sees_pair(rt, circuit, k, [1, 0], &add)?;
+    sees_pair(rt, circuit, k, [1, -1], &mul)?;
+    sees_pair(rt, circuit, k, [0, 0], &input)
+}
+
+/// Sees the verdicts on a circuit over `2^k` positions.
+fn sums_over<R: Abort + AllocGlobal>(rt: &R, circuit: &Circuit, k: usize) -> Result<(), Fail>
+    requires { k < 10 }
+{
+    let gates = tangled(rt.alloc(), k as u32)?;
+    let all = drawn(rt.alloc(), 5 * k + 2)?;
+    sees_sums(rt, circuit, &gates, &all[k.min(all.len())..], k)
+}
+
 #[test]
 fn sums_in_blocks_at_both_points(rt: HostRuntime) -> Result<(), Fail> {
-    for k in [3usize, 9] {
-        let Ok(circuit) = made(rt.alloc(), k as u32) else {
-            return Err(Fail::new("no circuit"));
-        };
-        let gates = tangled(rt.alloc(), k as u32)?;
-        let all = drawn(rt.alloc(), 5 * k + 2)?;
-        let drawn = &all[k.min(all.len())..];
-        let had = Ext::zero();
-        let add = Verdict::End {
-            layer: 1,
-            had,
-            want: gates_sum(&gates, Kind::Add, drawn, k),
-        };
-        let mul = Verdict::End {
-            layer: 1,
-            had,
-            want: Ext::zero() - gates_sum(&gates, Kind::Mul, drawn, k),
-        };
-        let input = Verdict::Input {
-            had,
-            want: inputs_sum(circuit.inputs() as usize, drawn, k),
-        };
-        for (pair, verdict) in [([1, 0], add), ([1, -1], mul), ([0, 0], input)] {
-            assert_eq!(rt; verdict_on(&rt, &circuit, k, pair)?, verdict);
-        }
-    }
-    Ok(())
+    let Ok(circuit) = made(rt.alloc(), 3) else {
+        return Err(Fail::new("no circuit"));
+    };
+    sums_over(&rt, &circuit, 3)
+}
+
+#[test]
+fn sums_in_two_blocks_at_both_points(rt: HostRuntime) -> Result<(), Fail> {
+    let Ok(circuit) = made(rt.alloc(), 9) else {
+        return Err(Fail::new("no circuit"));
+    };
+    sums_over(&rt, &circuit, 9)
 }
