@@ -1,5 +1,7 @@
 //! Live sessions of the circuit that copies, by hand.
 
+ghost use Rattle.std.specs.Prelude.{◌<◌};
+
 use circuit_core::Circuit;
 use circuit_eval::layer_values;
 use field_ext::{Ext, Fp};
@@ -75,42 +77,95 @@ fn proved<R: Abort + AllocGlobal + Threads + Sync>(
     Ok(Ok((sent, prover.verdict())))
 }
 
+/// What a verifier answers to bytes in pieces, to the last of them, and how much it has sent then.
+type Answer = (Result<Progress, LiveFault>, usize);
+
+/// Sees what a verifier of one output answers.
+fn answers<R: Abort + AllocGlobal>(
+    rt: &R,
+    circuit: &Circuit,
+    output: u64,
+    bytes: &[u8],
+    piece: usize,
+    want: &Answer,
+) -> Result<(), Fail> {
+    assert_eq!(rt; answered(rt, circuit, output, bytes, piece)?, *want);
+    Ok(())
+}
+
+/// Sees what a prover of the copied 5 sends, and its verdict.
+fn sends<R: Abort + AllocGlobal + Threads + Sync>(
+    rt: &R,
+    circuit: &Circuit,
+    bytes: &[u8],
+    piece: usize,
+    want: &[u8],
+    told: Option<bool>,
+) -> Result<(), Fail> {
+    let Ok((sent, verdict)) = proved(rt, circuit, bytes, piece)? else {
+        return Err(Fail::new("a stop"));
+    };
+    assert_eq!(rt; sent.as_slice(), want);
+    assert_eq!(rt; verdict, told);
+    Ok(())
+}
+
+/// Sees why a prover of the copied 5 stops.
+fn stops<R: Abort + AllocGlobal + Threads + Sync>(
+    rt: &R,
+    circuit: &Circuit,
+    bytes: &[u8],
+    piece: usize,
+    want: ProverStop,
+) -> Result<(), Fail> {
+    match proved(rt, circuit, bytes, piece)? {
+        Ok(_) => Err(Fail::new("no stop")),
+        Err(stop) => {
+            assert_eq!(rt; stop, want);
+            Ok(())
+        }
+    }
+}
+
 #[test]
 fn answers_alike_for_any_pieces(rt: HostRuntime) -> Result<(), Fail> {
     let Ok(circuit) = copy(rt.alloc()) else {
         return Err(Fail::new("no circuit"));
     };
     let messages = spelled(&rt, &COPIED)?;
-    let mut words = spelled(&rt, &WORDS)?;
-    words.push(1)?;
     let end = Verdict::Sum {
         layer: 0,
         round: 1,
         had: number(10),
         claim: number(12),
     };
+    let accepted = (Ok(Progress::Ended(Verdict::Accepted)), 33);
+    let rejected = (Ok(Progress::Ended(end)), 33);
     for piece in [1, 2, 7, 8, 9, 63, 65536] {
-        assert_eq!(rt;
-            answered(&rt, &circuit, 5, &messages, piece)?,
-            (Ok(Progress::Ended(Verdict::Accepted)), 33)
-        );
-        assert_eq!(rt;
-            answered(&rt, &circuit, 6, &messages, piece)?,
-            (Ok(Progress::Ended(end)), 33)
-        );
-        let Ok((sent, verdict)) = proved(&rt, &circuit, &words, piece)? else {
-            return Err(Fail::new("a stop"));
-        };
-        assert_eq!(rt; sent.as_slice(), messages.as_slice());
-        assert_eq!(rt; verdict, Some(true));
+        answers(&rt, &circuit, 5, &messages, piece, &accepted)?;
+        answers(&rt, &circuit, 6, &messages, piece, &rejected)?;
     }
     Ok(())
 }
 
-/// Each message is due once all challenges before it are there, and each challenge once the message before it is: the verifier
-/// has sent 8 bytes at its start, and 8 more after each message of 24, 24 and 16 bytes.
 #[test]
-fn sends_what_is_due(rt: HostRuntime) -> Result<(), Fail> {
+fn sends_alike_for_any_pieces(rt: HostRuntime) -> Result<(), Fail> {
+    let Ok(circuit) = copy(rt.alloc()) else {
+        return Err(Fail::new("no circuit"));
+    };
+    let messages = spelled(&rt, &COPIED)?;
+    let mut words = spelled(&rt, &WORDS)?;
+    words.push(1)?;
+    for piece in [1, 2, 7, 8, 9, 63, 65536] {
+        sends(&rt, &circuit, &words, piece, &messages, Some(true))?;
+    }
+    Ok(())
+}
+
+/// Each challenge is due once the message before it is there: the verifier has sent 8 bytes at its start, and 8 more after each
+/// message of 24, 24 and 16 bytes.
+#[test]
+fn sends_the_words_that_are_due(rt: HostRuntime) -> Result<(), Fail> {
     let Ok(circuit) = copy(rt.alloc()) else {
         return Err(Fail::new("no circuit"));
     };
@@ -118,18 +173,23 @@ fn sends_what_is_due(rt: HostRuntime) -> Result<(), Fail> {
     assert!(rt; messages.len() == 64);
     for (fed, sent) in [(0, 8), (23, 8), (24, 16), (47, 16), (48, 24), (63, 24)] {
         assert!(rt; fed <= messages.len());
-        assert_eq!(rt;
-            answered(&rt, &circuit, 5, &messages[..fed], 65536)?,
-            (Ok(Progress::Waiting), sent)
-        );
+        let waiting = (Ok(Progress::Waiting), sent);
+        answers(&rt, &circuit, 5, &messages[..fed], 65536, &waiting)?;
     }
-    assert_eq!(rt;
-        answered(&rt, &circuit, 5, &messages, 65536)?,
-        (Ok(Progress::Ended(Verdict::Accepted)), 33)
-    );
+    let accepted = (Ok(Progress::Ended(Verdict::Accepted)), 33);
+    answers(&rt, &circuit, 5, &messages, 65536, &accepted)
+}
+
+/// Each message is due once all challenges before it are there.
+#[test]
+fn sends_the_messages_that_are_due(rt: HostRuntime) -> Result<(), Fail> {
+    let Ok(circuit) = copy(rt.alloc()) else {
+        return Err(Fail::new("no circuit"));
+    };
+    let messages = spelled(&rt, &COPIED)?;
     let mut words = spelled(&rt, &WORDS)?;
     words.push(0)?;
-    assert!(rt; words.len() == 33);
+    assert!(rt; words.len() == 33 && messages.len() == 64);
     for (fed, sent, told) in [
         (0, 0, None),
         (7, 0, None),
@@ -139,13 +199,8 @@ fn sends_what_is_due(rt: HostRuntime) -> Result<(), Fail> {
         (32, 64, None),
         (33, 64, Some(false)),
     ] {
-        assert!(rt; fed <= words.len());
-        let Ok((bytes, verdict)) = proved(&rt, &circuit, &words[..fed], 65536)? else {
-            return Err(Fail::new("a stop"));
-        };
-        assert!(rt; messages.starts_with(&bytes));
-        assert_eq!(rt; bytes.len(), sent);
-        assert_eq!(rt; verdict, told);
+        assert!(rt; fed <= words.len() && sent <= messages.len());
+        sends(&rt, &circuit, &words[..fed], 65536, &messages[..sent], told)?;
     }
     Ok(())
 }
@@ -174,35 +229,82 @@ fn out_of_range<R: Abort + AllocGlobal>(
     Ok(bytes)
 }
 
+/// Sees that a verifier names the half that is the prime, for pieces of any size and with a byte after the messages. Nothing is
+/// sent after the fault: 8 bytes at the start, and 8 more after each message of three elements.
+fn names_the_half<R: Abort + AllocGlobal>(
+    rt: &R,
+    circuit: &Circuit,
+    half: usize,
+) -> Result<(), Fail>
+    requires { half < 16 }
+{
+    let mut bytes = out_of_range(rt, 8, half)?;
+    let at = half / 2 * 8;
+    let range = (Err(LiveFault::Range { at }), 8 + half / 6 * 8);
+    for piece in [1, 9, 65536] {
+        answers(rt, circuit, 5, &bytes, piece, &range)?;
+    }
+    bytes.push(0)?;
+    answers(rt, circuit, 5, &bytes, 65536, &range)
+}
+
+#[test]
+fn names_each_half_out_of_range(rt: HostRuntime) -> Result<(), Fail> {
+    let Ok(circuit) = copy(rt.alloc()) else {
+        return Err(Fail::new("no circuit"));
+    };
+    for half in 0..16 {
+        names_the_half(&rt, &circuit, half)?;
+    }
+    Ok(())
+}
+
 #[test]
 fn tells_the_first_fault(rt: HostRuntime) -> Result<(), Fail> {
     let Ok(circuit) = copy(rt.alloc()) else {
         return Err(Fail::new("no circuit"));
     };
-    for half in 0..16 {
-        let mut bytes = out_of_range(&rt, 8, half)?;
-        let at = half / 2 * 8;
-        // Nothing is sent after the fault: 8 bytes at the start, and 8 more after each message of three elements.
-        let range = (Err(LiveFault::Range { at }), 8 + half / 6 * 8);
-        for piece in [1, 9, 65536] {
-            assert_eq!(rt; answered(&rt, &circuit, 5, &bytes, piece)?, range);
-        }
-        // Bytes after the messages change nothing.
-        bytes.push(0)?;
-        assert_eq!(rt; answered(&rt, &circuit, 5, &bytes, 65536)?, range);
-    }
     let first = [255, 255, 255, 127, 0, 0, 0, 0];
+    let range = (Err(LiveFault::Range { at: 0 }), 8);
     for piece in [1, 2, 7, 8, 9, 63, 65536] {
-        assert_eq!(rt;
-            answered(&rt, &circuit, 5, &first, piece)?,
-            (Err(LiveFault::Range { at: 0 }), 8)
-        );
+        answers(&rt, &circuit, 5, &first, piece, &range)?;
     }
     let mut messages = spelled(&rt, &COPIED)?;
     messages.extend_from_slice(&[0, 0])?;
     let extra = (Err(LiveFault::Extra { at: 64 }), 33);
-    assert_eq!(rt; answered(&rt, &circuit, 5, &messages, 1)?, extra);
-    assert_eq!(rt; answered(&rt, &circuit, 5, &messages, 65536)?, extra);
+    answers(&rt, &circuit, 5, &messages, 1, &extra)?;
+    answers(&rt, &circuit, 5, &messages, 65536, &extra)
+}
+
+/// Sees that a prover stops at the half that is the prime, for pieces of any size.
+fn stops_at_the_half<R: Abort + AllocGlobal + Threads + Sync>(
+    rt: &R,
+    circuit: &Circuit,
+    half: usize,
+) -> Result<(), Fail>
+    requires { half < 8 }
+{
+    let mut bytes = out_of_range(rt, 4, half)?;
+    bytes.extend_from_slice(&[2, 0])?;
+    let at = half / 2 * 8;
+    for piece in [1, 7, 65536] {
+        stops(rt, circuit, &bytes, piece, ProverStop::Range { at })?;
+    }
+    Ok(())
+}
+
+/// Sees that a prover that was fed the words and these two bytes stops for the reason, for pieces of any size.
+fn stops_after_the_words<R: Abort + AllocGlobal + Threads + Sync>(
+    rt: &R,
+    circuit: &Circuit,
+    last: &[u8],
+    want: ProverStop,
+) -> Result<(), Fail> {
+    let mut words = spelled(rt, &WORDS)?;
+    words.extend_from_slice(last)?;
+    for piece in [1, 8, 65536] {
+        stops(rt, circuit, &words, piece, want)?;
+    }
     Ok(())
 }
 
@@ -212,25 +314,12 @@ fn stops_a_prover_at_the_first_fault(rt: HostRuntime) -> Result<(), Fail> {
         return Err(Fail::new("no circuit"));
     };
     for half in 0..8 {
-        let mut bytes = out_of_range(&rt, 4, half)?;
-        bytes.extend_from_slice(&[2, 0])?;
-        for piece in [1, 7, 65536] {
-            let stopped = proved(&rt, &circuit, &bytes, piece)?;
-            assert!(rt; matches!(&stopped, Err(ProverStop::Range { at }) if *at == half / 2 * 8));
-        }
+        stops_at_the_half(&rt, &circuit, half)?;
     }
-    for (last, stop) in [
-        (&[2, 0], ProverStop::Range { at: 32 }),
-        (&[255, 1], ProverStop::Range { at: 32 }),
-        (&[1, 0], ProverStop::Extra { at: 33 }),
-        (&[0, 2], ProverStop::Extra { at: 33 }),
-    ] {
-        let mut words = spelled(&rt, &WORDS)?;
-        words.extend_from_slice(last)?;
-        for piece in [1, 8, 65536] {
-            let stopped = proved(&rt, &circuit, &words, piece)?;
-            assert!(rt; matches!(&stopped, Err(e) if *e == stop));
-        }
-    }
-    Ok(())
+    let range = ProverStop::Range { at: 32 };
+    let extra = ProverStop::Extra { at: 33 };
+    stops_after_the_words(&rt, &circuit, &[2, 0], range)?;
+    stops_after_the_words(&rt, &circuit, &[255, 1], range)?;
+    stops_after_the_words(&rt, &circuit, &[1, 0], extra)?;
+    stops_after_the_words(&rt, &circuit, &[0, 2], extra)
 }
