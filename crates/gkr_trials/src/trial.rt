@@ -148,6 +148,48 @@ fn is_accepted<R: Threads + Wait + Sync>(
     Ok(verdict.status == Status::Done && verdict.written.as_slice() == b"accepted\n".as_slice())
 }
 
+/// What the commands say of a proved case of which a byte is changed.
+fn spoilt<R: Threads + Wait + Sync>(
+    rt: &R,
+    alloc: Global,
+    rng: &mut Xoshiro256PlusPlus,
+    proved: &[u8],
+) -> Result<Outcome, AllocError> {
+    let mut text = Vec::from_slice(alloc, proved)?;
+    spoil(rng, &mut text);
+    spoiled(rt, alloc, &text)
+}
+
+/// What must hold of a case that `prove` ended so, and then of it with a byte changed.
+fn judged<R: Threads + Wait + Sync>(
+    rt: &R,
+    alloc: Global,
+    rng: &mut Xoshiro256PlusPlus,
+    case: &[u8],
+    evaluated: &Ran,
+    proved: &Ran,
+) -> Result<Outcome, AllocError> {
+    if proved.status != Status::Done {
+        return Ok(refused(evaluated, proved));
+    }
+    match proved_wrong(rt, alloc, case, evaluated, proved)? {
+        Some(law) => Ok(Outcome::Broken(law)),
+        None => spoilt(rt, alloc, rng, &proved.written),
+    }
+}
+
+/// Puts a case through the commands.
+fn tried<R: Threads + Wait + Sync>(
+    rt: &R,
+    alloc: Global,
+    rng: &mut Xoshiro256PlusPlus,
+    case: &[u8],
+) -> Result<Outcome, AllocError> {
+    let evaluated = run(rt, alloc, &["eval"], case)?;
+    let proved = run(rt, alloc, &["prove"], case)?;
+    judged(rt, alloc, rng, case, &evaluated, &proved)
+}
+
 /// Makes a case from a number, and puts it through the commands.
 pub fn trial<R: Threads + Wait + Sync>(
     rt: &R,
@@ -157,14 +199,5 @@ pub fn trial<R: Threads + Wait + Sync>(
     let mut rng = Xoshiro256PlusPlus::seed_from_u64(number);
     let made = make_program(&mut rng, alloc)?;
     let case = case_text(&mut rng, alloc, &made)?;
-    let evaluated = run(rt, alloc, &["eval"], &case)?;
-    let mut proved = run(rt, alloc, &["prove"], &case)?;
-    if proved.status != Status::Done {
-        return Ok(refused(&evaluated, &proved));
-    }
-    if let Some(law) = proved_wrong(rt, alloc, &case, &evaluated, &proved)? {
-        return Ok(Outcome::Broken(law));
-    }
-    spoil(&mut rng, &mut proved.written);
-    spoiled(rt, alloc, &proved.written)
+    tried(rt, alloc, &mut rng, &case)
 }
