@@ -68,15 +68,20 @@ fn follows<R: Abort>(rt: &R, mut transcript: Transcript, mut state: [u8; 32]) {
     assert_eq!(rt; transcript.challenge(), halves(&state));
 }
 
-#[test]
-fn hands_out_a_list(rt: HostRuntime) -> Result<(), Fail> {
-    let (first, second) = (element(2, 0), element(3, 1));
-    let mut given = Given::of(Vec::from_slice(rt.alloc(), &[first, second])?);
+/// Sees that a list hands out these two elements and no more.
+fn hands_out<R: Abort>(rt: &R, given: &mut Given, first: Ext, second: Ext) {
     assert!(rt; given.has(2) && !given.has(3));
     assert_eq!(rt; given.challenge(), first);
     given.absorb(&[second, second]);
     assert!(rt; given.has(1));
     assert_eq!(rt; given.challenge(), second);
     assert!(rt; given.has(0) && !given.has(1));
+}
+
+#[test]
+fn hands_out_a_list(rt: HostRuntime) -> Result<(), Fail> {
+    let (first, second) = (element(2, 0), element(3, 1));
+    let mut given = Given::of(Vec::from_slice(rt.alloc(), &[first, second])?);
+    hands_out(&rt, &mut given, first, second);
     Ok(())
 }
