@@ -1,6 +1,6 @@
 //! What an audit takes beside the proof that it looks at.
 
-ghost use Rattle.std.specs.Prelude.{◌≡◌, ◌<◌, ◌^◌, drop, length, IfOk, List};
+ghost use Rattle.std.specs.Prelude.{◌≡◌, ◌<◌, ◌^◌, drop, length, IfOk, IfSome, List};
 ghost use Rattle.field_ext.specs.Field.{F};
 ghost use Rattle.circuit_core.specs.Sound.{exponents};
 ghost use Rattle.circuit_eval.specs.Tables.{AreTables};
@@ -28,6 +28,13 @@ use std::time::Instant;
 use transcript_fs::laws::always_has;
 use transcript_fs::{Statement, Transcript};
 
+/// The values of a circuit's layers, and its outputs.
+#[derive(Drop)]
+struct Evaluation {
+    values: Values,
+    outputs: Vec<Fp>,
+}
+
 /// The outputs that the circuit has, which are after position 0 of the output layer's table.
 fn outputs_of(alloc: Global, circuit: &Circuit, table: &Table) -> Result<Vec<Fp>, AllocError> {
     let mut outputs = Vec::new(alloc);
@@ -36,6 +43,48 @@ fn outputs_of(alloc: Global, circuit: &Circuit, table: &Table) -> Result<Vec<Fp>
         outputs.push(value.re())?;
     }
     Ok(outputs)
+}
+
+/// The values of a circuit's layers for these inputs, and its outputs, where there are as many as it has.
+fn evaluated_on<R: Threads + Sync>(
+    alloc: Global,
+    threads: &R,
+    circuit: &Circuit,
+    inputs: &[Fp],
+) -> Result<Option<Evaluation>, AllocError>
+    ensures values { IfOk result (λ found. IfSome found
+        (λ on. (inputs : List F) × AreTables circuit.now.parts inputs on.values)) }
+    ensures outputs { IfOk result (λ found. IfSome found
+        (λ on. length on.outputs.items ≡ circuit.now.parts.outputs)) }
+    ensures few { IfOk result (λ found. IfSome found
+        (λ on. length on.outputs.items < 2 ^ 32)) }
+{
+    if inputs.len() != circuit.inputs() as usize {
+        return Ok(None);
+    }
+    let values = layer_values(threads, alloc, circuit, inputs)?;
+    let outputs = outputs_of(alloc, circuit, values.table(0))?;
+    if outputs.len() != circuit.outputs() as usize {
+        return Ok(None);
+    }
+    Ok(Some(Evaluation { values, outputs }))
+}
+
+/// The values of a circuit's layers for inputs that are each another, and its outputs.
+fn evaluated<R: Threads + Sync>(
+    alloc: Global,
+    threads: &R,
+    circuit: &Circuit,
+) -> Result<Option<Evaluation>, AllocError>
+    ensures values { IfOk result (λ found. IfSome found
+        (λ on. (inputs : List F) × AreTables circuit.now.parts inputs on.values)) }
+    ensures outputs { IfOk result (λ found. IfSome found
+        (λ on. length on.outputs.items ≡ circuit.now.parts.outputs)) }
+    ensures few { IfOk result (λ found. IfSome found
+        (λ on. length on.outputs.items < 2 ^ 32)) }
+{
+    let inputs = numbers(alloc, u64::from(circuit.inputs()))?;
+    evaluated_on(alloc, threads, circuit, &inputs)
 }
 
 /// The honest messages by one worker, with the transcript's challenges.
@@ -95,6 +144,72 @@ fn audited<R: Threads + Wait + Sync>(
     )
 }
 
+/// How many microseconds a proof, and an audit of its messages, took. None where the audit finds something.
+fn time_audit<R: Threads + Wait + Sync>(
+    rt: &HostRuntime,
+    threads: &R,
+    circuit: &Circuit,
+    values: &Values,
+    outputs: &[Fp],
+    messages: &Messages,
+    proving: u64,
+) -> io::Result<Option<(u64, u64)>>
+    requires values { (inputs : List F) × AreTables circuit.now.parts inputs values.now }
+    requires few { length outputs.now < 2 ^ 32 }
+    requires outputs { length outputs.now ≡ circuit.now.parts.outputs }
+    requires shape { HaveShape Line (drop 1 (exponents circuit.now.parts)) messages.now.layers }
+{
+    let begun = Instant::now(rt)?;
+    let audit = audited(threads, rt.alloc(), circuit, values, outputs, messages)?;
+    let time = microseconds(begun.elapsed(rt)?);
+    if audit.verdict != Verdict::Accepted || audit.challenge.is_some() {
+        return Ok(None);
+    }
+    Ok(Some((proving, time)))
+}
+
+/// How many microseconds a proof and an audit of it took. None where the audit finds something.
+fn times_once<R: Threads + Wait + Sync>(
+    rt: &HostRuntime,
+    threads: &R,
+    circuit: &Circuit,
+    values: &Values,
+    outputs: &[Fp],
+) -> io::Result<Option<(u64, u64)>>
+    requires values { (inputs : List F) × AreTables circuit.now.parts inputs values.now }
+    requires few { length outputs.now < 2 ^ 32 }
+    requires outputs { length outputs.now ≡ circuit.now.parts.outputs }
+{
+    let begun = Instant::now(rt)?;
+    let messages = proved(threads, rt.alloc(), circuit, values, outputs)?;
+    let proving = microseconds(begun.elapsed(rt)?);
+    time_audit(rt, threads, circuit, values, outputs, &messages, proving)
+}
+
+/// The least of five such times each.
+fn least_times<R: Threads + Wait + Sync>(
+    rt: &HostRuntime,
+    threads: &R,
+    circuit: &Circuit,
+    values: &Values,
+    outputs: &[Fp],
+) -> io::Result<Option<(u64, u64)>>
+    requires values { (inputs : List F) × AreTables circuit.now.parts inputs values.now }
+    requires few { length outputs.now < 2 ^ 32 }
+    requires outputs { length outputs.now ≡ circuit.now.parts.outputs }
+{
+    let mut proving = u64::MAX;
+    let mut auditing = u64::MAX;
+    for _ in 0..5u32 {
+        let Some((proof, audit)) = times_once(rt, threads, circuit, values, outputs)? else {
+            return Ok(None);
+        };
+        proving = proving.min(proof);
+        auditing = auditing.min(audit);
+    }
+    Ok(Some((proving, auditing)))
+}
+
 /// How many microseconds a proof of the circuit's outputs and an audit of it took, each the least of five. None where the
 /// audit finds something.
 fn times<R: Threads + Wait + Sync>(
@@ -102,46 +217,38 @@ fn times<R: Threads + Wait + Sync>(
     threads: &R,
     circuit: &Circuit,
 ) -> io::Result<Option<(u64, u64)>> {
-    let alloc = rt.alloc();
-    let inputs = numbers(alloc, u64::from(circuit.inputs()))?;
-    if inputs.len() != circuit.inputs() as usize {
-        return Ok(None);
+    match evaluated(rt.alloc(), threads, circuit)? {
+        Some(on) => least_times(rt, threads, circuit, &on.values, &on.outputs),
+        None => Ok(None),
     }
-    let values = layer_values(threads, alloc, circuit, &inputs)?;
-    let outputs = outputs_of(alloc, circuit, values.table(0))?;
-    if outputs.len() != circuit.outputs() as usize {
-        return Ok(None);
+}
+
+/// Prints what proving and auditing so many gates took.
+fn print_times(rt: &HostRuntime, count: u64, proving: u64, auditing: u64) -> io::Result<()> {
+    println!(rt;
+        "audit: {} gates, proof {} us, audit {} us",
+        count, proving, auditing
+    )?;
+    let hundredths = auditing.saturating_mul(100) / proving.max(1);
+    println!(rt; "audit: {} hundredths of the proof's time", hundredths)
+}
+
+/// Prints what proving and auditing a circuit took.
+fn print_audit<R: Threads + Wait + Sync>(
+    rt: &HostRuntime,
+    threads: &R,
+    circuit: &Circuit,
+) -> io::Result<()> {
+    match times(rt, threads, circuit)? {
+        Some((proving, auditing)) => print_times(rt, gates(circuit), proving, auditing),
+        None => println!(rt; "audit: the audit finds something"),
     }
-    let mut proving = u64::MAX;
-    let mut auditing = u64::MAX;
-    for _ in 0..5u32 {
-        let begun = Instant::now(rt)?;
-        let messages = proved(threads, alloc, circuit, &values, &outputs)?;
-        proving = proving.min(microseconds(begun.elapsed(rt)?));
-        let begun = Instant::now(rt)?;
-        let audit = audited(threads, alloc, circuit, &values, &outputs, &messages)?;
-        auditing = auditing.min(microseconds(begun.elapsed(rt)?));
-        if audit.verdict != Verdict::Accepted || audit.challenge.is_some() {
-            return Ok(None);
-        }
-    }
-    Ok(Some((proving, auditing)))
 }
 
 /// Prints what proving and auditing layers of random gates took.
 pub fn random<R: Threads + Wait + Sync>(rt: &HostRuntime, threads: &R, k: u32) -> io::Result<()> {
-    let Some(circuit) = tangled(rt.alloc(), k)? else {
-        return println!(rt; "audit: no layers of that size");
-    };
-    let Some((proving, auditing)) = times(rt, threads, &circuit)? else {
-        return println!(rt; "audit: the audit finds something");
-    };
-    println!(rt;
-        "audit: {} gates, proof {} us, audit {} us",
-        gates(&circuit),
-        proving,
-        auditing
-    )?;
-    let hundredths = auditing.saturating_mul(100) / proving.max(1);
-    println!(rt; "audit: {} hundredths of the proof's time", hundredths)
+    match tangled(rt.alloc(), k)? {
+        Some(circuit) => print_audit(rt, threads, &circuit),
+        None => println!(rt; "audit: no layers of that size"),
+    }
 }

@@ -7,9 +7,9 @@ ghost use Rattle.run_wiring.specs.CircuitRuns.{AreWiringsOf};
 
 use crate::circuits::{compiled, gates};
 use crate::measure::microseconds;
-use crate::proving::Random;
+use crate::random::Random;
 use case_text::{Form, read_case};
-use circuit_core::{Circuit, CircuitGate, Kind, Layer, Leaf};
+use circuit_core::{Circuit, Layer, Leaf};
 use field_ext::{Ext, Fp};
 use gkr_verify::{Verdict, check_as};
 use proof_wire::{Messages, ProofForm, decode_as, proof_len_as};
@@ -25,11 +25,8 @@ use wiring_poly::wiring_at;
 /// How many layers of random gates a circuit has.
 const LAYERS: u32 = 8;
 
-/// Messages of zeros of this form. Where each input is zero, and each constant too, they are the honest ones.
-fn zeros(alloc: Global, form: ProofForm, circuit: &Circuit) -> Result<Option<Messages>, AllocError>
-    ensures { IfOk result (λ found. IfSome found
-        (λ messages. HaveShape form (drop 1 (exponents circuit.now.parts)) messages.layers)) }
-{
+/// The bytes of a proof of this form whose messages are zeros.
+fn zero_bytes(alloc: Global, form: ProofForm, circuit: &Circuit) -> Result<Vec<u8>, AllocError> {
     let magic = match form {
         ProofForm::Line => b"GKR1",
         ProofForm::Pair => b"GKRP",
@@ -38,6 +35,15 @@ fn zeros(alloc: Global, form: ProofForm, circuit: &Circuit) -> Result<Option<Mes
     for _ in 4..proof_len_as(form, circuit.shape()) {
         bytes.push(0)?;
     }
+    Ok(bytes)
+}
+
+/// Messages of zeros of this form. Where each input is zero, and each constant too, they are the honest ones.
+fn zeros(alloc: Global, form: ProofForm, circuit: &Circuit) -> Result<Option<Messages>, AllocError>
+    ensures { IfOk result (λ found. IfSome found
+        (λ messages. HaveShape form (drop 1 (exponents circuit.now.parts)) messages.layers)) }
+{
+    let bytes = zero_bytes(alloc, form, circuit)?;
     match decode_as(alloc, form, &bytes, circuit.shape()) {
         Ok(messages) => Ok(Some(messages)),
         Err(_) => Ok(None),
@@ -69,22 +75,49 @@ fn verdict_on(
     )
 }
 
-/// How many microseconds a check of a proof of this form took, the best of ten. None where it isn't accepted.
-fn checking(rt: &HostRuntime, form: ProofForm, circuit: &Circuit) -> io::Result<Option<u64>> {
-    let alloc = rt.alloc();
-    let Some(messages) = zeros(alloc, form, circuit)? else {
+/// How many microseconds a check of messages of this form took. None where they aren't accepted.
+fn time_check(
+    rt: &HostRuntime,
+    form: ProofForm,
+    circuit: &Circuit,
+    messages: &Messages,
+) -> io::Result<Option<u64>>
+    requires { HaveShape form (drop 1 (exponents circuit.now.parts)) messages.now.layers }
+{
+    let begun = Instant::now(rt)?;
+    let verdict = verdict_on(rt.alloc(), form, circuit, messages)?;
+    let time = microseconds(begun.elapsed(rt)?);
+    if verdict != Verdict::Accepted {
         return Ok(None);
-    };
+    }
+    Ok(Some(time))
+}
+
+/// The best of ten such times.
+fn least_check(
+    rt: &HostRuntime,
+    form: ProofForm,
+    circuit: &Circuit,
+    messages: &Messages,
+) -> io::Result<Option<u64>>
+    requires { HaveShape form (drop 1 (exponents circuit.now.parts)) messages.now.layers }
+{
     let mut taken = u64::MAX;
     for _ in 0..10u32 {
-        let begun = Instant::now(rt)?;
-        let verdict = verdict_on(alloc, form, circuit, &messages)?;
-        taken = taken.min(microseconds(begun.elapsed(rt)?));
-        if verdict != Verdict::Accepted {
+        let Some(time) = time_check(rt, form, circuit, messages)? else {
             return Ok(None);
-        }
+        };
+        taken = taken.min(time);
     }
     Ok(Some(taken))
+}
+
+/// How many microseconds a check of a proof of this form took, the best of ten. None where it isn't accepted.
+fn checking(rt: &HostRuntime, form: ProofForm, circuit: &Circuit) -> io::Result<Option<u64>> {
+    match zeros(rt.alloc(), form, circuit)? {
+        Some(messages) => least_check(rt, form, circuit, &messages),
+        None => Ok(None),
+    }
 }
 
 /// A point of as many coordinates as the widest layer may have.
@@ -126,7 +159,7 @@ fn by_gates(circuit: &Circuit) -> u32 {
 }
 
 /// Microseconds for the wiring polynomials of all layers: finding the runs, going over them, and walking over the gates.
-#[derive(Drop)]
+#[derive(Clone, Copy)]
 struct Wired {
     finding: u64,
     runs: u64,
@@ -134,63 +167,115 @@ struct Wired {
     seen: u32,
 }
 
+/// What going over these runs and walking over the gates took, where finding the runs took so long.
+fn time_wirings(
+    rt: &HostRuntime,
+    circuit: &Circuit,
+    wirings: &[LayerWiring],
+    finding: u64,
+) -> io::Result<Wired>
+    requires { AreWiringsOf circuit.now.parts wirings.now }
+{
+    let begun = Instant::now(rt)?;
+    let by_wirings = by_wirings(circuit, wirings);
+    let runs = microseconds(begun.elapsed(rt)?);
+    let begun = Instant::now(rt)?;
+    let by_gates = by_gates(circuit);
+    Ok(Wired {
+        finding,
+        runs,
+        gates: microseconds(begun.elapsed(rt)?),
+        seen: by_wirings ^ by_gates,
+    })
+}
+
+/// What the wiring polynomials took once.
+fn time_wiring(rt: &HostRuntime, circuit: &Circuit) -> io::Result<Wired> {
+    let begun = Instant::now(rt)?;
+    let wirings = wirings(rt.alloc(), circuit)?;
+    let finding = microseconds(begun.elapsed(rt)?);
+    time_wirings(rt, circuit, &wirings, finding)
+}
+
 /// The least of ten times each, in turns.
 fn wiring(rt: &HostRuntime, circuit: &Circuit) -> io::Result<Wired> {
-    let mut wired = Wired {
+    let mut least = Wired {
         finding: u64::MAX,
         runs: u64::MAX,
         gates: u64::MAX,
         seen: 0,
     };
     for _ in 0..10u32 {
-        let begun = Instant::now(rt)?;
-        let wirings = wirings(rt.alloc(), circuit)?;
-        wired.finding = wired.finding.min(microseconds(begun.elapsed(rt)?));
-        let begun = Instant::now(rt)?;
-        let by_wirings = by_wirings(circuit, &wirings);
-        wired.runs = wired.runs.min(microseconds(begun.elapsed(rt)?));
-        let begun = Instant::now(rt)?;
-        let by_gates = by_gates(circuit);
-        wired.gates = wired.gates.min(microseconds(begun.elapsed(rt)?));
-        wired.seen = by_wirings ^ by_gates;
+        let wired = time_wiring(rt, circuit)?;
+        least = Wired {
+            finding: least.finding.min(wired.finding),
+            runs: least.runs.min(wired.runs),
+            gates: least.gates.min(wired.gates),
+            seen: wired.seen,
+        };
     }
-    Ok(wired)
+    Ok(least)
 }
 
-/// Prints what checking a circuit took, and what it would take by a walk over the gates of each layer.
-fn print_checked(rt: &HostRuntime, kind: &str, circuit: &Circuit) -> io::Result<()> {
-    let Some(checked) = checking(rt, ProofForm::Line, circuit)? else {
-        println!(rt; "{}: not accepted", kind)?;
-        return Ok(());
-    };
-    let Some(paired) = checking(rt, ProofForm::Pair, circuit)? else {
-        println!(rt; "{}: not accepted by pairs", kind)?;
-        return Ok(());
-    };
-    let wired = wiring(rt, circuit)?;
-    let rest = checked.saturating_sub(wired.finding.saturating_add(wired.runs));
-    let walked = rest.saturating_add(wired.gates).clamp(1, 1_000_000_000_000);
-    let ratio = checked.min(1_000_000_000_000) * 100 / walked;
-    let pair_ratio = paired.min(1_000_000_000_000) * 100 / checked.clamp(1, 1_000_000_000_000);
-    println!(rt;
-        "{}: {} layers of {} gates, checked in {} us: runs found in {} us, wiring in {} us; by walks {} us, checked in {} us, ratio {}.{}{}; by pairs in {} us, ratio {}.{}{} ({})",
+/// Prints what checking a circuit took, without the end of the line.
+fn print_runs_times(
+    rt: &HostRuntime,
+    kind: &str,
+    circuit: &Circuit,
+    checked: u64,
+    wired: Wired,
+) -> io::Result<()> {
+    print!(rt;
+        "{}: {} layers of {} gates, checked in {} us: runs found in {} us, wiring in {} us; ",
         kind,
         circuit.height(),
         gates(circuit),
         checked,
         wired.finding,
-        wired.runs,
+        wired.runs
+    )
+}
+
+/// Prints what checking it would take by a walk over the gates of each layer, which follows on that line.
+fn print_walks(rt: &HostRuntime, checked: u64, wired: Wired) -> io::Result<()> {
+    let rest = checked.saturating_sub(wired.finding.saturating_add(wired.runs));
+    let walked = rest.saturating_add(wired.gates).clamp(1, 1_000_000_000_000);
+    let ratio = checked.min(1_000_000_000_000) * 100 / walked;
+    print!(rt;
+        "by walks {} us, checked in {} us, ratio {}.{}{}; ",
         wired.gates,
         walked,
         ratio / 100,
         ratio / 10 % 10,
-        ratio % 10,
-        paired,
-        pair_ratio / 100,
-        pair_ratio / 10 % 10,
-        pair_ratio % 10,
-        wired.seen
+        ratio % 10
     )
+}
+
+/// Prints what checking it took by pairs, which ends the line.
+fn print_pairs(rt: &HostRuntime, checked: u64, paired: u64, seen: u32) -> io::Result<()> {
+    let ratio = paired.min(1_000_000_000_000) * 100 / checked.clamp(1, 1_000_000_000_000);
+    println!(rt;
+        "by pairs in {} us, ratio {}.{}{} ({})",
+        paired,
+        ratio / 100,
+        ratio / 10 % 10,
+        ratio % 10,
+        seen
+    )
+}
+
+/// Prints what checking a circuit took.
+fn print_checked(rt: &HostRuntime, kind: &str, circuit: &Circuit) -> io::Result<()> {
+    let Some(checked) = checking(rt, ProofForm::Line, circuit)? else {
+        return println!(rt; "{}: not accepted", kind);
+    };
+    let Some(paired) = checking(rt, ProofForm::Pair, circuit)? else {
+        return println!(rt; "{}: not accepted by pairs", kind);
+    };
+    let wired = wiring(rt, circuit)?;
+    print_runs_times(rt, kind, circuit, checked, wired)?;
+    print_walks(rt, checked, wired)?;
+    print_pairs(rt, checked, paired, wired.seen)
 }
 
 /// Prints what checking a program's circuit took.
@@ -201,27 +286,30 @@ pub fn program(rt: &HostRuntime, kind: &str, text: &[u8]) -> io::Result<()> {
     }
 }
 
-/// Layers of `2^k` random gates over `2^k` positions.
-pub(crate) fn tangled(alloc: Global, k: u32) -> Result<Option<Circuit>, AllocError> {
+/// Layers of `2^k` random gates.
+fn random_layers(alloc: Global, k: u32) -> Result<Vec<Layer>, AllocError> {
     let mut random = Random { seed: 1 };
-    let zero = CircuitGate {
-        kind: Kind::Add,
-        left: 0,
-        right: 0,
-    };
     let mut layers = Vec::new(alloc);
     for _ in 0..LAYERS {
-        let mut gates = vec![in alloc; zero]?;
-        for _ in 1..1u64 << k.min(16) {
-            gates.push(random.gate(k))?;
-        }
-        layers.push(Layer::of(gates))?;
+        layers.push(Layer::of(random.gates(alloc, k)?))?;
     }
-    let width = 1u32 << k.clamp(1, 16);
+    Ok(layers)
+}
+
+/// So many inputs.
+fn input_leaves(alloc: Global, count: u32) -> Result<Vec<Leaf>, AllocError> {
     let mut leaves = Vec::new(alloc);
-    for j in 0..width - 1 {
+    for j in 0..count {
         leaves.push(Leaf::Input(j))?;
     }
+    Ok(leaves)
+}
+
+/// Layers of `2^k` random gates over `2^k` positions.
+pub(crate) fn tangled(alloc: Global, k: u32) -> Result<Option<Circuit>, AllocError> {
+    let layers = random_layers(alloc, k)?;
+    let width = 1u32 << k.clamp(1, 16);
+    let leaves = input_leaves(alloc, width - 1)?;
     let outputs = (width - 1).max(1);
     Ok(Circuit::of(alloc, layers, width, leaves, width, outputs).ok())
 }
@@ -234,38 +322,63 @@ pub fn random(rt: &HostRuntime, k: u32) -> io::Result<()> {
     }
 }
 
+/// Prints the runs of a layer of a circuit, where it is one, and how the verifier goes over them.
+fn print_layer(
+    rt: &HostRuntime,
+    circuit: &Circuit,
+    layer: usize,
+    wiring: &LayerWiring,
+) -> io::Result<()> {
+    if layer >= circuit.height() {
+        return Ok(());
+    }
+    let how = match wiring {
+        LayerWiring::Runs(_) => "by runs",
+        LayerWiring::Gates => "by gates",
+    };
+    let runs = runs_of(rt.alloc(), circuit, layer)?;
+    println!(rt;
+        "layer {}: {} gates, {} runs, {}",
+        layer,
+        circuit.width(layer),
+        runs.runs().len(),
+        how
+    )
+}
+
+/// Prints the runs of each layer of a circuit, for these wirings.
+fn print_wirings(rt: &HostRuntime, circuit: &Circuit, wirings: &[LayerWiring]) -> io::Result<()> {
+    for (layer, wiring) in wirings.iter().enumerate() {
+        print_layer(rt, circuit, layer, wiring)?;
+    }
+    Ok(())
+}
+
 /// Prints the runs of each layer of a circuit.
 fn print_runs(rt: &HostRuntime, circuit: &Circuit) -> io::Result<()> {
     let wirings = wirings(rt.alloc(), circuit)?;
-    for (layer, wiring) in wirings.iter().enumerate() {
-        if layer < circuit.height() {
-            let runs = runs_of(rt.alloc(), circuit, layer)?;
-            let how = match wiring {
-                LayerWiring::Runs(_) => "by runs",
-                LayerWiring::Gates => "by gates",
-            };
-            println!(rt;
-                "layer {}: {} gates, {} runs, {}",
-                layer,
-                circuit.width(layer),
-                runs.runs().len(),
-                how
-            )?;
-        }
+    print_wirings(rt, circuit, &wirings)
+}
+
+/// Prints the runs of each layer of a program's circuit.
+fn print_program(rt: &HostRuntime, text: &[u8]) -> io::Result<()> {
+    match compiled(rt.alloc(), text) {
+        Some(circuit) => print_runs(rt, &circuit),
+        None => println!(rt; "runs: the program has no circuit"),
     }
-    Ok(())
+}
+
+/// Prints the runs of each layer of the circuit of a case.
+fn print_case(rt: &HostRuntime, text: &[u8]) -> io::Result<()> {
+    match read_case(rt.alloc(), text, Form::Any) {
+        Ok(case) => print_program(rt, case.program()),
+        Err(_) => println!(rt; "runs: no case"),
+    }
 }
 
 /// Prints the runs of each layer of the circuit of the case on the standard input.
 pub fn runs(rt: &HostRuntime) -> io::Result<()> {
     let mut bytes = Vec::new(rt.alloc());
     rt.reader().read_to_end(&mut bytes)?;
-    let Ok(case) = read_case(rt.alloc(), &bytes, Form::Any) else {
-        println!(rt; "runs: no case")?;
-        return Ok(());
-    };
-    match compiled(rt.alloc(), case.program()) {
-        Some(circuit) => print_runs(rt, &circuit),
-        None => println!(rt; "runs: the program has no circuit"),
-    }
+    print_case(rt, &bytes)
 }

@@ -4,7 +4,7 @@ use crate::measure::{microseconds, numbers};
 use arr_compile::compile;
 use circuit_core::Circuit;
 use circuit_eval::layer_values;
-use field_ext::Ext;
+use field_ext::{Ext, Fp};
 use std::alloc::{AllocError, Global};
 use std::io;
 use std::marker::Sync;
@@ -22,17 +22,49 @@ pub(crate) fn compiled(alloc: Global, text: &[u8]) -> Option<Circuit> {
     }
 }
 
+/// How many microseconds reading and laying out took, where the program has a circuit.
+fn time_compiling(rt: &HostRuntime, text: &[u8]) -> io::Result<u64> {
+    let begun = Instant::now(rt)?;
+    let circuit = compiled(rt.alloc(), text);
+    let time = microseconds(begun.elapsed(rt)?);
+    Ok(if circuit.is_some() { time } else { u64::MAX })
+}
+
 /// How many microseconds reading and laying out took, the best of five.
 fn compiling(rt: &HostRuntime, text: &[u8]) -> io::Result<u64> {
-    let alloc = rt.alloc();
     let mut taken = u64::MAX;
     for _ in 0..5u32 {
-        let begun = Instant::now(rt)?;
-        let circuit = compiled(alloc, text);
-        let time = microseconds(begun.elapsed(rt)?);
-        if circuit.is_some() {
-            taken = taken.min(time);
-        }
+        taken = taken.min(time_compiling(rt, text)?);
+    }
+    Ok(taken)
+}
+
+/// How many microseconds the values of all layers took, where there are as many inputs as the circuit has.
+fn time_evaluating<R: Threads + Sync>(
+    rt: &HostRuntime,
+    threads: &R,
+    circuit: &Circuit,
+    inputs: &[Fp],
+) -> io::Result<u64> {
+    if inputs.len() != circuit.inputs() as usize {
+        return Ok(u64::MAX);
+    }
+    let begun = Instant::now(rt)?;
+    let values = layer_values(threads, rt.alloc(), circuit, inputs);
+    let time = microseconds(begun.elapsed(rt)?);
+    Ok(if values.is_ok() { time } else { u64::MAX })
+}
+
+/// The best of five times for these inputs.
+fn evaluating_on<R: Threads + Sync>(
+    rt: &HostRuntime,
+    threads: &R,
+    circuit: &Circuit,
+    inputs: &[Fp],
+) -> io::Result<u64> {
+    let mut taken = u64::MAX;
+    for _ in 0..5u32 {
+        taken = taken.min(time_evaluating(rt, threads, circuit, inputs)?);
     }
     Ok(taken)
 }
@@ -43,21 +75,8 @@ fn evaluating<R: Threads + Sync>(
     threads: &R,
     circuit: &Circuit,
 ) -> io::Result<u64> {
-    let alloc = rt.alloc();
-    let inputs = numbers(alloc, u64::from(circuit.inputs()))?;
-    let mut taken = u64::MAX;
-    if inputs.len() as u64 != u64::from(circuit.inputs()) {
-        return Ok(taken);
-    }
-    for _ in 0..5u32 {
-        let begun = Instant::now(rt)?;
-        let values = layer_values(threads, alloc, circuit, &inputs);
-        let time = microseconds(begun.elapsed(rt)?);
-        if values.is_ok() {
-            taken = taken.min(time);
-        }
-    }
-    Ok(taken)
+    let inputs = numbers(rt.alloc(), u64::from(circuit.inputs()))?;
+    evaluating_on(rt, threads, circuit, &inputs)
 }
 
 /// Buffers for the values of all layers, filled with zeros.
@@ -69,17 +88,19 @@ fn zeros(alloc: Global, circuit: &Circuit) -> Result<Vec<Vec<Ext>>, AllocError> 
     Ok(tables)
 }
 
-/// How many microseconds it took to take as large buffers and fill them with zeros, the best of five.
+/// How many microseconds it took to take as large buffers and fill them with zeros.
+fn time_filling(rt: &HostRuntime, circuit: &Circuit) -> io::Result<u64> {
+    let begun = Instant::now(rt)?;
+    let tables = zeros(rt.alloc(), circuit);
+    let time = microseconds(begun.elapsed(rt)?);
+    Ok(if tables.is_ok() { time } else { u64::MAX })
+}
+
+/// The best of five such times.
 fn filling(rt: &HostRuntime, circuit: &Circuit) -> io::Result<u64> {
-    let alloc = rt.alloc();
     let mut taken = u64::MAX;
     for _ in 0..5u32 {
-        let begun = Instant::now(rt)?;
-        let tables = zeros(alloc, circuit);
-        let time = microseconds(begun.elapsed(rt)?);
-        if tables.is_ok() {
-            taken = taken.min(time);
-        }
+        taken = taken.min(time_filling(rt, circuit)?);
     }
     Ok(taken)
 }
@@ -94,20 +115,17 @@ pub(crate) fn gates(circuit: &Circuit) -> u64 {
 }
 
 /// Prints how long laying a program out and evaluating its circuit took.
-pub fn circuit<R: Threads + Sync>(
+fn print_circuit<R: Threads + Sync>(
     rt: &HostRuntime,
     threads: &R,
     kind: &str,
     text: &[u8],
+    circuit: &Circuit,
 ) -> io::Result<()> {
-    let Some(circuit) = compiled(rt.alloc(), text) else {
-        println!(rt; "{}: the program has no circuit", kind)?;
-        return Ok(());
-    };
     let compiling = compiling(rt, text)?;
-    let evaluating = evaluating(rt, threads, &circuit)?;
-    let filling = filling(rt, &circuit)?;
-    let gates = gates(&circuit).max(1);
+    let evaluating = evaluating(rt, threads, circuit)?;
+    let filling = filling(rt, circuit)?;
+    let gates = gates(circuit).max(1);
     let tenths = evaluating.min(1_000_000_000_000).saturating_mul(10_000) / gates;
     println!(rt;
         "{}: {} layers of {} gates, laid out in {} us, evaluated in {} us, {}.{} ns a gate, as much room filled in {} us",
@@ -120,4 +138,17 @@ pub fn circuit<R: Threads + Sync>(
         tenths % 10,
         filling
     )
+}
+
+/// Prints how long laying a program out and evaluating its circuit took, where it has one.
+pub fn circuit<R: Threads + Sync>(
+    rt: &HostRuntime,
+    threads: &R,
+    kind: &str,
+    text: &[u8],
+) -> io::Result<()> {
+    match compiled(rt.alloc(), text) {
+        Some(circuit) => print_circuit(rt, threads, kind, text, &circuit),
+        None => println!(rt; "{}: the program has no circuit", kind),
+    }
 }

@@ -1,9 +1,10 @@
 //! The vector kernels, beside the loops over pairs of the prover's tables.
 
-ghost use Rattle.std.specs.Prelude.{◌≡◌, ◌<◌, ◌+◌, ◌*◌, [], IfOk, length};
+ghost use Rattle.std.specs.Prelude.{◌≡◌, ◌<◌, ◌+◌, ◌*◌, ◌%◌, [], IfOk, length};
 ghost use Rattle.lane_kernel.specs.Kernel.{AreBelow};
 
-use crate::proving::{LayerCase, case_of, nanoseconds, started};
+use crate::measure::nanoseconds;
+use crate::proving::{LayerCase, case_of, started};
 use field_ext::{Ext, Fp};
 use lane_kernel::{fold_pairs, pair_sums};
 use round_tables::{Buffers, GateTables};
@@ -27,38 +28,76 @@ fn parts(alloc: Global, pairs: u32) -> Result<Vec<u32>, AllocError>
     Ok(found)
 }
 
+/// How many nanoseconds a fold by vectors of elements with these parts took, and a digest of the parts then.
+fn fold_once(rt: &HostRuntime, re: &mut [u32], im: &mut [u32]) -> io::Result<(u64, u32)>
+    requires even { length re.old % 2 ≡ 0 }
+    requires same { length im.old ≡ length re.old }
+    requires re { AreBelow re.old }
+    requires im { AreBelow im.old }
+{
+    let begun = Instant::now(rt)?;
+    fold_pairs(re, im, (123_456_789, 987_654_321));
+    let time = nanoseconds(begun.elapsed(rt)?);
+    let mut seen = 0u32;
+    for part in re.iter().chain(im.iter()) {
+        seen = seen.wrapping_add(*part);
+    }
+    Ok((time, seen))
+}
+
+/// The same of so many pairs.
+fn fold_of(rt: &HostRuntime, pairs: u32) -> io::Result<(u64, u32)> {
+    let mut re = parts(rt.alloc(), pairs)?;
+    let mut im = parts(rt.alloc(), pairs)?;
+    fold_once(rt, &mut re, &mut im)
+}
+
 /// The least of twenty times of a fold of so many pairs by vectors.
 fn time_fold(rt: &HostRuntime, pairs: u32) -> io::Result<(u64, u32)> {
-    let alloc = rt.alloc();
     let (mut best, mut seen) = (u64::MAX, 0u32);
     for _ in 0..20u32 {
-        let (mut re, mut im) = (parts(alloc, pairs)?, parts(alloc, pairs)?);
-        let begun = Instant::now(rt)?;
-        fold_pairs(&mut re, &mut im, (123_456_789, 987_654_321));
-        best = best.min(nanoseconds(begun.elapsed(rt)?));
-        for part in re.iter().chain(im.iter()) {
-            seen = seen.wrapping_add(*part);
-        }
+        let (time, digest) = fold_of(rt, pairs)?;
+        best = best.min(time);
+        seen = seen.wrapping_add(digest);
+    }
+    Ok((best, seen))
+}
+
+/// How many nanoseconds the sums by vectors over three tables of these parts took, and a digest of them.
+fn sum_once(rt: &HostRuntime, v: &[u32], g: &[u32], a: &[u32]) -> io::Result<(u64, u32)>
+    requires even { length v.now % 2 ≡ 0 }
+    requires g { length g.now ≡ length v.now }
+    requires a { length a.now ≡ length v.now }
+    requires below { AreBelow v.now × AreBelow g.now × AreBelow a.now }
+{
+    let begun = Instant::now(rt)?;
+    let [constant, linear, square] = pair_sums(v, g, g, a, a, v);
+    let time = nanoseconds(begun.elapsed(rt)?);
+    Ok((time, constant.0 ^ linear.1 ^ square.0))
+}
+
+/// The least of twenty such times.
+fn least_sum(rt: &HostRuntime, v: &[u32], g: &[u32], a: &[u32]) -> io::Result<(u64, u32)>
+    requires even { length v.now % 2 ≡ 0 }
+    requires g { length g.now ≡ length v.now }
+    requires a { length a.now ≡ length v.now }
+    requires below { AreBelow v.now × AreBelow g.now × AreBelow a.now }
+{
+    let (mut best, mut seen) = (u64::MAX, 0u32);
+    for _ in 0..20u32 {
+        let (time, digest) = sum_once(rt, v, g, a)?;
+        best = best.min(time);
+        seen = seen.wrapping_add(digest);
     }
     Ok((best, seen))
 }
 
 /// The least of twenty times of the sums over so many pairs by vectors.
 fn time_sums(rt: &HostRuntime, pairs: u32) -> io::Result<(u64, u32)> {
-    let alloc = rt.alloc();
-    let (v, g, a) = (
-        parts(alloc, pairs)?,
-        parts(alloc, pairs)?,
-        parts(alloc, pairs)?,
-    );
-    let (mut best, mut seen) = (u64::MAX, 0u32);
-    for _ in 0..20u32 {
-        let begun = Instant::now(rt)?;
-        let [constant, linear, square] = pair_sums(&v, &g, &g, &a, &a, &v);
-        best = best.min(nanoseconds(begun.elapsed(rt)?));
-        seen = seen.wrapping_add(constant.0 ^ linear.1 ^ square.0);
-    }
-    Ok((best, seen))
+    let v = parts(rt.alloc(), pairs)?;
+    let g = parts(rt.alloc(), pairs)?;
+    let a = parts(rt.alloc(), pairs)?;
+    least_sum(rt, &v, &g, &a)
 }
 
 /// A round's message, a piece after another, of which a digest is left.
@@ -74,39 +113,77 @@ fn summed(tables: &GateTables<'_>) -> u32
     seen
 }
 
-/// What the loops take for the second round of a layer: to bind its coordinate, and to sum its message.
-#[derive(Drop)]
+/// What the loops take for a round: to sum its message, of which a digest is left, and to bind its coordinate.
+#[derive(Clone, Copy)]
 struct Loops {
-    bind: u64,
     sum: u64,
+    bind: u64,
     seen: u32,
 }
 
-/// The least of twenty times of the loops. The first round is bound before, so that the tables have values of the extension.
+/// Sums and binds the next round of a layer.
+fn time_round(rt: &HostRuntime, tables: &mut GateTables<'_>, r: Ext) -> io::Result<Loops>
+    requires home { tables.old.lent ≡ [] }
+    requires left { length tables.old.bound < tables.old.k + tables.old.k }
+    ensures { IfOk result (λ _. tables.new.lent ≡ []) }
+{
+    let begun = Instant::now(rt)?;
+    let seen = summed(tables);
+    let sum = nanoseconds(begun.elapsed(rt)?);
+    let begun = Instant::now(rt)?;
+    tables.bind(r);
+    let bind = nanoseconds(begun.elapsed(rt)?);
+    Ok(Loops { sum, bind, seen })
+}
+
+/// What the loops take for the second round of a layer, where it has one. The first round is bound before, so that the tables
+/// have values of the extension.
+fn time_second(rt: &HostRuntime, tables: &mut GateTables<'_>) -> io::Result<Option<Loops>>
+    requires { tables.old.lent ≡ [] }
+    ensures { IfOk result (λ _. tables.new.lent ≡ []) }
+{
+    if tables.rounds_left() < 2 {
+        return Ok(None);
+    }
+    let r = Ext::of(Fp::reduce(123_456_789), Fp::reduce(987_654_321));
+    tables.bind(r);
+    Ok(Some(time_round(rt, tables, r)?))
+}
+
+/// The times of a layer that was started in these buffers, and the buffers.
+fn time_layer(
+    rt: &HostRuntime,
+    buffers: Buffers,
+    case: &LayerCase,
+) -> io::Result<Option<(Loops, Buffers)>> {
+    let Some(mut tables) = started(buffers, &case.circuit, &case.values, &case.point)? else {
+        return Ok(None);
+    };
+    match time_second(rt, &mut tables)? {
+        Some(loops) => Ok(Some((loops, tables.into_buffers()))),
+        None => Ok(None),
+    }
+}
+
+/// The least of twenty times of the loops.
 fn time_loops(rt: &HostRuntime, case: &LayerCase, k: u32) -> io::Result<Loops> {
     let width = 1usize << k.min(16);
     let mut buffers = Buffers::new(rt.alloc(), width, width)?;
     let mut least = Loops {
-        bind: u64::MAX,
         sum: u64::MAX,
+        bind: u64::MAX,
         seen: 0,
     };
-    let r = Ext::of(Fp::reduce(123_456_789), Fp::reduce(987_654_321));
     for _ in 0..20u32 {
-        let Some(mut tables) = started(buffers, &case.circuit, &case.values, &case.point)? else {
+        let Some((loops, used)) = time_layer(rt, buffers, case)? else {
             return Ok(least);
         };
-        if tables.rounds_left() < 2 {
-            return Ok(least);
-        }
-        tables.bind(r);
-        let begun = Instant::now(rt)?;
-        least.seen = least.seen.wrapping_add(summed(&tables));
-        least.sum = least.sum.min(nanoseconds(begun.elapsed(rt)?));
-        let begun = Instant::now(rt)?;
-        tables.bind(r);
-        least.bind = least.bind.min(nanoseconds(begun.elapsed(rt)?));
-        buffers = tables.into_buffers();
+        least = Loops {
+            sum: least.sum.min(loops.sum),
+            bind: least.bind.min(loops.bind),
+            seen: least.seen.wrapping_add(loops.seen),
+        };
+        buffers = used;
     }
     Ok(least)
 }
@@ -140,25 +217,22 @@ fn print_times(
     )
 }
 
-/// Prints what a fold of three tables and the sums of a round take over the pairs of the second round of a layer of `2^k`
-/// gates, by the prover's loops and by the kernels. The kernels have the parts of an element in two slices.
-pub fn kernels(rt: &HostRuntime, k: u32) -> io::Result<()> {
-    let Some(case) = case_of(rt.alloc(), k)? else {
-        println!(rt; "kernels: no layer of that size")?;
-        return Ok(());
-    };
-    let pairs = (1u32 << k.min(16)) / 4;
-    let loops = time_loops(rt, &case, k)?;
+/// Prints what the kernels take over so many pairs, beside the loops.
+fn print_kernels(rt: &HostRuntime, loops: Loops, pairs: u32) -> io::Result<()> {
     let (fold, fold_seen) = time_fold(rt, pairs)?;
     let (sums, sums_seen) = time_sums(rt, pairs)?;
     let three = fold.min(1_000_000_000_000) * 3;
-    print_times(rt, "fold", loops.bind, three, u64::from(pairs), fold_seen)?;
-    print_times(
-        rt,
-        "sums",
-        loops.sum,
-        sums,
-        u64::from(pairs),
-        loops.seen ^ sums_seen,
-    )
+    let pairs = u64::from(pairs);
+    print_times(rt, "fold", loops.bind, three, pairs, fold_seen)?;
+    let seen = loops.seen ^ sums_seen;
+    print_times(rt, "sums", loops.sum, sums, pairs, seen)
+}
+
+/// Prints what a fold of three tables and the sums of a round take over the pairs of the second round of a layer of `2^k`
+/// gates, by the prover's loops and by the kernels. The kernels have the parts of an element in two slices.
+pub fn kernels(rt: &HostRuntime, k: u32) -> io::Result<()> {
+    match case_of(rt.alloc(), k)? {
+        Some(case) => print_kernels(rt, time_loops(rt, &case, k)?, (1u32 << k.min(16)) / 4),
+        None => println!(rt; "kernels: no layer of that size"),
+    }
 }

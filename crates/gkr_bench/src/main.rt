@@ -24,88 +24,117 @@ mod measure;
 mod plain_layer;
 mod programs;
 mod proving;
+mod random;
 mod texts;
 mod turns;
 mod workers;
 
+use std::alloc::{AllocError, Global};
+use std::marker::Sync;
+use std::sync::Wait;
+use std::thread::Threads;
 use std::{env, io};
 
 const USAGE: &str =
     "gkr_bench matmul N | steps N | names KIB | copies N | copied N | transposes N | letters N | fold K | case KIB | proof N | wide ROWS | carried LEVELS | layer K | workers K | kernels K | checked LEVELS | random K | audit K | runs N | turns N";
 
-fn main(rt: HostRuntime) -> io::Result<()> {
-    let alloc = rt.alloc();
-    let words: Vec<String> = env::args(&rt)?.collect(alloc)?;
-    match words.as_slice() {
-        [_, kind, size] => {
-            let Ok(size) = size.as_str().parse::<u32>() else {
-                println!(rt; "{}", USAGE)?;
-                return Ok(());
-            };
-            if kind.as_str() == "fold" {
-                return measure::fold(&rt, size);
-            }
-            if kind.as_str() == "case" {
-                return texts::case(&rt, size);
-            }
-            if kind.as_str() == "proof" {
-                return texts::proof(&rt, size);
-            }
-            if kind.as_str() == "wide" {
-                let text = programs::wide(alloc, size)?;
-                return circuits::circuit(&rt, &rt, "wide", text.as_bytes());
-            }
-            if kind.as_str() == "carried" {
-                let text = programs::carried(alloc, size)?;
-                return circuits::circuit(&rt, &rt, "carried", text.as_bytes());
-            }
-            if kind.as_str() == "layer" {
-                return proving::layer(&rt, &rt, size);
-            }
-            if kind.as_str() == "workers" {
-                return workers::layer(&rt, &rt, size);
-            }
-            if kind.as_str() == "kernels" {
-                return kernels::kernels(&rt, size);
-            }
-            if kind.as_str() == "checked" {
-                let text = programs::carried(alloc, size)?;
-                return checking::program(&rt, "checked", text.as_bytes());
-            }
-            if kind.as_str() == "random" {
-                return checking::random(&rt, size);
-            }
-            if kind.as_str() == "audit" {
-                return audits::random(&rt, &rt, size);
-            }
-            if kind.as_str() == "runs" {
-                return checking::runs(&rt);
-            }
-            if kind.as_str() == "turns" {
-                return turns::turns(&rt, &rt, size);
-            }
-            let text = match kind.as_str() {
-                "matmul" => programs::matrix_product(alloc, size)?,
-                "steps" => programs::steps(alloc, size)?,
-                "names" => programs::names(alloc, size)?,
-                "copies" => programs::copies(alloc, size)?,
-                "copied" => programs::copied(alloc, size)?,
-                "transposes" => programs::transposes(alloc, size)?,
-                "letters" => programs::letters(alloc, size)?,
-                _ => {
-                    println!(rt; "{}", USAGE)?;
-                    return Ok(());
-                }
-            };
-            measure::program(&rt, kind.as_str(), text.as_bytes())?;
-            if kind.as_str() == "matmul" {
-                measure::plain_products(&rt, size)?;
-            }
-            Ok(())
-        }
-        _ => {
-            println!(rt; "{}", USAGE)?;
-            Ok(())
+/// The text of a program of this kind and size, where there are any of the kind.
+fn program_of(alloc: Global, kind: &str, size: u32) -> Result<Option<String>, AllocError> {
+    let text = match kind {
+        "matmul" => programs::matrix_product(alloc, size)?,
+        "steps" => programs::steps(alloc, size)?,
+        "names" => programs::names(alloc, size)?,
+        "copies" => programs::copies(alloc, size)?,
+        "copied" => programs::copied(alloc, size)?,
+        "transposes" => programs::transposes(alloc, size)?,
+        "letters" => programs::letters(alloc, size)?,
+        _ => return Ok(None),
+    };
+    Ok(Some(text))
+}
+
+/// Times a program by `eval`, and a product of matrices by plain loops too.
+fn time_program(rt: &HostRuntime, kind: &str, size: u32) -> io::Result<()> {
+    let Some(text) = program_of(rt.alloc(), kind, size)? else {
+        return println!(rt; "{}", USAGE);
+    };
+    measure::program(rt, kind, text.as_bytes())?;
+    if kind == "matmul" {
+        measure::plain_products(rt, size)?;
+    }
+    Ok(())
+}
+
+/// Times the circuit of a program of element-wise operations.
+fn time_wide<R: Threads + Sync>(rt: &HostRuntime, threads: &R, size: u32) -> io::Result<()> {
+    let text = programs::wide(rt.alloc(), size)?;
+    circuits::circuit(rt, threads, "wide", text.as_bytes())
+}
+
+/// Times the circuit of a program whose values are carried.
+fn time_carried<R: Threads + Sync>(rt: &HostRuntime, threads: &R, size: u32) -> io::Result<()> {
+    let text = programs::carried(rt.alloc(), size)?;
+    circuits::circuit(rt, threads, "carried", text.as_bytes())
+}
+
+/// Times the verifier on that circuit.
+fn time_checked(rt: &HostRuntime, size: u32) -> io::Result<()> {
+    let text = programs::carried(rt.alloc(), size)?;
+    checking::program(rt, "checked", text.as_bytes())
+}
+
+/// Times a part of the product, or else a program.
+fn time_part<R: Threads + Wait + Sync>(
+    rt: &HostRuntime,
+    threads: &R,
+    kind: &str,
+    size: u32,
+) -> io::Result<()> {
+    match kind {
+        "fold" => measure::fold(rt, size),
+        "case" => texts::case(rt, size),
+        "proof" => texts::proof(rt, size),
+        "wide" => time_wide(rt, threads, size),
+        "carried" => time_carried(rt, threads, size),
+        "checked" => time_checked(rt, size),
+        "runs" => checking::runs(rt),
+        "turns" => turns::turns(rt, threads, size),
+        _ => time_program(rt, kind, size),
+    }
+}
+
+/// Times layers of random gates, or else another part.
+fn time<R: Threads + Wait + Sync>(
+    rt: &HostRuntime,
+    threads: &R,
+    kind: &str,
+    size: u32,
+) -> io::Result<()> {
+    match kind {
+        "layer" => proving::layer(rt, threads, size),
+        "workers" => workers::layer(rt, threads, size),
+        "kernels" => kernels::kernels(rt, size),
+        "random" => checking::random(rt, size),
+        "audit" => audits::random(rt, threads, size),
+        _ => time_part(rt, threads, kind, size),
+    }
+}
+
+/// Times what these words name.
+fn run<R: Threads + Wait + Sync>(
+    rt: &HostRuntime,
+    threads: &R,
+    words: &[String],
+) -> io::Result<()> {
+    if let [_, kind, size] = words {
+        if let Ok(size) = size.as_str().parse::<u32>() {
+            return time(rt, threads, kind.as_str(), size);
         }
     }
+    println!(rt; "{}", USAGE)
+}
+
+fn main(rt: HostRuntime) -> io::Result<()> {
+    let words: Vec<String> = env::args(&rt)?.collect(rt.alloc())?;
+    run(&rt, &rt, &words)
 }

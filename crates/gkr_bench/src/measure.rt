@@ -13,6 +13,10 @@ pub fn microseconds(time: Duration) -> u64 {
     u64::try_from(time.as_micros()).unwrap_or(u64::MAX)
 }
 
+pub fn nanoseconds(time: Duration) -> u64 {
+    u64::try_from(time.as_nanos()).unwrap_or(u64::MAX)
+}
+
 /// The program of a text, where it is one of at most 65,536 bytes.
 fn read(alloc: Global, text: &[u8]) -> Option<Checked> {
     if text.len() > 65_536 {
@@ -30,25 +34,55 @@ pub fn numbers(alloc: Global, count: u64) -> Result<Vec<Fp>, AllocError> {
     Ok(found)
 }
 
+/// A program of a text, where it is one, and how many microseconds reading it took.
+fn time_reading(rt: &HostRuntime, text: &[u8]) -> io::Result<(Option<Checked>, u64)> {
+    let begun = Instant::now(rt)?;
+    let checked = read(rt.alloc(), text);
+    Ok((checked, microseconds(begun.elapsed(rt)?)))
+}
+
+/// How many microseconds evaluating a program took. None where memory is out.
+fn time_evaluating(rt: &HostRuntime, checked: &Checked) -> io::Result<Option<u64>> {
+    let inputs = numbers(rt.alloc(), checked.inputs)?;
+    let begun = Instant::now(rt)?;
+    if eval(rt.alloc(), checked, &inputs).is_err() {
+        return Ok(None);
+    }
+    Ok(Some(microseconds(begun.elapsed(rt)?)))
+}
+
+/// How many microseconds evaluating a program took; says why where it isn't evaluated.
+fn evaluated(rt: &HostRuntime, kind: &str, checked: &Option<Checked>) -> io::Result<Option<u64>> {
+    let Some(checked) = checked else {
+        println!(rt; "{}: the program is refused", kind)?;
+        return Ok(None);
+    };
+    let time = time_evaluating(rt, checked)?;
+    if time.is_none() {
+        println!(rt; "{}: no memory", kind)?;
+    }
+    Ok(time)
+}
+
+/// How many microseconds reading and evaluating a program took; says why where it isn't evaluated.
+fn time_once(rt: &HostRuntime, kind: &str, text: &[u8]) -> io::Result<Option<(u64, u64)>> {
+    let (checked, reading) = time_reading(rt, text)?;
+    match evaluated(rt, kind, &checked)? {
+        Some(evaluating) => Ok(Some((reading, evaluating))),
+        None => Ok(None),
+    }
+}
+
 /// Prints how long reading and evaluating a program took, the best of five.
 pub fn program(rt: &HostRuntime, kind: &str, text: &[u8]) -> io::Result<()> {
-    let alloc = rt.alloc();
     let mut reading = u64::MAX;
     let mut evaluating = u64::MAX;
     for _ in 0..5u32 {
-        let begun = Instant::now(rt)?;
-        let Some(checked) = read(alloc, text) else {
-            println!(rt; "{}: the program is refused", kind)?;
+        let Some((read, evaluated)) = time_once(rt, kind, text)? else {
             return Ok(());
         };
-        reading = reading.min(microseconds(begun.elapsed(rt)?));
-        let inputs = numbers(alloc, checked.inputs)?;
-        let begun = Instant::now(rt)?;
-        if eval(alloc, &checked, &inputs).is_err() {
-            println!(rt; "{}: no memory", kind)?;
-            return Ok(());
-        }
-        evaluating = evaluating.min(microseconds(begun.elapsed(rt)?));
+        reading = reading.min(read);
+        evaluating = evaluating.min(evaluated);
     }
     println!(rt;
         "{}: {} bytes, read and checked in {} us, evaluated in {} us",
@@ -59,20 +93,25 @@ pub fn program(rt: &HostRuntime, kind: &str, text: &[u8]) -> io::Result<()> {
     )
 }
 
-/// Prints how long n^3 products and sums took in a plain loop, the best of five.
-pub fn plain_products(rt: &HostRuntime, n: u32) -> io::Result<()> {
-    let alloc = rt.alloc();
-    let left = numbers(alloc, u64::from(n))?;
-    let right = numbers(alloc, u64::from(n))?;
+/// The least of five times of n squared sums of products in a plain loop, and a digest of them.
+fn time_products(rt: &HostRuntime, n: u32, left: &[Fp], right: &[Fp]) -> io::Result<(u64, u32)> {
     let mut taken = u64::MAX;
     let mut seen = 0u32;
     for _ in 0..5u32 {
         let begun = Instant::now(rt)?;
         for place in 0..u64::from(n).saturating_mul(u64::from(n)) {
-            seen ^= folded(place, &left, &right).value();
+            seen ^= folded(place, left, right).value();
         }
         taken = taken.min(microseconds(begun.elapsed(rt)?));
     }
+    Ok((taken, seen))
+}
+
+/// Prints how long n^3 products and sums took in a plain loop, the best of five.
+pub fn plain_products(rt: &HostRuntime, n: u32) -> io::Result<()> {
+    let left = numbers(rt.alloc(), u64::from(n))?;
+    let right = numbers(rt.alloc(), u64::from(n))?;
+    let (taken, seen) = time_products(rt, n, &left, &right)?;
     println!(rt;
         "plain loop: as many products and sums in {} us ({})",
         taken, seen
@@ -100,20 +139,30 @@ fn table(alloc: Global, k: u32) -> Result<Option<Table>, AllocError> {
     Ok(Table::of_values(values).ok())
 }
 
+/// How many nanoseconds binding a coordinate of a table took, which has one.
+fn time_bind(rt: &HostRuntime, table: &mut Table) -> io::Result<u64> {
+    if table.k() == 0 {
+        return Ok(u64::MAX);
+    }
+    let r = Ext::of(Fp::reduce(123_456_789), Fp::reduce(987_654_321));
+    let begun = Instant::now(rt)?;
+    table.fold(r);
+    Ok(nanoseconds(begun.elapsed(rt)?))
+}
+
+/// How many nanoseconds binding one coordinate of a table of `2^k` values took, where there is one.
+fn time_fold(rt: &HostRuntime, k: u32) -> io::Result<u64> {
+    match table(rt.alloc(), k)? {
+        Some(mut table) => time_bind(rt, &mut table),
+        None => Ok(u64::MAX),
+    }
+}
+
 /// Prints how long binding one coordinate of a table of `2^k` values took, the best of five.
 pub fn fold(rt: &HostRuntime, k: u32) -> io::Result<()> {
-    let alloc = rt.alloc();
-    let r = Ext::of(Fp::reduce(123_456_789), Fp::reduce(987_654_321));
     let mut taken = u64::MAX;
     for _ in 0..5u32 {
-        if let Some(mut table) = table(alloc, k)? {
-            if table.k() > 0 {
-                let begun = Instant::now(rt)?;
-                table.fold(r);
-                let time = begun.elapsed(rt)?.as_nanos();
-                taken = taken.min(u64::try_from(time).unwrap_or(u64::MAX));
-            }
-        }
+        taken = taken.min(time_fold(rt, k)?);
     }
     let count = 1u64 << k.min(24);
     let hundredths = taken.min(1_000_000_000_000).saturating_mul(100) / count;

@@ -1,11 +1,13 @@
 //! What one layer of random gates takes: its rounds, beside plain loops with the same work, its line, and the verifier's
 //! wiring polynomials.
 
-ghost use Rattle.std.specs.Prelude.{◌≡◌, [], IfOk, IfSome};
+ghost use Rattle.std.specs.Prelude.{◌≡◌, ◌<◌, ◌+◌, [], length, IfOk, IfSome};
 ghost use Rattle.phase_run.specs.Work.{IsWorkerCount};
 
+use crate::measure::nanoseconds;
 use crate::plain_layer::{Plain, PlainBuffers, ZERO, prove_layer};
-use circuit_core::{Circuit, CircuitGate, Kind, Layer, Leaf};
+use crate::random::Random;
+use circuit_core::{Circuit, CircuitGate, Layer, Leaf};
 use field_ext::{Ext, Fp};
 use io_edge::OpenGate;
 use line_reduce::line_poly;
@@ -15,52 +17,9 @@ use std::alloc::{AllocError, Global};
 use std::io;
 use std::marker::Sync;
 use std::thread::Threads;
-use std::time::{Duration, Instant};
+use std::time::Instant;
 use sumcheck_prove::{bind_round, round};
 use wiring_poly::wiring_at;
-
-/// Numbers that follow no plain rule.
-#[derive(Drop)]
-pub(crate) struct Random {
-    pub(crate) seed: u64,
-}
-
-impl Random {
-    fn next(&mut self) -> u64 {
-        self.seed ^= self.seed << 13;
-        self.seed ^= self.seed >> 7;
-        self.seed ^= self.seed << 17;
-        self.seed
-    }
-
-    pub(crate) fn element(&mut self) -> Ext {
-        let re = Fp::reduce(self.next());
-        Ext::of(re, Fp::reduce(self.next()))
-    }
-
-    fn elements(&mut self, alloc: Global, count: u32) -> Result<Vec<Ext>, AllocError> {
-        let mut found = Vec::new(alloc);
-        for _ in 0..count {
-            found.push(self.element())?;
-        }
-        Ok(found)
-    }
-
-    /// A gate over `2^k` positions.
-    pub(crate) fn gate(&mut self, k: u32) -> CircuitGate {
-        let kind = if self.next() % 2 == 1 {
-            Kind::Mul
-        } else {
-            Kind::Add
-        };
-        let mask = (1u64 << k.min(16)) - 1;
-        CircuitGate {
-            kind,
-            left: (self.next() & mask) as u32,
-            right: (self.next() & mask) as u32,
-        }
-    }
-}
 
 /// A layer of `2^k` gates over as many values of the base field, its output point, and the challenges of both phases.
 #[derive(Drop)]
@@ -72,22 +31,22 @@ pub(crate) struct LayerCase {
     right: Vec<Ext>,
 }
 
-/// A circuit of one layer of `2^k` random gates.
-fn circuit_of(alloc: Global, random: &mut Random, k: u32) -> Result<Option<Circuit>, AllocError> {
-    let zero = CircuitGate {
-        kind: Kind::Add,
-        left: 0,
-        right: 0,
-    };
-    let mut gates = vec![in alloc; zero]?;
-    for _ in 1..1u64 << k.min(16) {
-        gates.push(random.gate(k))?;
-    }
+/// A circuit of one layer of these gates, over as many values.
+fn layer_of(
+    alloc: Global,
+    gates: Vec<CircuitGate>,
+    width: u32,
+) -> Result<Option<Circuit>, AllocError> {
     let layers = vec![in alloc; Layer::of(gates)]?;
     let leaves = Vec::from_slice(alloc, &[Leaf::Input(0)])?;
-    let width = 1u32 << k.clamp(1, 16);
-    let outputs = (width - 1).max(1);
+    let outputs = width.saturating_sub(1).max(1);
     Ok(Circuit::of(alloc, layers, width, leaves, 1, outputs).ok())
+}
+
+/// A circuit of one layer of `2^k` random gates.
+fn circuit_of(alloc: Global, random: &mut Random, k: u32) -> Result<Option<Circuit>, AllocError> {
+    let gates = random.gates(alloc, k)?;
+    layer_of(alloc, gates, 1u32 << k.clamp(1, 16))
 }
 
 fn table_of(alloc: Global, random: &mut Random, k: u32) -> Result<Table, AllocError> {
@@ -98,19 +57,44 @@ fn table_of(alloc: Global, random: &mut Random, k: u32) -> Result<Table, AllocEr
     Table::of_base(alloc, &values)
 }
 
-pub(crate) fn case_of(alloc: Global, k: u32) -> Result<Option<LayerCase>, AllocError> {
-    let mut random = Random { seed: 1 };
-    let Some(circuit) = circuit_of(alloc, &mut random, k)? else {
-        return Ok(None);
-    };
-    let values = table_of(alloc, &mut random, k)?;
-    Ok(Some(LayerCase {
+/// The case of this circuit, its values and its output point.
+fn case_at(
+    alloc: Global,
+    random: &mut Random,
+    circuit: Circuit,
+    values: Table,
+    point: Vec<Ext>,
+    k: u32,
+) -> Result<LayerCase, AllocError> {
+    let left = random.elements(alloc, k)?;
+    let right = random.elements(alloc, k)?;
+    Ok(LayerCase {
         circuit,
         values,
-        point: random.elements(alloc, k)?,
-        left: random.elements(alloc, k)?,
-        right: random.elements(alloc, k)?,
-    }))
+        point,
+        left,
+        right,
+    })
+}
+
+/// The case of this circuit.
+fn case_over(
+    alloc: Global,
+    random: &mut Random,
+    circuit: Circuit,
+    k: u32,
+) -> Result<LayerCase, AllocError> {
+    let values = table_of(alloc, random, k)?;
+    let point = random.elements(alloc, k)?;
+    case_at(alloc, random, circuit, values, point, k)
+}
+
+pub(crate) fn case_of(alloc: Global, k: u32) -> Result<Option<LayerCase>, AllocError> {
+    let mut random = Random { seed: 1 };
+    match circuit_of(alloc, &mut random, k)? {
+        Some(circuit) => Ok(Some(case_over(alloc, &mut random, circuit, k)?)),
+        None => Ok(None),
+    }
 }
 
 /// The working tables of the layer in the buffers, where its sizes fit.
@@ -132,41 +116,71 @@ pub(crate) fn started<'a>(
     Ok(Some(tables))
 }
 
-/// The buffers that a layer used, and a digest of its messages.
-#[derive(Drop)]
-pub(crate) struct Proved {
-    pub(crate) buffers: Buffers,
-    pub(crate) seen: u32,
-}
-
-/// All rounds of a layer, with so many workers.
-pub(crate) fn prove<R: Threads + Sync>(
+/// The message of the next round by so many workers, of which a digest is left, and the challenge bound.
+fn prove_round<R: Threads + Sync>(
     rt: &R,
     alloc: Global,
-    buffers: Buffers,
+    tables: &mut GateTables<'_>,
+    r: Ext,
+    workers: u32,
+) -> Result<u32, AllocError>
+    requires here { tables.old.lent ≡ [] }
+    requires left { length tables.old.bound < tables.old.k + tables.old.k }
+    requires workers { IsWorkerCount workers }
+    ensures { IfOk result (λ _. tables.new.lent ≡ []) }
+{
+    let message = round(rt, alloc, tables, workers, &OpenGate)?;
+    let digest = message[0].re().value() ^ message[1].im().value();
+    bind_round(rt, alloc, tables, r, workers, &OpenGate)?;
+    Ok(digest ^ message[2].re().value())
+}
+
+/// All rounds of a layer by so many workers, of whose messages a digest is left.
+fn prove_rounds<R: Threads + Sync>(
+    rt: &R,
+    alloc: Global,
+    tables: &mut GateTables<'_>,
     case: &LayerCase,
     workers: u32,
-) -> Result<Option<Proved>, AllocError>
-    requires { IsWorkerCount workers }
+) -> Result<u32, AllocError>
+    requires here { tables.old.lent ≡ [] }
+    requires workers { IsWorkerCount workers }
+    ensures { IfOk result (λ _. tables.new.lent ≡ []) }
 {
-    let Some(mut tables) = started(buffers, &case.circuit, &case.values, &case.point)? else {
-        return Ok(None);
-    };
     let mut seen = 0u32;
     for r in case.left.iter().chain(case.right.iter()) {
         if tables.rounds_left() > 0 {
-            let message = round(rt, alloc, &tables, workers, &OpenGate)?;
-            let digest = message[0].re().value() ^ message[1].im().value();
-            seen = seen.wrapping_add(digest ^ message[2].re().value());
-            bind_round(rt, alloc, &mut tables, *r, workers, &OpenGate)?;
+            seen = seen.wrapping_add(prove_round(rt, alloc, tables, *r, workers)?);
         }
     }
-    let buffers = tables.into_buffers();
-    Ok(Some(Proved { buffers, seen }))
+    Ok(seen)
 }
 
-pub(crate) fn nanoseconds(time: Duration) -> u64 {
-    u64::try_from(time.as_nanos()).unwrap_or(u64::MAX)
+/// How many nanoseconds the rounds of a layer took, and a digest of their messages.
+#[derive(Clone, Copy)]
+pub(crate) struct Proved {
+    pub(crate) time: u64,
+    pub(crate) seen: u32,
+}
+
+/// Proves all rounds of a layer that is started in the buffers, by so many workers.
+pub(crate) fn prove<R: Threads + Sync>(
+    rt: &HostRuntime,
+    threads: &R,
+    buffers: Buffers,
+    case: &LayerCase,
+    workers: u32,
+) -> io::Result<Option<(Proved, Buffers)>>
+    requires { IsWorkerCount workers }
+{
+    let begun = Instant::now(rt)?;
+    let Some(mut tables) = started(buffers, &case.circuit, &case.values, &case.point)? else {
+        return Ok(None);
+    };
+    let seen = prove_rounds(threads, rt.alloc(), &mut tables, case, workers)?;
+    let buffers = tables.into_buffers();
+    let time = nanoseconds(begun.elapsed(rt)?);
+    Ok(Some((Proved { time, seen }, buffers)))
 }
 
 /// The best of twenty times of the proved prover, which uses the same buffers again.
@@ -180,13 +194,12 @@ fn time_proved<R: Threads + Sync>(
     let mut buffers = Buffers::new(rt.alloc(), width, width)?;
     let (mut best, mut seen) = (u64::MAX, 0);
     for _ in 0..20u32 {
-        let begun = Instant::now(rt)?;
-        let Some(proved) = prove(threads, rt.alloc(), buffers, case, 1)? else {
+        let Some((proved, used)) = prove(rt, threads, buffers, case, 1)? else {
             return Ok((best, seen));
         };
-        best = best.min(nanoseconds(begun.elapsed(rt)?));
-        buffers = proved.buffers;
+        best = best.min(proved.time);
         seen = proved.seen;
+        buffers = used;
     }
     Ok((best, seen))
 }
@@ -212,23 +225,59 @@ fn plain_buffers(alloc: Global, size: usize) -> Result<PlainBuffers, AllocError>
     })
 }
 
-/// The best of twenty times of the plain loops.
-fn time_plain(rt: &HostRuntime, case: &LayerCase) -> io::Result<(u64, u32)> {
-    let alloc = rt.alloc();
+/// A case by the halves of its elements.
+#[derive(Drop)]
+struct PlainCase {
+    values: Vec<Plain>,
+    point: Vec<Plain>,
+    left: Vec<Plain>,
+    right: Vec<Plain>,
+}
+
+fn plain_case(alloc: Global, case: &LayerCase) -> Result<PlainCase, AllocError> {
     let values = plain(alloc, case.values.values())?;
-    let (point, left) = (plain(alloc, &case.point)?, plain(alloc, &case.left)?);
+    let point = plain(alloc, &case.point)?;
+    let left = plain(alloc, &case.left)?;
     let right = plain(alloc, &case.right)?;
-    let mut buffers = plain_buffers(alloc, values.len())?;
+    Ok(PlainCase {
+        values,
+        point,
+        left,
+        right,
+    })
+}
+
+/// The best of twenty times of the plain loops over these gates in these buffers.
+fn least_plain(
+    rt: &HostRuntime,
+    gates: &[CircuitGate],
+    case: &PlainCase,
+    buffers: &mut PlainBuffers,
+) -> io::Result<(u64, u32)> {
     let (mut best, mut seen) = (u64::MAX, 0);
-    if case.circuit.height() > 0 {
-        let gates = case.circuit.gates(0);
-        for _ in 0..20u32 {
-            let begun = Instant::now(rt)?;
-            seen = prove_layer(gates, &values, &point, &left, &right, &mut buffers);
-            best = best.min(nanoseconds(begun.elapsed(rt)?));
-        }
+    for _ in 0..20u32 {
+        let begun = Instant::now(rt)?;
+        seen = prove_layer(
+            gates,
+            &case.values,
+            &case.point,
+            &case.left,
+            &case.right,
+            buffers,
+        );
+        best = best.min(nanoseconds(begun.elapsed(rt)?));
     }
     Ok((best, seen))
+}
+
+/// The best of twenty times of the plain loops.
+fn time_plain(rt: &HostRuntime, case: &LayerCase) -> io::Result<(u64, u32)> {
+    if case.circuit.height() == 0 {
+        return Ok((u64::MAX, 0));
+    }
+    let plain = plain_case(rt.alloc(), case)?;
+    let mut buffers = plain_buffers(rt.alloc(), plain.values.len())?;
+    least_plain(rt, case.circuit.gates(0), &plain, &mut buffers)
 }
 
 /// The wiring polynomials of the layer at its three points, of which a digest is left.
@@ -305,17 +354,26 @@ fn print_time(
 }
 
 /// Prints what proving and checking a layer of `2^k` gates take.
-pub fn layer<R: Threads + Sync>(rt: &HostRuntime, threads: &R, k: u32) -> io::Result<()> {
-    let Some(case) = case_of(rt.alloc(), k)? else {
-        println!(rt; "layer: no layer of that size")?;
-        return Ok(());
-    };
-    let (plain, plain_seen) = time_plain(rt, &case)?;
-    let (proved, seen) = time_proved(rt, threads, &case, k)?;
-    let (line, line_seen) = time_line(rt, &case)?;
-    let (wiring, wiring_seen) = time_wiring(rt, &case)?;
+fn print_layer<R: Threads + Sync>(
+    rt: &HostRuntime,
+    threads: &R,
+    case: &LayerCase,
+    k: u32,
+) -> io::Result<()> {
+    let (plain, plain_seen) = time_plain(rt, case)?;
+    let (proved, seen) = time_proved(rt, threads, case, k)?;
+    let (line, line_seen) = time_line(rt, case)?;
+    let (wiring, wiring_seen) = time_wiring(rt, case)?;
     print_time(rt, "plain loops", plain, plain, k, plain_seen)?;
     print_time(rt, "prove a layer", proved, plain, k, seen)?;
     print_time(rt, "line of a layer", line, plain, k, line_seen)?;
     print_time(rt, "wiring of a layer", wiring, plain, k, wiring_seen)
+}
+
+/// Prints what proving and checking a layer of `2^k` gates take, where there is one of that size.
+pub fn layer<R: Threads + Sync>(rt: &HostRuntime, threads: &R, k: u32) -> io::Result<()> {
+    match case_of(rt.alloc(), k)? {
+        Some(case) => print_layer(rt, threads, &case, k),
+        None => println!(rt; "layer: no layer of that size"),
+    }
 }

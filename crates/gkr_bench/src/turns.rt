@@ -2,7 +2,7 @@
 
 ghost use Rattle.std.specs.Prelude.{◌≡◌, ◌<◌, false, [], IfOk};
 
-use crate::proving::nanoseconds;
+use crate::measure::nanoseconds;
 use std::alloc::{AllocError, Global};
 use std::io;
 use std::sync::Wait;

@@ -1,11 +1,10 @@
 //! What the rounds of a layer take with one worker and with more.
 
-use crate::proving::{LayerCase, case_of, nanoseconds, prove};
+use crate::proving::{LayerCase, case_of, prove};
 use round_tables::Buffers;
 use std::io;
 use std::marker::Sync;
 use std::thread::Threads;
-use std::time::Instant;
 
 /// The least time of a number of workers, and a digest of the messages.
 #[derive(Clone, Copy)]
@@ -29,17 +28,15 @@ fn least_times<R: Threads + Sync>(
     }; 4];
     for turn in 0..800u32 {
         let workers = turn % 4 + 1;
-        let begun = Instant::now(rt)?;
-        let Some(proved) = prove(threads, rt.alloc(), buffers, case, workers)? else {
+        let Some((proved, used)) = prove(rt, threads, buffers, case, workers)? else {
             return Ok(least);
         };
-        let time = nanoseconds(begun.elapsed(rt)?);
         let place = (workers - 1) as usize;
         least[place] = Least {
-            time: least[place].time.min(time),
+            time: least[place].time.min(proved.time),
             seen: proved.seen,
         };
-        buffers = proved.buffers;
+        buffers = used;
     }
     Ok(least)
 }

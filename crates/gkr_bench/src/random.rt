@@ -1,0 +1,62 @@
+//! Numbers, elements and gates that follow no plain rule.
+
+use circuit_core::{CircuitGate, Kind};
+use field_ext::{Ext, Fp};
+use std::alloc::{AllocError, Global};
+
+/// Numbers that follow no plain rule.
+#[derive(Drop)]
+pub(crate) struct Random {
+    pub(crate) seed: u64,
+}
+
+impl Random {
+    pub(crate) fn next(&mut self) -> u64 {
+        self.seed ^= self.seed << 13;
+        self.seed ^= self.seed >> 7;
+        self.seed ^= self.seed << 17;
+        self.seed
+    }
+
+    pub(crate) fn element(&mut self) -> Ext {
+        let re = Fp::reduce(self.next());
+        Ext::of(re, Fp::reduce(self.next()))
+    }
+
+    pub(crate) fn elements(&mut self, alloc: Global, count: u32) -> Result<Vec<Ext>, AllocError> {
+        let mut found = Vec::new(alloc);
+        for _ in 0..count {
+            found.push(self.element())?;
+        }
+        Ok(found)
+    }
+
+    /// A gate over `2^k` positions.
+    fn gate(&mut self, k: u32) -> CircuitGate {
+        let kind = if self.next() % 2 == 1 {
+            Kind::Mul
+        } else {
+            Kind::Add
+        };
+        let mask = (1u64 << k.min(16)) - 1;
+        CircuitGate {
+            kind,
+            left: (self.next() & mask) as u32,
+            right: (self.next() & mask) as u32,
+        }
+    }
+
+    /// `2^k` gates over as many positions, of which the first adds.
+    pub(crate) fn gates(&mut self, alloc: Global, k: u32) -> Result<Vec<CircuitGate>, AllocError> {
+        let zero = CircuitGate {
+            kind: Kind::Add,
+            left: 0,
+            right: 0,
+        };
+        let mut gates = vec![in alloc; zero]?;
+        for _ in 1..1u64 << k.min(16) {
+            gates.push(self.gate(k))?;
+        }
+        Ok(gates)
+    }
+}
