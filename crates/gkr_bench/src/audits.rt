@@ -4,6 +4,7 @@ ghost use Rattle.std.specs.Prelude.{◌≡◌, ◌<◌, ◌^◌, drop, length, I
 ghost use Rattle.field_ext.specs.Field.{F};
 ghost use Rattle.circuit_core.specs.Sound.{exponents};
 ghost use Rattle.circuit_eval.specs.Tables.{AreTables};
+ghost use Rattle.phase_run.specs.Work.{IsWorkerCount};
 ghost use Rattle.proof_wire.specs.Lists.{HaveShape};
 ghost use Rattle.proof_wire.specs.declared.form.ProofForm.TheVariants.{Line};
 
@@ -30,9 +31,9 @@ use transcript_fs::{Statement, Transcript};
 
 /// The values of a circuit's layers, and its outputs.
 #[derive(Drop)]
-struct Evaluation {
-    values: Values,
-    outputs: Vec<Fp>,
+pub(crate) struct Evaluation {
+    pub(crate) values: Values,
+    pub(crate) outputs: Vec<Fp>,
 }
 
 /// The outputs that the circuit has, which are after position 0 of the output layer's table.
@@ -71,7 +72,7 @@ fn evaluated_on<R: Threads + Sync>(
 }
 
 /// The values of a circuit's layers for inputs that are each another, and its outputs.
-fn evaluated<R: Threads + Sync>(
+pub(crate) fn evaluated<R: Threads + Sync>(
     alloc: Global,
     threads: &R,
     circuit: &Circuit,
@@ -87,14 +88,16 @@ fn evaluated<R: Threads + Sync>(
     evaluated_on(alloc, threads, circuit, &inputs)
 }
 
-/// The honest messages by one worker, with the transcript's challenges.
-fn proved<R: Threads + Wait + Sync>(
+/// The honest messages by so many workers, with the transcript's challenges.
+pub(crate) fn proved<R: Threads + Wait + Sync>(
     threads: &R,
     alloc: Global,
     circuit: &Circuit,
     values: &Values,
     outputs: &[Fp],
+    workers: u32,
 ) -> Result<Messages, AllocError>
+    requires workers { IsWorkerCount workers }
     requires values { (inputs : List F) × AreTables circuit.now.parts inputs values.now }
     requires few { length outputs.now < 2 ^ 32 }
     ensures { IfOk result
@@ -111,7 +114,7 @@ fn proved<R: Threads + Wait + Sync>(
         circuit,
         values,
         &mut challenges,
-        1,
+        workers,
         &OpenGate,
     )
 }
@@ -181,7 +184,7 @@ fn times_once<R: Threads + Wait + Sync>(
     requires outputs { length outputs.now ≡ circuit.now.parts.outputs }
 {
     let begun = Instant::now(rt)?;
-    let messages = proved(threads, rt.alloc(), circuit, values, outputs)?;
+    let messages = proved(threads, rt.alloc(), circuit, values, outputs, 1)?;
     let proving = microseconds(begun.elapsed(rt)?);
     time_audit(rt, threads, circuit, values, outputs, &messages, proving)
 }

@@ -101,7 +101,7 @@ fn time_sums(rt: &HostRuntime, pairs: u32) -> io::Result<(u64, u32)> {
 }
 
 /// A round's message, a piece after another, of which a digest is left.
-fn summed(tables: &GateTables<'_>) -> u32
+pub(crate) fn summed(tables: &GateTables<'_>) -> u32
     requires home { tables.now.lent ≡ [] }
     requires left { length tables.now.bound < tables.now.k + tables.now.k }
 {
@@ -115,14 +115,14 @@ fn summed(tables: &GateTables<'_>) -> u32
 
 /// What the loops take for a round: to sum its message, of which a digest is left, and to bind its coordinate.
 #[derive(Clone, Copy)]
-struct Loops {
-    sum: u64,
-    bind: u64,
-    seen: u32,
+pub(crate) struct Loops {
+    pub(crate) sum: u64,
+    pub(crate) bind: u64,
+    pub(crate) seen: u32,
 }
 
 /// Sums and binds the next round of a layer.
-fn time_round(rt: &HostRuntime, tables: &mut GateTables<'_>, r: Ext) -> io::Result<Loops>
+pub(crate) fn time_round(rt: &HostRuntime, tables: &mut GateTables<'_>, r: Ext) -> io::Result<Loops>
     requires home { tables.old.lent ≡ [] }
     requires left { length tables.old.bound < tables.old.k + tables.old.k }
     ensures { IfOk result (λ _. tables.new.lent ≡ []) }

@@ -7,13 +7,14 @@
 //! and writing the longest proof N times. `gkr_bench wide ROWS`: laying out and evaluating element-wise operations on so
 //! many rows of 1,000 elements. `gkr_bench carried LEVELS`: the same of 60,000 values carried over so many layers.
 //! `gkr_bench layer K`: all rounds of one layer of `2^K` random gates, its line, and the verifier's wiring polynomials,
-//! beside plain loops that prove as many rounds. `gkr_bench workers K`: all rounds of such a layer with one, two, three and
-//! four workers in turn. `gkr_bench kernels K`: a fold and the sums of such a layer's second round, by the prover's loops and
-//! by vector kernels. `gkr_bench checked LEVELS`: the verifier on the circuit of `carried`, with the wiring polynomials by
-//! runs of gates, what it would take by walks over the gates, and proofs by pairs. `gkr_bench random K`: the same on eight
-//! layers of `2^K` random gates. `gkr_bench audit K`: a proof of such a circuit, and an audit of it. `gkr_bench runs 1 <
-//! CASE`: the runs of each layer of a case's circuit. `gkr_bench turns N`: so many turns of the lock of the job table, where
-//! no other thread waits.
+//! beside plain loops that prove as many rounds. `gkr_bench stages K`: each stage of such a layer on one thread.
+//! `gkr_bench workers K`: a proof of eight layers of `2^K` random gates with one, two, three and four workers in turn.
+//! `gkr_bench kernels K`: a fold and the sums of such a layer's second round, by the prover's loops and by vector kernels.
+//! `gkr_bench checked LEVELS`: the verifier on the circuit of `carried`, with the wiring polynomials by runs of gates, what
+//! it would take by walks over the gates, and proofs by pairs. `gkr_bench random K`: the same on eight layers of `2^K`
+//! random gates. `gkr_bench audit K`: a proof of such a circuit, and an audit of it. `gkr_bench runs 1 < CASE`: the runs of
+//! each layer of a case's circuit. `gkr_bench turns N`: so many turns of the lock of the job table, where no other thread
+//! waits.
 #![tactic(auto)]
 
 mod audits;
@@ -25,6 +26,7 @@ mod plain_layer;
 mod programs;
 mod proving;
 mod random;
+mod stages;
 mod texts;
 mod turns;
 mod workers;
@@ -36,7 +38,7 @@ use std::thread::Threads;
 use std::{env, io};
 
 const USAGE: &str =
-    "gkr_bench matmul N | steps N | names KIB | copies N | copied N | transposes N | letters N | fold K | case KIB | proof N | wide ROWS | carried LEVELS | layer K | workers K | kernels K | checked LEVELS | random K | audit K | runs N | turns N";
+    "gkr_bench matmul N | steps N | names KIB | copies N | copied N | transposes N | letters N | fold K | case KIB | proof N | wide ROWS | carried LEVELS | layer K | stages K | workers K | kernels K | checked LEVELS | random K | audit K | runs N | turns N";
 
 /// The text of a program of this kind and size, where there are any of the kind.
 fn program_of(alloc: Global, kind: &str, size: u32) -> Result<Option<String>, AllocError> {
@@ -112,7 +114,8 @@ fn time<R: Threads + Wait + Sync>(
 ) -> io::Result<()> {
     match kind {
         "layer" => proving::layer(rt, threads, size),
-        "workers" => workers::layer(rt, threads, size),
+        "stages" => stages::layer(rt, size),
+        "workers" => workers::layers(rt, threads, size),
         "kernels" => kernels::kernels(rt, size),
         "random" => checking::random(rt, size),
         "audit" => audits::random(rt, threads, size),

@@ -2,7 +2,6 @@
 //! wiring polynomials.
 
 ghost use Rattle.std.specs.Prelude.{◌≡◌, ◌<◌, ◌+◌, [], length, IfOk, IfSome};
-ghost use Rattle.phase_run.specs.Work.{IsWorkerCount};
 
 use crate::measure::nanoseconds;
 use crate::plain_layer::{Plain, PlainBuffers, ZERO, prove_layer};
@@ -27,8 +26,8 @@ pub(crate) struct LayerCase {
     pub(crate) circuit: Circuit,
     pub(crate) values: Table,
     pub(crate) point: Vec<Ext>,
-    left: Vec<Ext>,
-    right: Vec<Ext>,
+    pub(crate) left: Vec<Ext>,
+    pub(crate) right: Vec<Ext>,
 }
 
 /// A circuit of one layer of these gates, over as many values.
@@ -116,41 +115,37 @@ pub(crate) fn started<'a>(
     Ok(Some(tables))
 }
 
-/// The message of the next round by so many workers, of which a digest is left, and the challenge bound.
+/// The message of the next round by one worker, of which a digest is left, and the challenge bound.
 fn prove_round<R: Threads + Sync>(
     rt: &R,
     alloc: Global,
     tables: &mut GateTables<'_>,
     r: Ext,
-    workers: u32,
 ) -> Result<u32, AllocError>
     requires here { tables.old.lent ≡ [] }
     requires left { length tables.old.bound < tables.old.k + tables.old.k }
-    requires workers { IsWorkerCount workers }
     ensures { IfOk result (λ _. tables.new.lent ≡ []) }
 {
-    let message = round(rt, alloc, tables, workers, &OpenGate)?;
+    let message = round(rt, alloc, tables, 1, &OpenGate)?;
     let digest = message[0].re().value() ^ message[1].im().value();
-    bind_round(rt, alloc, tables, r, workers, &OpenGate)?;
+    bind_round(rt, alloc, tables, r, 1, &OpenGate)?;
     Ok(digest ^ message[2].re().value())
 }
 
-/// All rounds of a layer by so many workers, of whose messages a digest is left.
+/// All rounds of a layer by one worker, of whose messages a digest is left.
 fn prove_rounds<R: Threads + Sync>(
     rt: &R,
     alloc: Global,
     tables: &mut GateTables<'_>,
     case: &LayerCase,
-    workers: u32,
 ) -> Result<u32, AllocError>
-    requires here { tables.old.lent ≡ [] }
-    requires workers { IsWorkerCount workers }
+    requires { tables.old.lent ≡ [] }
     ensures { IfOk result (λ _. tables.new.lent ≡ []) }
 {
     let mut seen = 0u32;
     for r in case.left.iter().chain(case.right.iter()) {
         if tables.rounds_left() > 0 {
-            seen = seen.wrapping_add(prove_round(rt, alloc, tables, *r, workers)?);
+            seen = seen.wrapping_add(prove_round(rt, alloc, tables, *r)?);
         }
     }
     Ok(seen)
@@ -158,26 +153,23 @@ fn prove_rounds<R: Threads + Sync>(
 
 /// How many nanoseconds the rounds of a layer took, and a digest of their messages.
 #[derive(Clone, Copy)]
-pub(crate) struct Proved {
-    pub(crate) time: u64,
-    pub(crate) seen: u32,
+struct Proved {
+    time: u64,
+    seen: u32,
 }
 
-/// Proves all rounds of a layer that is started in the buffers, by so many workers.
-pub(crate) fn prove<R: Threads + Sync>(
+/// Proves all rounds of a layer that is started in the buffers, by one worker.
+fn prove<R: Threads + Sync>(
     rt: &HostRuntime,
     threads: &R,
     buffers: Buffers,
     case: &LayerCase,
-    workers: u32,
-) -> io::Result<Option<(Proved, Buffers)>>
-    requires { IsWorkerCount workers }
-{
+) -> io::Result<Option<(Proved, Buffers)>> {
     let begun = Instant::now(rt)?;
     let Some(mut tables) = started(buffers, &case.circuit, &case.values, &case.point)? else {
         return Ok(None);
     };
-    let seen = prove_rounds(threads, rt.alloc(), &mut tables, case, workers)?;
+    let seen = prove_rounds(threads, rt.alloc(), &mut tables, case)?;
     let buffers = tables.into_buffers();
     let time = nanoseconds(begun.elapsed(rt)?);
     Ok(Some((Proved { time, seen }, buffers)))
@@ -194,7 +186,7 @@ fn time_proved<R: Threads + Sync>(
     let mut buffers = Buffers::new(rt.alloc(), width, width)?;
     let (mut best, mut seen) = (u64::MAX, 0);
     for _ in 0..20u32 {
-        let Some((proved, used)) = prove(rt, threads, buffers, case, 1)? else {
+        let Some((proved, used)) = prove(rt, threads, buffers, case)? else {
             return Ok((best, seen));
         };
         best = best.min(proved.time);
@@ -304,7 +296,7 @@ fn time_wiring(rt: &HostRuntime, case: &LayerCase) -> io::Result<(u64, u32)> {
 }
 
 /// The line between the operands' points, of which a digest is left.
-fn line(alloc: Global, case: &LayerCase) -> Result<u32, AllocError> {
+pub(crate) fn line(alloc: Global, case: &LayerCase) -> Result<u32, AllocError> {
     let k = case.values.k() as usize;
     if k > 16 || case.left.len() != k || case.right.len() != k {
         return Ok(0);

@@ -1,71 +1,120 @@
-//! What the rounds of a layer take with one worker and with more.
+//! What a proof takes with one worker and with more.
 
-use crate::proving::{LayerCase, case_of, prove};
-use round_tables::Buffers;
+ghost use Rattle.std.specs.Prelude.{◌<◌, ◌^◌, length, List};
+ghost use Rattle.field_ext.specs.Field.{F};
+ghost use Rattle.circuit_eval.specs.Tables.{AreTables};
+ghost use Rattle.phase_run.specs.Work.{IsWorkerCount};
+
+use crate::audits::{evaluated, proved};
+use crate::checking::tangled;
+use crate::circuits::gates;
+use crate::measure::nanoseconds;
+use circuit_core::Circuit;
+use circuit_eval::Values;
+use field_ext::Fp;
 use std::io;
 use std::marker::Sync;
+use std::sync::Wait;
 use std::thread::Threads;
+use std::time::Instant;
 
-/// The least time of a number of workers, and a digest of the messages.
-#[derive(Clone, Copy)]
-struct Least {
-    time: u64,
-    seen: u32,
-}
-
-/// The least of 200 times for each of one to four workers, which take turns, so that they meet the same load.
-fn least_times<R: Threads + Sync>(
+/// How many nanoseconds a proof by so many workers took.
+fn time_proof<R: Threads + Wait + Sync>(
     rt: &HostRuntime,
     threads: &R,
-    case: &LayerCase,
-    k: u32,
-) -> io::Result<[Least; 4]> {
-    let width = 1usize << k.min(16);
-    let mut buffers = Buffers::new(rt.alloc(), width, width)?;
-    let mut least = [Least {
-        time: u64::MAX,
-        seen: 0,
-    }; 4];
-    for turn in 0..800u32 {
+    circuit: &Circuit,
+    values: &Values,
+    outputs: &[Fp],
+    workers: u32,
+) -> io::Result<u64>
+    requires workers { IsWorkerCount workers }
+    requires values { (inputs : List F) × AreTables circuit.now.parts inputs values.now }
+    requires few { length outputs.now < 2 ^ 32 }
+{
+    let begun = Instant::now(rt)?;
+    let _messages = proved(threads, rt.alloc(), circuit, values, outputs, workers)?;
+    Ok(nanoseconds(begun.elapsed(rt)?))
+}
+
+/// The least of forty times for each of one to four workers in nanoseconds, which take turns, so that they meet the same load.
+fn least_times<R: Threads + Wait + Sync>(
+    rt: &HostRuntime,
+    threads: &R,
+    circuit: &Circuit,
+    values: &Values,
+    outputs: &[Fp],
+) -> io::Result<[u64; 4]>
+    requires values { (inputs : List F) × AreTables circuit.now.parts inputs values.now }
+    requires few { length outputs.now < 2 ^ 32 }
+{
+    let mut least = [u64::MAX; 4];
+    for turn in 0..160u32 {
         let workers = turn % 4 + 1;
-        let Some((proved, used)) = prove(rt, threads, buffers, case, workers)? else {
-            return Ok(least);
-        };
+        let time = time_proof(rt, threads, circuit, values, outputs, workers)?;
         let place = (workers - 1) as usize;
-        least[place] = Least {
-            time: least[place].time.min(proved.time),
-            seen: proved.seen,
-        };
-        buffers = used;
+        least[place] = least[place].min(time);
     }
     Ok(least)
 }
 
-/// Prints what the rounds of a layer of `2^k` gates take with one to four workers, each as nanoseconds a gate and as a ratio to
-/// one worker, both with two digits.
-pub fn layer<R: Threads + Sync>(rt: &HostRuntime, threads: &R, k: u32) -> io::Result<()> {
-    let Some(case) = case_of(rt.alloc(), k)? else {
-        println!(rt; "workers: no layer of that size")?;
-        return Ok(());
+/// The least times of a circuit's proof, where it has values.
+fn times<R: Threads + Wait + Sync>(
+    rt: &HostRuntime,
+    threads: &R,
+    circuit: &Circuit,
+) -> io::Result<Option<[u64; 4]>> {
+    match evaluated(rt.alloc(), threads, circuit)? {
+        Some(on) => Ok(Some(least_times(rt, threads, circuit, &on.values, &on.outputs)?)),
+        None => Ok(None),
+    }
+}
+
+/// Prints what so many workers took, as nanoseconds a gate and as a ratio to one worker, both with two digits.
+fn print_time(
+    rt: &HostRuntime,
+    workers: usize,
+    k: u32,
+    count: u64,
+    time: u64,
+    one: u64,
+) -> io::Result<()> {
+    let time = time.min(1_000_000_000_000);
+    let hundredths = time * 100 / count.max(1);
+    let ratio = time * 100 / one.clamp(1, 1_000_000_000_000);
+    println!(rt;
+        "workers {}: 2^{} gates, {}.{}{} ns a gate, {}.{}{} of one worker",
+        workers,
+        k,
+        hundredths / 100,
+        hundredths / 10 % 10,
+        hundredths % 10,
+        ratio / 100,
+        ratio / 10 % 10,
+        ratio % 10
+    )
+}
+
+/// Prints what a proof of a circuit takes with one to four workers.
+fn print_times<R: Threads + Wait + Sync>(
+    rt: &HostRuntime,
+    threads: &R,
+    circuit: &Circuit,
+    k: u32,
+) -> io::Result<()> {
+    let Some(least) = times(rt, threads, circuit)? else {
+        return println!(rt; "workers: no outputs of that size");
     };
-    let least = least_times(rt, threads, &case, k)?;
-    let one = least[0].time.clamp(1, 1_000_000_000_000);
-    for workers in 0..4usize {
-        let time = least[workers].time.min(1_000_000_000_000);
-        let hundredths = (time * 100) >> k.min(16);
-        let ratio = time * 100 / one;
-        println!(rt;
-            "workers {}: 2^{} gates, {}.{}{} ns a gate, {}.{}{} of one worker ({})",
-            workers + 1,
-            k,
-            hundredths / 100,
-            hundredths / 10 % 10,
-            hundredths % 10,
-            ratio / 100,
-            ratio / 10 % 10,
-            ratio % 10,
-            least[workers].seen
-        )?;
+    for place in 0..4usize {
+        print_time(rt, place + 1, k, gates(circuit), least[place], least[0])?;
     }
     Ok(())
+}
+
+/// Prints what a proof of eight layers of `2^k` random gates takes with one to four workers, each as nanoseconds a gate and as a
+/// ratio to one worker, both with two digits.
+pub fn layers<R: Threads + Wait + Sync>(rt: &HostRuntime, threads: &R, k: u32) -> io::Result<()> {
+    match tangled(rt.alloc(), k)? {
+        Some(circuit) => print_times(rt, threads, &circuit, k),
+        None => println!(rt; "workers: no layers of that size"),
+    }
 }
