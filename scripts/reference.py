@@ -54,10 +54,10 @@ RESERVED = "input let for in output scale sum dot matmul transpose def".split()
 
 
 class Parser:
-    """A parser that goes through the tokens from the left; trees are tuples."""
+    """A parser that goes through the tokens from the left, in language 1 or 2; trees are tuples."""
 
-    def __init__(self, text):
-        self.tokens, self.at = [], 0
+    def __init__(self, lang, text):
+        self.lang, self.tokens, self.at = lang, [], 0
         text = text.rstrip(" \t\r\n")
         at = 0
         while at < len(text):
@@ -89,7 +89,7 @@ class Parser:
         return int(word)
 
     def program(self):
-        inputs, rest = [], []
+        inputs, definitions, rest = [], [], []
         while self.see("input"):
             self.take()
             name, dims = self.name(), []
@@ -99,6 +99,8 @@ class Parser:
                 self.take("]")
             self.take(";")
             inputs.append((name, dims))
+        while self.lang == 2 and self.see("def"):
+            definitions.append(self.definition())
         while self.at < len(self.tokens):
             if self.see("output"):
                 self.take()
@@ -106,7 +108,21 @@ class Parser:
                 self.take(";")
             else:
                 rest.append(self.statement())
-        return inputs, rest
+        return inputs, definitions, rest
+
+    def definition(self):
+        self.take("def")
+        name = self.name()
+        self.take("(")
+        parameters = [self.name()]
+        while self.see(",") and len(parameters) < 8:
+            self.take()
+            parameters.append(self.name())
+        self.take(")")
+        self.take("=")
+        body = self.expression()
+        self.take(";")
+        return name, parameters, body
 
     def statement(self):
         if self.see("for"):
@@ -186,6 +202,14 @@ class Parser:
         kind, what = self.leaf()
         if kind == "number":
             return kind, what
+        if self.lang == 2 and self.see("("):
+            self.take()
+            arguments = [self.expression()]
+            while self.see(","):
+                self.take()
+                arguments.append(self.expression())
+            self.take(")")
+            return "call", what, arguments
         places = self.indices()
         return ("element", what, places) if places else (kind, what)
 
@@ -216,8 +240,8 @@ class Lowering:
     def products(self, left, right):
         return self.sum([self.node("mul", x, y) for x, y in zip(left, right)])
 
-    def program(self, inputs, rest):
-        names = {}
+    def program(self, inputs, definitions, rest):
+        names, earlier = {}, {}
         for name, dims in inputs:
             count = 1
             for one in dims:
@@ -227,11 +251,18 @@ class Lowering:
                 leaves.append(self.node("input", self.inputs))
                 self.inputs += 1
             names[name] = [tuple(dims), leaves]
+        for name, parameters, body in definitions:
+            if any(one in names for one in [name, *parameters]) or len({name, *parameters}) <= len(parameters):
+                raise ValueError("taken")
+            # a body sees the definitions before its own, and its parameters
+            names[name] = (parameters, body, dict(earlier))
+            earlier[name] = names[name]
         self.block(rest, names)
         return self
 
     def block(self, statements, names):
-        """Runs statements; `names` has a list for a value, which may be assigned, and a number for a loop variable."""
+        """Runs statements; `names` has a list for a value, which may be assigned, a number for a loop variable, and a tuple for a
+        definition."""
         for kind, *parts in statements:
             if kind == "output":
                 self.outputs += self.value(parts[0], names)[1]
@@ -274,7 +305,17 @@ class Lowering:
             return (), [self.constant(parts[0])]
         if kind == "name":
             found = names[parts[0]]
+            if isinstance(found, tuple):
+                raise ValueError("unknown")
             return ((), [self.constant(found)]) if isinstance(found, int) else found
+        if kind == "call":
+            if not isinstance(names[parts[0]], tuple):
+                raise ValueError("unknown")
+            parameters, body, earlier = names[parts[0]]
+            if len(parameters) != len(parts[1]):
+                raise ValueError("shape")
+            arguments = [list(self.value(one, names)) for one in parts[1]]
+            return self.value(body, {**earlier, **dict(zip(parameters, arguments))})
         if kind == "element":
             shape, items = names[parts[0]]
             return (), [items[self.place(shape, [self.whole(one, names) for one in parts[1]])]]
@@ -313,8 +354,8 @@ class Circuit:
     """Layers from the outputs (0) down: `gates[i]` are triples (word, left, right) over positions of layer i + 1; `leaves` are the
     nodes at the input layer's positions from 1 on; `widths` are the sizes of all layers, the input layer's last."""
 
-    def __init__(self, text):
-        made = Lowering().program(*Parser(text).program())
+    def __init__(self, lang, text):
+        made = Lowering().program(*Parser(lang, text).program())
         nodes, outputs = made.nodes, made.outputs
         levels = []
         for word, *parts in nodes:
@@ -431,10 +472,10 @@ def statement_of(program, inputs, outputs):
 # The prover.
 
 
-def prove(program, inputs, kind="1"):
+def prove(lang, program, inputs, kind="1"):
     """Returns the outputs and the proof's bytes, by lines in version 1 or 2, or by pairs."""
     by_pairs = kind == "pair"
-    circuit = Circuit(program.decode())
+    circuit = Circuit(lang, program.decode())
     if len(inputs) != circuit.inputs:
         raise ValueError("inputs")
     tables = circuit.tables(inputs)
@@ -520,9 +561,9 @@ def printed(x):
     return f"{x[0]},{x[1]}"
 
 
-def verify(program, inputs, outputs, proof):
+def verify(lang, program, inputs, outputs, proof):
     """Returns the lines on the equations that fail, the circuit, the transcript and the messages, which version 2 has filled in."""
-    circuit = Circuit(program.decode())
+    circuit = Circuit(lang, program.decode())
     by_pairs, short = proof[3:4] == b"P", proof[3:4] == b"2"
     transcript = Transcript(program, inputs, outputs, by_pairs)
     if len(inputs) != circuit.inputs or len(outputs) != circuit.outputs:
@@ -575,9 +616,9 @@ def verdict_of(failing):
     return (failing + ["accepted"])[0]
 
 
-def convert(program, inputs, outputs, proof, version):
+def convert(lang, program, inputs, outputs, proof, version):
     """Returns the proof in a version, or the line on the first sum that keeps it from version 2."""
-    failing, circuit, _, messages = verify(program, inputs, outputs, proof)
+    failing, circuit, _, messages = verify(lang, program, inputs, outputs, proof)
     sums = [line for line in failing if line.startswith("rejected sum")]
     if proof[3:4] == b"P":
         raise ValueError("proof")
@@ -595,9 +636,9 @@ def convert(program, inputs, outputs, proof, version):
 # The auditor, who recomputes what the honest prover says at the same challenges.
 
 
-def audit(program, inputs, outputs, proof):
+def audit(lang, program, inputs, outputs, proof):
     """Returns the four lines."""
-    failing, circuit, transcript, messages = verify(program, inputs, outputs, proof)
+    failing, circuit, transcript, messages = verify(lang, program, inputs, outputs, proof)
     if proof[3:4] == b"P":
         raise ValueError("proof")
     tables = circuit.tables(inputs)
@@ -638,9 +679,9 @@ def audit(program, inputs, outputs, proof):
 
 
 def parts_of(case):
-    """Returns a case's program, inputs, outputs and proof; None for what isn't there."""
+    """Returns a case's language, program, inputs, outputs and proof; None for what isn't there."""
     header, length, rest = case.split(b"\n", 2)
-    if header != b"gkr case 1":
+    if header not in (b"gkr case 1", b"gkr case 2"):
         raise ValueError("case")
     size = int(length.split()[1])
     program, lines = rest[:size], rest[size + 1 :].split(b"\n")
@@ -649,12 +690,12 @@ def parts_of(case):
     found = {line.split(b" ")[0]: line for line in lines[:-2]}
     numbers = lambda word: [int(one) for one in found[word].split()[2:]] if word in found else None
     proof = bytes.fromhex(lines[-3].decode()) if b"proof" in found else None
-    return program, numbers(b"input"), numbers(b"output"), proof
+    return int(header[9:]), program, numbers(b"input"), numbers(b"output"), proof
 
 
-def case_of(program, inputs, outputs=None, proof=None):
+def case_of(lang, program, inputs, outputs=None, proof=None):
     line = lambda word, numbers: b"".join([word, b" %d" % len(numbers), *(b" %d" % one for one in numbers), b"\n"])
-    text = b"gkr case 1\nprogram %d\n%s\n%s" % (len(program), program, line(b"input", inputs))
+    text = b"gkr case %d\nprogram %d\n%s\n%s" % (lang, len(program), program, line(b"input", inputs))
     if outputs is not None:
         text += line(b"output", outputs) + b"proof %d\n%s\n" % (len(proof), proof.hex().encode())
     return text + b"end\n"
@@ -662,19 +703,19 @@ def case_of(program, inputs, outputs=None, proof=None):
 
 def converted(case, version):
     """Returns the status of `convert` and what it writes."""
-    program, inputs, outputs, proof = parts_of(case)
-    written, line = convert(program, inputs, outputs, proof, version)
-    return (1, line.encode() + b"\n") if line else (0, case_of(program, inputs, outputs, written))
+    lang, program, inputs, outputs, proof = parts_of(case)
+    written, line = convert(lang, program, inputs, outputs, proof, version)
+    return (1, line.encode() + b"\n") if line else (0, case_of(lang, program, inputs, outputs, written))
 
 
 def without_claim(case):
-    return case_of(*parts_of(case)[:2])
+    return case_of(*parts_of(case)[:3])
 
 
 def vector(case):
     """The lines that examples/vectors/ has beside each case."""
-    program, inputs, outputs, proof = parts_of(case)
-    failing, circuit, transcript, _ = verify(program, inputs, outputs, proof)
+    lang, program, inputs, outputs, proof = parts_of(case)
+    failing, circuit, transcript, _ = verify(lang, program, inputs, outputs, proof)
     lines = [
         "statement " + statement_of(program, inputs, outputs).hex(),
         "start " + transcript.start.hex(),
@@ -695,8 +736,8 @@ def main(words):
         return 2
     case = sys.stdin.buffer.read()
     if words[0] == "prove":
-        program, inputs, _, _ = parts_of(case)
-        sys.stdout.buffer.write(case_of(program, inputs, *prove(program, inputs, kind)))
+        asked = parts_of(case)[:3]
+        sys.stdout.buffer.write(case_of(*asked, *prove(*asked, kind)))
     elif version:
         status, text = converted(case, version)
         sys.stdout.buffer.write(text)

@@ -99,4 +99,11 @@ pub enum Factor {
         left: Box<Expression>,
         right: Box<Expression>,
     },
+    /// `NAME ( e , .. )`, a call of a definition with one argument or more
+    Call {
+        name: Name,
+        parenthesis: usize,
+        first: Box<Expression>,
+        further: Vec<Expression>,
+    },
 }

@@ -8,6 +8,7 @@
 
 mod expression;
 mod index;
+mod lang;
 mod program;
 mod refusal;
 mod shape;
@@ -19,7 +20,8 @@ pub use expression::{
 pub use index::{
     AddedIndexTerm, IndexExpression, IndexFactor, IndexTerm, Indices, TimesIndexFactor,
 };
-pub use program::{Dimension, Dimensions, Input, Name, Program, TopStatement};
+pub use lang::Lang;
+pub use program::{Definition, Dimension, Dimensions, Input, Name, Program, TopStatement};
 pub use refusal::ProgramKind;
 pub use shape::ShapeOf;
 pub use statement::Statement;

@@ -1,4 +1,4 @@
-//! Programs: inputs, and then statements.
+//! Programs: inputs, then definitions, and then statements.
 
 use crate::expression::Expression;
 use crate::statement::Statement;
@@ -34,6 +34,16 @@ pub struct Input {
     pub dimensions: Dimensions,
 }
 
+/// `def NAME ( NAME , .. ) = e ;`, with the places of the word `def` and of the parenthesis
+#[derive(Debug, Drop)]
+pub struct Definition {
+    pub at: usize,
+    pub name: Name,
+    pub parenthesis: usize,
+    pub parameters: Vec<Name>,
+    pub body: Expression,
+}
+
 /// A statement of the top level, where outputs are too.
 #[derive(Debug, Drop)]
 pub enum TopStatement {
@@ -43,10 +53,11 @@ pub enum TopStatement {
     Inner(Statement),
 }
 
-/// The inputs, and then the statements of the top level.
+/// The inputs, then the definitions, and then the statements of the top level.
 #[derive(Debug, Drop)]
 pub struct Program {
     pub inputs: Vec<Input>,
+    pub definitions: Vec<Definition>,
     pub statements: Vec<TopStatement>,
     /// The length of the text.
     pub end: usize,

@@ -25,6 +25,8 @@ pub enum ProgramKind {
     Steps,
     /// A node too many.
     Nodes,
+    /// A definition too many.
+    Defs,
     /// A dimension outside its limits.
     Dims,
     /// An output too many.

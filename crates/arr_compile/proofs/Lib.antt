@@ -5,3 +5,4 @@ mod Computing
 mod SoundCircuits
 mod PlacesForgotten
 mod WhiteSpace
+mod TwoLanguages

@@ -1,6 +1,7 @@
 -- A text has one reading: one tree, or one first refusal.
 use Rattle.std.proofs.Common.{◌≡◌, ◌∙◌, subst, true, false, ℕ, List, [], ◌∷◌, length, refl, sym, ap, Result, Ok, Err, map}
 use Rattle.std.specs.Prelude.{IsTrue, is_ok}
+use Rattle.arr_ast.specs.declared.lang.Lang.{Lang}
 use Rattle.arr_ast.specs.ProgramTree.{ProgramTree}
 use Rattle.arr_ast.specs.declared.refusal.ProgramKind.{ProgramKind}
 use Rattle.arr_ast.specs.declared.refusal.ProgramKind.TheVariants as kinds
@@ -23,15 +24,15 @@ use Rattle.arr_compile.specs.Kinds.{kind_of}
 use Rattle.arr_compile.specs.Programs.{IsRead, IsAccepted, IsMisread, IsRefusedByRun, IsRefusedAs, IsRefusal}
 
 abbrev pub OneTree : Type 0
-OneTree = (text : List ℕ) (a b : ProgramTree) → IsRead text a → IsRead text b → a ≡ b
+OneTree = (lang : Lang) (text : List ℕ) (a b : ProgramTree) → IsRead lang text a → IsRead lang text b → a ≡ b
 
 pub one_list : (r : Result (List Token) ℕ) (a b : List Token) → r ≡ Ok a → r ≡ Ok b → a ≡ b
 one_list r a b is is' = cc
 
 pub one_tree : ((a b : ProgramTree) → program_marks a ≡ program_marks b → a.end ≡ b.end → a ≡ b) → OneTree
-one_tree law text a b read read' =
+one_tree law lang text a b read read' =
     let same = one_list (tokens_from 0 0 text) read.tokens read'.tokens read.lexed read'.lexed in
-    law a b (sym read.tree_of.spelled ∙ ap (λ (tokens : List Token). map (mark (source_of text tokens)) tokens) same ∙ read'.tree_of.spelled) (read.tree_of.end ∙ sym read'.tree_of.end)
+    law a b (sym read.tree_of.spelled ∙ ap (λ (tokens : List Token). map (mark (source_of lang text tokens)) tokens) same ∙ read'.tree_of.spelled) (read.tree_of.end ∙ sym read'.tree_of.end)
 
 same_lexing : (r : Result (List Token) ℕ) (a b : ℕ) → r ≡ Err a → r ≡ Err b → a ≡ b
 same_lexing r a b is is' = cc
@@ -39,102 +40,103 @@ same_lexing r a b is is' = cc
 lexed_or_not : (r : Result (List Token) ℕ) (tokens : List Token) (at : ℕ) → r ≡ Ok tokens → r ≡ Err at → ⊥
 lexed_or_not r tokens at is is' = cc
 
-same_reading : (text : List ℕ) (a b : ParseRefused) → IsMisread text a → IsMisread text b → a ≡ b
-same_reading text a b found found' =
+same_reading : (lang : Lang) (text : List ℕ) (a b : ParseRefused) → IsMisread lang text a → IsMisread lang text b → a ≡ b
+same_reading lang text a b found found' =
     let same = one_list (tokens_from 0 0 text) found.tokens found'.tokens found.lexed found'.lexed in
     let e = found'.refusal_is in
     let e' = found.refusal_is in
-    let moved = ap (refusal (length text) (Inputs ∷ [])) same in cc
+    let moved = ap (refusal lang (length text) (Inputs ∷ [])) same in cc
 
-read_or_not : (text : List ℕ) (tree : ProgramTree) (refused : ParseRefused) → IsRead text tree → IsMisread text refused → ⊥
-read_or_not text tree refused read found =
+read_or_not : (lang : Lang) (text : List ℕ) (tree : ProgramTree) (refused : ParseRefused) → IsRead lang text tree → IsMisread lang text refused → ⊥
+read_or_not lang text tree refused read found =
     let same = one_list (tokens_from 0 0 text) read.tokens found.tokens read.lexed found.lexed in
     let e = read.read in
     let e' = found.refusal_is in
-    let moved = ap (refusal (length text) (Inputs ∷ [])) same in cc
+    let moved = ap (refusal lang (length text) (Inputs ∷ [])) same in cc
 
-same_run : OneTree → (text : List ℕ) (at at' : ℕ) (kind kind' : CheckKind) → IsRefusedByRun text at kind → IsRefusedByRun text at' kind' → At at (kind_of kind) ≡ At at' (kind_of kind')
-same_run one text at at' kind kind' found found' =
-    let same = one text found.tree found'.tree found.read found'.read in
+same_run : OneTree → (lang : Lang) (text : List ℕ) (at at' : ℕ) (kind kind' : CheckKind) → IsRefusedByRun lang text at kind → IsRefusedByRun lang text at' kind' → At at (kind_of kind) ≡ At at' (kind_of kind')
+same_run one lang text at at' kind kind' found found' =
+    let same = one lang text found.tree found'.tree found.read found'.read in
     let e = found.refusal_is in
     let e' = found'.refusal_is in
-    let moved = ap run_program same in
+    let moved = ap (run_program lang) same in
     let at_is : at ≡ at' = cc in
     let kind_is : kind ≡ kind' = cc in
     rw (at_is, kind_is) refl
 
 -- the pass that refuses a text
-data Found (text : List ℕ) : BadProgram → Type 0 where
-  lexing : (at : ℕ) → tokens_from 0 0 text ≡ Err at → Found text (At at kinds.Lex)
-  syntax : (at : ℕ) → IsMisread text (Syntax at) → Found text (At at kinds.Syntax)
-  nesting : (at : ℕ) → IsMisread text (Nesting at) → Found text (At at kinds.Nesting)
-  run : (at : ℕ) (kind : CheckKind) → IsRefusedByRun text at kind → Found text (At at (kind_of kind))
+data Found (lang : Lang) (text : List ℕ) : BadProgram → Type 0 where
+  lexing : (at : ℕ) → tokens_from 0 0 text ≡ Err at → Found lang text (At at kinds.Lex)
+  syntax : (at : ℕ) → IsMisread lang text (Syntax at) → Found lang text (At at kinds.Syntax)
+  nesting : (at : ℕ) → IsMisread lang text (Nesting at) → Found lang text (At at kinds.Nesting)
+  run : (at : ℕ) (kind : CheckKind) → IsRefusedByRun lang text at kind → Found lang text (At at (kind_of kind))
 
-found_of : (text : List ℕ) (at : ℕ) (kind : ProgramKind) → IsRefusedAs text at kind → Found text (At at kind)
-found_of text at kinds.Lex refused = lexing at refused
-found_of text at kinds.Syntax refused = syntax at refused
-found_of text at kinds.Nesting refused = nesting at refused
-found_of text at kinds.Unknown refused = run at checks.Unknown refused
-found_of text at kinds.Taken refused = run at checks.Taken refused
-found_of text at kinds.Shape refused = run at checks.Shape refused
-found_of text at kinds.Index refused = run at checks.Index refused
-found_of text at kinds.IndexSize refused = run at checks.IndexSize refused
-found_of text at kinds.Bounds refused = run at checks.Bounds refused
-found_of text at kinds.Steps refused = run at checks.Steps refused
-found_of text at kinds.Nodes refused = run at checks.Nodes refused
-found_of text at kinds.Dims refused = run at checks.Dims refused
-found_of text at kinds.Outputs refused = run at checks.Outputs refused
-found_of text at kinds.NoOutput refused = run at checks.NoOutput refused
+found_of : (lang : Lang) (text : List ℕ) (at : ℕ) (kind : ProgramKind) → IsRefusedAs lang text at kind → Found lang text (At at kind)
+found_of lang text at kinds.Lex refused = lexing at refused
+found_of lang text at kinds.Syntax refused = syntax at refused
+found_of lang text at kinds.Nesting refused = nesting at refused
+found_of lang text at kinds.Unknown refused = run at checks.Unknown refused
+found_of lang text at kinds.Taken refused = run at checks.Taken refused
+found_of lang text at kinds.Shape refused = run at checks.Shape refused
+found_of lang text at kinds.Index refused = run at checks.Index refused
+found_of lang text at kinds.IndexSize refused = run at checks.IndexSize refused
+found_of lang text at kinds.Bounds refused = run at checks.Bounds refused
+found_of lang text at kinds.Steps refused = run at checks.Steps refused
+found_of lang text at kinds.Nodes refused = run at checks.Nodes refused
+found_of lang text at kinds.Defs refused = run at checks.Defs refused
+found_of lang text at kinds.Dims refused = run at checks.Dims refused
+found_of lang text at kinds.Outputs refused = run at checks.Outputs refused
+found_of lang text at kinds.NoOutput refused = run at checks.NoOutput refused
 
-found : (text : List ℕ) (bad : BadProgram) → IsRefusal text bad → Found text bad
-found text (At at kind) refused = found_of text at kind refused
-found text (Deep levels) refused = absurd refused
-found text (Wide height width) refused = absurd refused
+found : (lang : Lang) (text : List ℕ) (bad : BadProgram) → IsRefusal lang text bad → Found lang text bad
+found lang text (At at kind) refused = found_of lang text at kind refused
+found lang text (Deep levels) refused = absurd refused
+found lang text (Wide height width) refused = absurd refused
 
-syntax_or_nesting : (text : List ℕ) (at at' : ℕ) → IsMisread text (Syntax at) → IsMisread text (Nesting at') → ⊥
-syntax_or_nesting text at at' found found' = let e = same_reading text (Syntax at) (Nesting at') found found' in cc
+syntax_or_nesting : (lang : Lang) (text : List ℕ) (at at' : ℕ) → IsMisread lang text (Syntax at) → IsMisread lang text (Nesting at') → ⊥
+syntax_or_nesting lang text at at' found found' = let e = same_reading lang text (Syntax at) (Nesting at') found found' in cc
 
-same_syntax : (text : List ℕ) (at at' : ℕ) → IsMisread text (Syntax at) → IsMisread text (Syntax at') → at ≡ at'
-same_syntax text at at' found found' = let e = same_reading text (Syntax at) (Syntax at') found found' in cc
+same_syntax : (lang : Lang) (text : List ℕ) (at at' : ℕ) → IsMisread lang text (Syntax at) → IsMisread lang text (Syntax at') → at ≡ at'
+same_syntax lang text at at' found found' = let e = same_reading lang text (Syntax at) (Syntax at') found found' in cc
 
-same_nesting : (text : List ℕ) (at at' : ℕ) → IsMisread text (Nesting at) → IsMisread text (Nesting at') → at ≡ at'
-same_nesting text at at' found found' = let e = same_reading text (Nesting at) (Nesting at') found found' in cc
+same_nesting : (lang : Lang) (text : List ℕ) (at at' : ℕ) → IsMisread lang text (Nesting at) → IsMisread lang text (Nesting at') → at ≡ at'
+same_nesting lang text at at' found found' = let e = same_reading lang text (Nesting at) (Nesting at') found found' in cc
 
-unlexed : (text : List ℕ) (at : ℕ) (refused : ParseRefused) → tokens_from 0 0 text ≡ Err at → IsMisread text refused → ⊥
-unlexed text at refused e found = lexed_or_not (tokens_from 0 0 text) found.tokens at found.lexed e
+unlexed : (lang : Lang) (text : List ℕ) (at : ℕ) (refused : ParseRefused) → tokens_from 0 0 text ≡ Err at → IsMisread lang text refused → ⊥
+unlexed lang text at refused e found = lexed_or_not (tokens_from 0 0 text) found.tokens at found.lexed e
 
-unlexed_run : (text : List ℕ) (at : ℕ) (tree : ProgramTree) → tokens_from 0 0 text ≡ Err at → IsRead text tree → ⊥
-unlexed_run text at tree e read = lexed_or_not (tokens_from 0 0 text) read.tokens at read.lexed e
+unlexed_run : (lang : Lang) (text : List ℕ) (at : ℕ) (tree : ProgramTree) → tokens_from 0 0 text ≡ Err at → IsRead lang text tree → ⊥
+unlexed_run lang text at tree e read = lexed_or_not (tokens_from 0 0 text) read.tokens at read.lexed e
 
-one_found : OneTree → (text : List ℕ) {a b : BadProgram} → Found text a → Found text b → a ≡ b
-one_found one text (lexing at e) (lexing at' e') = rw (same_lexing (tokens_from 0 0 text) at at' e e') refl
-one_found one text (lexing at e) (syntax at' found) = absurd (unlexed text at (Syntax at') e found)
-one_found one text (lexing at e) (nesting at' found) = absurd (unlexed text at (Nesting at') e found)
-one_found one text (lexing at e) (run at' kind found) = absurd (unlexed_run text at found.tree e found.read)
-one_found one text (syntax at found) (lexing at' e) = absurd (unlexed text at' (Syntax at) e found)
-one_found one text (syntax at found) (syntax at' found') = rw (same_syntax text at at' found found') refl
-one_found one text (syntax at found) (nesting at' found') = absurd (syntax_or_nesting text at at' found found')
-one_found one text (syntax at found) (run at' kind found') = absurd (read_or_not text found'.tree (Syntax at) found'.read found)
-one_found one text (nesting at found) (lexing at' e) = absurd (unlexed text at' (Nesting at) e found)
-one_found one text (nesting at found) (syntax at' found') = absurd (syntax_or_nesting text at' at found' found)
-one_found one text (nesting at found) (nesting at' found') = rw (same_nesting text at at' found found') refl
-one_found one text (nesting at found) (run at' kind found') = absurd (read_or_not text found'.tree (Nesting at) found'.read found)
-one_found one text (run at kind found) (lexing at' e) = absurd (unlexed_run text at' found.tree e found.read)
-one_found one text (run at kind found) (syntax at' found') = absurd (read_or_not text found.tree (Syntax at') found.read found')
-one_found one text (run at kind found) (nesting at' found') = absurd (read_or_not text found.tree (Nesting at') found.read found')
-one_found one text (run at kind found) (run at' kind' found') = same_run one text at at' kind kind' found found'
+one_found : OneTree → (lang : Lang) (text : List ℕ) {a b : BadProgram} → Found lang text a → Found lang text b → a ≡ b
+one_found one lang text (lexing at e) (lexing at' e') = rw (same_lexing (tokens_from 0 0 text) at at' e e') refl
+one_found one lang text (lexing at e) (syntax at' found) = absurd (unlexed lang text at (Syntax at') e found)
+one_found one lang text (lexing at e) (nesting at' found) = absurd (unlexed lang text at (Nesting at') e found)
+one_found one lang text (lexing at e) (run at' kind found) = absurd (unlexed_run lang text at found.tree e found.read)
+one_found one lang text (syntax at found) (lexing at' e) = absurd (unlexed lang text at' (Syntax at) e found)
+one_found one lang text (syntax at found) (syntax at' found') = rw (same_syntax lang text at at' found found') refl
+one_found one lang text (syntax at found) (nesting at' found') = absurd (syntax_or_nesting lang text at at' found found')
+one_found one lang text (syntax at found) (run at' kind found') = absurd (read_or_not lang text found'.tree (Syntax at) found'.read found)
+one_found one lang text (nesting at found) (lexing at' e) = absurd (unlexed lang text at' (Nesting at) e found)
+one_found one lang text (nesting at found) (syntax at' found') = absurd (syntax_or_nesting lang text at' at found' found)
+one_found one lang text (nesting at found) (nesting at' found') = rw (same_nesting lang text at at' found found') refl
+one_found one lang text (nesting at found) (run at' kind found') = absurd (read_or_not lang text found'.tree (Nesting at) found'.read found)
+one_found one lang text (run at kind found) (lexing at' e) = absurd (unlexed_run lang text at' found.tree e found.read)
+one_found one lang text (run at kind found) (syntax at' found') = absurd (read_or_not lang text found.tree (Syntax at') found.read found')
+one_found one lang text (run at kind found) (nesting at' found') = absurd (read_or_not lang text found.tree (Nesting at') found.read found')
+one_found one lang text (run at kind found) (run at' kind' found') = same_run one lang text at at' kind kind' found found'
 
-pub one_refusal : OneTree → (text : List ℕ) (a b : BadProgram) → IsRefusal text a → IsRefusal text b → a ≡ b
-one_refusal one text a b refused refused' = one_found one text (found text a refused) (found text b refused')
+pub one_refusal : OneTree → (lang : Lang) (text : List ℕ) (a b : BadProgram) → IsRefusal lang text a → IsRefusal lang text b → a ≡ b
+one_refusal one lang text a b refused refused' = one_found one lang text (found lang text a refused) (found lang text b refused')
 
-accepted_run : (tree tree' : ProgramTree) (at : ℕ) (kind : CheckKind) → tree ≡ tree' → IsTrue (is_ok (run_program tree)) → run_program tree' ≡ Err (BadCheck at kind) → ⊥
-accepted_run tree tree' at kind same ok e = let moved : run_program tree ≡ Err (BadCheck at kind) = ap run_program same ∙ e in let shown : false ≡ true = subst (λ r. IsTrue (is_ok r)) moved ok in cc
+accepted_run : (lang : Lang) (tree tree' : ProgramTree) (at : ℕ) (kind : CheckKind) → tree ≡ tree' → IsTrue (is_ok (run_program lang tree)) → run_program lang tree' ≡ Err (BadCheck at kind) → ⊥
+accepted_run lang tree tree' at kind same ok e = let moved : run_program lang tree ≡ Err (BadCheck at kind) = ap (run_program lang) same ∙ e in let shown : false ≡ true = subst (λ r. IsTrue (is_ok r)) moved ok in cc
 
-not_found : OneTree → (text : List ℕ) (tree : ProgramTree) {bad : BadProgram} → IsAccepted text tree → Found text bad → ⊥
-not_found one text tree accepted (lexing at e) = unlexed_run text at tree e accepted.read
-not_found one text tree accepted (syntax at found) = read_or_not text tree (Syntax at) accepted.read found
-not_found one text tree accepted (nesting at found) = read_or_not text tree (Nesting at) accepted.read found
-not_found one text tree accepted (run at kind found) = accepted_run tree found.tree at kind (one text tree found.tree accepted.read found.read) accepted.checked found.refusal_is
+not_found : OneTree → (lang : Lang) (text : List ℕ) (tree : ProgramTree) {bad : BadProgram} → IsAccepted lang text tree → Found lang text bad → ⊥
+not_found one lang text tree accepted (lexing at e) = unlexed_run lang text at tree e accepted.read
+not_found one lang text tree accepted (syntax at found) = read_or_not lang text tree (Syntax at) accepted.read found
+not_found one lang text tree accepted (nesting at found) = read_or_not lang text tree (Nesting at) accepted.read found
+not_found one lang text tree accepted (run at kind found) = accepted_run lang tree found.tree at kind (one lang text tree found.tree accepted.read found.read) accepted.checked found.refusal_is
 
-pub not_both : OneTree → (text : List ℕ) (tree : ProgramTree) (bad : BadProgram) → IsAccepted text tree → ¬ IsRefusal text bad
-not_both one text tree bad accepted refused = not_found one text tree accepted (found text bad refused)
+pub not_both : OneTree → (lang : Lang) (text : List ℕ) (tree : ProgramTree) (bad : BadProgram) → IsAccepted lang text tree → ¬ IsRefusal lang text bad
+not_both one lang text tree bad accepted refused = not_found one lang text tree accepted (found lang text bad refused)

@@ -1,6 +1,7 @@
 -- White space between tokens changes no words: texts that differ in no more than such white space have one tree but for places.
 use Rattle.std.proofs.Common.{◌≡◌, ℕ, suc, ◌+◌, ◌-◌, ◌≤◌, true, cond, List, [], ◌∷◌, ◌++◌, length, map, take, drop, Result, Ok, Err, refl, ap, ap₂, sym, subst, ◌∙◌, append_assoc, length-append, length-drop, arith}
 use Rattle.std.proofs.lemmas.List.{take-append-le, drop-append-le, map-append}
+use Rattle.arr_ast.specs.declared.lang.Lang.{Lang}
 use Rattle.arr_ast.specs.ProgramTree.{ProgramTree}
 use Rattle.arr_lex.specs.declared.token.Token.{Token}
 use Rattle.arr_lex.specs.Blank.{AreBlank, IsWhiteSpace}
@@ -72,8 +73,8 @@ abbrev Spans : Type 0
 Spans = (text : List ℕ) (tokens : List Token) → tokens_from 0 0 text ≡ Ok tokens → AreSpans 0 text tokens
 
 abbrev OneTreeOfWords : Type 0
-OneTreeOfWords = (text other : List ℕ) (tokens others : List Token) (a b : ProgramTree) → SameWords text tokens other others →
-    IsTreeOf text tokens a → IsTreeOf other others b → unplaced a ≡ unplaced b
+OneTreeOfWords = (lang : Lang) (text other : List ℕ) (tokens others : List Token) (a b : ProgramTree) → SameWords text tokens other others →
+    IsTreeOf lang text tokens a → IsTreeOf lang other others b → unplaced a ≡ unplaced b
 
 blanks-passed : (blanks back : List ℕ) (at : ℕ) → AreBlank blanks → tokens_from at 0 (blanks ++ back) ≡ tokens_from (at + length blanks) 0 back
 blanks-passed [] back at blank = let same : at ≡ at + 0 = omega arith in ap (λ a. tokens_from a 0 back) same
@@ -122,13 +123,13 @@ words-between spans anywhere moves front blanks back tokens all found blank whol
     }
 
 abbrev pub WhiteSpace : Type 0
-WhiteSpace = (front back blanks others : List ℕ) (tokens : List Token) → tokens_from 0 0 front ≡ Ok tokens → IsWhiteSpace blanks → IsWhiteSpace others →
-    (a b : ProgramTree) → IsRead (front ++ (blanks ++ back)) a → IsRead (front ++ (others ++ back)) b → unplaced a ≡ unplaced b
+WhiteSpace = (lang : Lang) (front back blanks others : List ℕ) (tokens : List Token) → tokens_from 0 0 front ≡ Ok tokens → IsWhiteSpace blanks → IsWhiteSpace others →
+    (a b : ProgramTree) → IsRead lang (front ++ (blanks ++ back)) a → IsRead lang (front ++ (others ++ back)) b → unplaced a ≡ unplaced b
 
 pub white_space : Spans → SameAnywhere → WhiteSpaceMoves → OneTreeOfWords → WhiteSpace
-white_space spans anywhere moves one front back blanks others tokens found blank blank' a b read read' =
+white_space spans anywhere moves one lang front back blanks others tokens found blank blank' a b read read' =
     let first = words-between spans anywhere moves front blanks back tokens read.tokens found blank read.lexed in
     let second = words-between spans anywhere moves front others back tokens read'.tokens found blank' read'.lexed in
     let same : first.rest ≡ second.rest = one_list (tokens_from 0 0 back) first.rest second.rest first.lexed second.lexed in
-    one (front ++ (blanks ++ back)) (front ++ (others ++ back)) read.tokens read'.tokens a b
+    one lang (front ++ (blanks ++ back)) (front ++ (others ++ back)) read.tokens read'.tokens a b
     (first.words ∙ ap (λ rest. map (word front) tokens ++ map (word back) rest) same ∙ sym second.words) read.tree_of read'.tree_of

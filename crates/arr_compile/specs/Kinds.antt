@@ -22,6 +22,7 @@ kind_of checks.IndexSize = kinds.IndexSize
 kind_of checks.Bounds = kinds.Bounds
 kind_of checks.Steps = kinds.Steps
 kind_of checks.Nodes = kinds.Nodes
+kind_of checks.Defs = kinds.Defs
 kind_of checks.Dims = kinds.Dims
 kind_of checks.Outputs = kinds.Outputs
 kind_of checks.NoOutput = kinds.NoOutput

@@ -1,3 +1,4 @@
 pub mod Kinds
 pub mod Programs
 pub mod Circuits
+pub mod Languages

@@ -1,5 +1,6 @@
--- The program of a text, or its first refusal: all lexing comes before all reading, and that before running.
+-- The program of a text in a language, or its first refusal: all lexing comes before all reading, and that before running.
 use Rattle.std.specs.Prelude.{◌≡◌, ℕ, List, [], ◌∷◌, length, IsTrue, is_ok, Some, None, Ok, Err}
+use Rattle.arr_ast.specs.declared.lang.Lang.{Lang}
 use Rattle.arr_ast.specs.ProgramTree.{ProgramTree}
 use Rattle.arr_ast.specs.declared.refusal.ProgramKind.{ProgramKind}
 use Rattle.arr_ast.specs.declared.refusal.ProgramKind.TheVariants as kinds
@@ -20,53 +21,54 @@ use Rattle.arr_compile.specs.declared.refused.CompileRefused.{CompileRefused}
 use Rattle.arr_compile.specs.declared.refused.CompileRefused.TheVariants.{Bad, Memory}
 
 -- The text's tokens are read to their end, where reading begins with the whole program due.
-pub record IsRead (text : List ℕ) (tree : ProgramTree) : Type 0 where
+pub record IsRead (lang : Lang) (text : List ℕ) (tree : ProgramTree) : Type 0 where
   pub tokens : List Token
   pub lexed : tokens_from 0 0 text ≡ Ok tokens
-  pub read : refusal (length text) (Inputs ∷ []) tokens ≡ None
-  pub tree_of : IsTreeOf text tokens tree
+  pub read : refusal lang (length text) (Inputs ∷ []) tokens ≡ None
+  pub tree_of : IsTreeOf lang text tokens tree
 
 -- The text has this tree, and no check refuses it.
-pub record IsAccepted (text : List ℕ) (tree : ProgramTree) : Type 0 where
-  pub read : IsRead text tree
-  pub checked : IsTrue (is_ok (run_program tree))
+pub record IsAccepted (lang : Lang) (text : List ℕ) (tree : ProgramTree) : Type 0 where
+  pub read : IsRead lang text tree
+  pub checked : IsTrue (is_ok (run_program lang tree))
 
 -- The text has tokens, and reading them is refused.
-pub record IsMisread (text : List ℕ) (refused : ParseRefused) : Type 0 where
+pub record IsMisread (lang : Lang) (text : List ℕ) (refused : ParseRefused) : Type 0 where
   pub tokens : List Token
   pub lexed : tokens_from 0 0 text ≡ Ok tokens
-  pub refusal_is : refusal (length text) (Inputs ∷ []) tokens ≡ Some refused
+  pub refusal_is : refusal lang (length text) (Inputs ∷ []) tokens ≡ Some refused
 
 -- The text has a tree, and its run over shapes is refused.
-pub record IsRefusedByRun (text : List ℕ) (at : ℕ) (kind : CheckKind) : Type 0 where
+pub record IsRefusedByRun (lang : Lang) (text : List ℕ) (at : ℕ) (kind : CheckKind) : Type 0 where
   pub tree : ProgramTree
-  pub read : IsRead text tree
-  pub refusal_is : run_program tree ≡ Err (BadCheck at kind)
+  pub read : IsRead lang text tree
+  pub refusal_is : run_program lang tree ≡ Err (BadCheck at kind)
 
 -- The first refusal of the text is of this kind, at this place.
-abbrev pub IsRefusedAs : List ℕ → ℕ → ProgramKind → Type 0
-IsRefusedAs text at kinds.Lex = tokens_from 0 0 text ≡ Err at
-IsRefusedAs text at kinds.Syntax = IsMisread text (Syntax at)
-IsRefusedAs text at kinds.Nesting = IsMisread text (Nesting at)
-IsRefusedAs text at kinds.Unknown = IsRefusedByRun text at checks.Unknown
-IsRefusedAs text at kinds.Taken = IsRefusedByRun text at checks.Taken
-IsRefusedAs text at kinds.Shape = IsRefusedByRun text at checks.Shape
-IsRefusedAs text at kinds.Index = IsRefusedByRun text at checks.Index
-IsRefusedAs text at kinds.IndexSize = IsRefusedByRun text at checks.IndexSize
-IsRefusedAs text at kinds.Bounds = IsRefusedByRun text at checks.Bounds
-IsRefusedAs text at kinds.Steps = IsRefusedByRun text at checks.Steps
-IsRefusedAs text at kinds.Nodes = IsRefusedByRun text at checks.Nodes
-IsRefusedAs text at kinds.Dims = IsRefusedByRun text at checks.Dims
-IsRefusedAs text at kinds.Outputs = IsRefusedByRun text at checks.Outputs
-IsRefusedAs text at kinds.NoOutput = IsRefusedByRun text at checks.NoOutput
+abbrev pub IsRefusedAs : Lang → List ℕ → ℕ → ProgramKind → Type 0
+IsRefusedAs lang text at kinds.Lex = tokens_from 0 0 text ≡ Err at
+IsRefusedAs lang text at kinds.Syntax = IsMisread lang text (Syntax at)
+IsRefusedAs lang text at kinds.Nesting = IsMisread lang text (Nesting at)
+IsRefusedAs lang text at kinds.Unknown = IsRefusedByRun lang text at checks.Unknown
+IsRefusedAs lang text at kinds.Taken = IsRefusedByRun lang text at checks.Taken
+IsRefusedAs lang text at kinds.Shape = IsRefusedByRun lang text at checks.Shape
+IsRefusedAs lang text at kinds.Index = IsRefusedByRun lang text at checks.Index
+IsRefusedAs lang text at kinds.IndexSize = IsRefusedByRun lang text at checks.IndexSize
+IsRefusedAs lang text at kinds.Bounds = IsRefusedByRun lang text at checks.Bounds
+IsRefusedAs lang text at kinds.Steps = IsRefusedByRun lang text at checks.Steps
+IsRefusedAs lang text at kinds.Nodes = IsRefusedByRun lang text at checks.Nodes
+IsRefusedAs lang text at kinds.Defs = IsRefusedByRun lang text at checks.Defs
+IsRefusedAs lang text at kinds.Dims = IsRefusedByRun lang text at checks.Dims
+IsRefusedAs lang text at kinds.Outputs = IsRefusedByRun lang text at checks.Outputs
+IsRefusedAs lang text at kinds.NoOutput = IsRefusedByRun lang text at checks.NoOutput
 
 -- Layout is no part of it.
-abbrev pub IsRefusal : List ℕ → BadProgram → Type 0
-IsRefusal text (At at kind) = IsRefusedAs text at kind
-IsRefusal text (Deep levels) = ⊥
-IsRefusal text (Wide height width) = ⊥
+abbrev pub IsRefusal : Lang → List ℕ → BadProgram → Type 0
+IsRefusal lang text (At at kind) = IsRefusedAs lang text at kind
+IsRefusal lang text (Deep levels) = ⊥
+IsRefusal lang text (Wide height width) = ⊥
 
 -- A call refuses a text as the definition does, or memory ran out.
-abbrev pub Refuses : List ℕ → CompileRefused → Type 0
-Refuses text (Bad bad) = IsRefusal text bad
-Refuses text Memory = Unit {0}
+abbrev pub Refuses : Lang → List ℕ → CompileRefused → Type 0
+Refuses lang text (Bad bad) = IsRefusal lang text bad
+Refuses lang text Memory = Unit {0}

@@ -58,6 +58,7 @@ fn kind_of(kind: CheckKind) -> ProgramKind
         CheckKind::Bounds => ProgramKind::Bounds,
         CheckKind::Steps => ProgramKind::Steps,
         CheckKind::Nodes => ProgramKind::Nodes,
+        CheckKind::Defs => ProgramKind::Defs,
         CheckKind::Dims => ProgramKind::Dims,
         CheckKind::Outputs => ProgramKind::Outputs,
         CheckKind::NoOutput => ProgramKind::NoOutput,

@@ -8,6 +8,7 @@ use Rattle.arr_ast.specs.declared.expression.PairFunction.{PairFunction}
 use Rattle.arr_ast.specs.declared.expression.PairFunction.TheVariants.{Scale, Dot, MatMul}
 use Rattle.arr_ast.specs.declared.shape.ShapeOf.{ShapeOf}
 use Rattle.arr_ast.specs.declared.shape.ShapeOf.TheVariants.{Matrix}
+use Rattle.arr_ast.specs.declared.lang.Lang.{Lang}
 use Rattle.arr_ast.specs.ProgramTree.{ProgramTree}
 use Rattle.arr_run.specs.declared.counts.Counts.{Counts}
 use Rattle.arr_run.specs.Agrees.{Answer}
@@ -57,6 +58,7 @@ abbrev pub outputs_of : Answer (Counts × Kept) → Option (List F)
 outputs_of (Ok end) = Some end.1.outputs
 outputs_of (Err refused) = None
 
--- what a program puts out for these numbers, where it isn't refused
-abbrev pub meaning : ProgramTree → List F → Option (List F)
-meaning program inputs = outputs_of (end_of numbers program (record { inputs = inputs; outputs = [] }))
+-- what a program of a language puts out for these numbers, where it isn't refused
+abbrev pub meaning : Lang → ProgramTree → List F → Option (List F)
+meaning lang program inputs =
+    outputs_of (end_of numbers lang program (record { inputs = inputs; outputs = [] }))

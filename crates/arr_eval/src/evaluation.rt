@@ -18,7 +18,8 @@ use std::alloc::Global;
 /// reports both counts. `Memory` is meant for where memory runs out. The time is meant to be linear in
 /// the elements that are computed, the steps that are run and the parts of index expressions.
 pub fn eval(alloc: Global, checked: &Checked, inputs: &[Fp]) -> Result<Vec<Fp>, EvalRefused>
-    ensures { Evaluates vec_items (program_tree checked.now.program) inputs.now result }
+    ensures { Evaluates vec_items checked.now.lang (program_tree checked.now.program)
+        inputs.now result }
 {
     let have = inputs.len() as u64;
     let need = checked.inputs;
@@ -30,7 +31,7 @@ pub fn eval(alloc: Global, checked: &Checked, inputs: &[Fp]) -> Result<Vec<Fp>, 
         inputs,
         outputs: Vec::new(alloc),
     };
-    match run(alloc, &mut numbers, &checked.program) {
+    match run(alloc, &mut numbers, &checked.program, checked.lang) {
         Ok(_) => {
             let Numbers { outputs, .. } = numbers;
             Ok(outputs)

@@ -4,13 +4,17 @@
 ghost use Rattle.std.specs.Prelude.{◌≡◌, ℕ, ◌+◌, ◌*◌, ◌<◌, List, ◌++◌, length, Ok, IsTrue, is_ok, IsSome};
 ghost use Rattle.arr_ast.specs.IndexTree.{Sum};
 ghost use Rattle.arr_ast.specs.ExpressionTree.{NameTree, ExpressionTree};
-ghost use Rattle.arr_ast.specs.ProgramTree.{ProgramTree};
+ghost use Rattle.arr_ast.specs.declared.lang.Lang.{Lang};
+ghost use Rattle.arr_ast.specs.declared.lang.Lang.TheVariants.{One, Two};
+ghost use Rattle.arr_ast.specs.ProgramTree.{DefinitionTree, ProgramTree};
 ghost use Rattle.arr_run.specs.declared.counts.Counts.{Counts};
 ghost use Rattle.arr_run.specs.Agrees.{Answer};
 ghost use Rattle.arr_run.specs.Expression.{Valued, value_of};
 ghost use Rattle.arr_run.specs.Scope.{Names};
 ghost use Rattle.arr_run.specs.Shape.{size_of};
-ghost use Rattle.arr_run.specs.Statement.{State, counted_loop, loop_in_order};
+ghost use Rattle.arr_run.specs.Definitions.{callables};
+ghost use Rattle.arr_run.specs.State.{State};
+ghost use Rattle.arr_run.specs.Statement.{counted_loop, loop_in_order};
 ghost use Rattle.arr_check.specs.Program.{run_program};
 ghost use Rattle.field_ext.specs.Field.{F, add_f};
 ghost use Rattle.arr_eval.specs.Meaning.{Kept, meaning, numbers};
@@ -19,8 +23,16 @@ ghost use Rattle.arr_eval.specs.Sizes.{AllSized};
 
 /// A program that the checks accept has a meaning, whatever its inputs are.
 pub fn has_meaning()
-    ensures { (program : ProgramTree) (inputs : List F) → IsTrue (is_ok (run_program program))
-        → IsSome (meaning program inputs) }
+    ensures { (lang : Lang) (program : ProgramTree) (inputs : List F) → IsTrue
+        (is_ok (run_program lang program))
+        → IsSome (meaning lang program inputs) }
+{}
+
+/// A program that the first language accepts means the same in the second.
+pub fn same_meaning()
+    ensures { (program : ProgramTree) (inputs : List F)
+        → IsTrue (is_ok (run_program One program))
+        → meaning Two program inputs ≡ meaning One program inputs }
 {}
 
 /// The sum of a list in two parts is the sum of the sums of its parts. So a sum by halves, of
@@ -51,17 +63,18 @@ pub fn transposed_twice()
 /// A loop runs its body once for each number from its lower bound on, below its upper bound, in
 /// order, with the loop variable at that number.
 pub fn turns_in_order()
-    ensures { (at : ℕ) (name : NameTree) (low high : Sum)
+    ensures { (definitions : List DefinitionTree) (at : ℕ) (name : NameTree) (low high : Sum)
         (body : State (List F) Kept → Answer (State (List F) Kept)) (before : State (List F) Kept) →
-        counted_loop numbers at name low high body before
-        ≡ loop_in_order numbers at name low high body before }
+        counted_loop numbers definitions at name low high body before
+        ≡ loop_in_order numbers definitions at name low high body before }
 {}
 
 /// Where the array of each name has as many elements as its shape has places, so has the value of
 /// each expression.
 pub fn values_are_sized()
-    ensures { (expression : ExpressionTree) (names : Names (List F)) (counts : Counts) (kept : Kept)
-        (found : Valued (List F) Kept) → AllSized names
-        → value_of numbers expression names counts kept ≡ Ok found
+    ensures { (definitions : List DefinitionTree) (expression : ExpressionTree)
+        (names : Names (List F)) (counts : Counts) (kept : Kept) (found : Valued (List F) Kept)
+        → AllSized names →
+        value_of numbers (callables numbers definitions) expression names counts kept ≡ Ok found
         → length found.1 ≡ size_of found.0 }
 {}

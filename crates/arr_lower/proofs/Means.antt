@@ -14,6 +14,7 @@ use Rattle.arr_ast.specs.declared.expression.PairFunction.{PairFunction}
 use Rattle.arr_ast.specs.declared.expression.PairFunction.TheVariants.{Scale, Dot, MatMul}
 use Rattle.arr_ast.specs.declared.shape.ShapeOf.{ShapeOf}
 use Rattle.arr_ast.specs.declared.shape.ShapeOf.TheVariants.{Scalar, Vector, Matrix}
+use Rattle.arr_ast.specs.declared.lang.Lang.{Lang}
 use Rattle.arr_ast.specs.ProgramTree.{InputTree, ProgramTree}
 use Rattle.arr_run.specs.declared.counts.Counts.{Counts}
 use Rattle.arr_run.specs.declared.refused.CheckKind.TheVariants as kinds
@@ -21,7 +22,7 @@ use Rattle.arr_run.specs.declared.refused.CheckRefused.TheVariants.{Bad}
 use Rattle.arr_run.specs.Agrees.{Answer, ◌>>=◌}
 use Rattle.arr_run.specs.Program.{end_of, run_of, input_count, numbers_of_input}
 use Rattle.arr_run.specs.Shape.{size_of, for_nodes, pair_shape}
-use Rattle.arr_run.specs.Statement.{State}
+use Rattle.arr_run.specs.State.{State}
 use Rattle.arr_run.proofs.api.Answered.{if_ok}
 use Rattle.arr_run.proofs.api.InputNodes.{input_shape-declared}
 use Rattle.arr_run.proofs.api.Related.{Gives, GoTogether, GoOn, Begin, BothStates, programs}
@@ -117,6 +118,7 @@ module _ (inputs : List F) where
     pair = λ function at left right shape before counts xs ys a b s t e alike first second.
         gives before counts s t shape (pair_nodes function left right a b t.nodes) (pair function left right xs ys) alike
         (pair-each function at left right shape before counts a b t.nodes xs ys e first.0 first.1 second.0 second.1) (pair-size function at left right shape before counts xs ys e second.1);
+    stepped = λ at before counts s t e alike. alike;
     element = λ shape place xs items s t within stand.
         let long = each-length (Stands inputs t.nodes) items xs stand.0 in
         ((each-get (Stands inputs t.nodes) items xs place 0 (of 0) stand.0 (omega (arith, long, within, stand.1)), tt), refl);
@@ -124,7 +126,6 @@ module _ (inputs : List F) where
 
   more : GoOn numbers nodes Alike Stand Later
   more = record {
-    stepped = λ at before counts s t e alike. alike;
     with_element = λ shape place xs new items item s t stand one.
         let long = each-length (Stands inputs t.nodes) item new one.0 in
         let there : Stands inputs t.nodes (get_or item 0 0) (element new 0) = each-get (Stands inputs t.nodes) item new 0 0 (of 0) one.0 (omega (arith, long, one.1)) in
@@ -170,10 +171,10 @@ module _ (inputs : List F) where
   abbrev none_made : KeptNodes
   none_made = record { nodes = []; outputs = [] }
 
-  lowers : (program : ProgramTree) (found : Nodes) → nodes_of program ≡ Some found → length inputs ≡ input_count program.inputs → Lowers (meaning program inputs) found
-  lowers program found e long =
-      ends (input_count program.inputs) (run_of numbers program (record { inputs = inputs; outputs = [] })) (run_of nodes program none_made) found
-      (programs numbers nodes Alike Stand Later go more Enough begin program (record { inputs = inputs; outputs = [] }) none_made (refl, omega (arith, long)) (record { at = λ k inside. absurd (omega (arith, inside)) }, tt)) e
+  lowers : (lang : Lang) (program : ProgramTree) (found : Nodes) → nodes_of lang program ≡ Some found → length inputs ≡ input_count program.inputs → Lowers (meaning lang program inputs) found
+  lowers lang program found e long =
+      ends (input_count program.inputs) (run_of numbers lang program (record { inputs = inputs; outputs = [] })) (run_of nodes lang program none_made) found
+      (programs numbers nodes Alike Stand Later go more Enough begin lang program (record { inputs = inputs; outputs = [] }) none_made (refl, omega (arith, long)) (record { at = λ k inside. absurd (omega (arith, inside)) }, tt)) e
 
   values-are : (made : List Node) (items : List ℕ) (xs : List F) → AllStand inputs made items xs → xs ≡ map (value inputs made) items
   values-are made [] [] s = refl
@@ -181,9 +182,9 @@ module _ (inputs : List F) where
   values-are made (item ∷ items) [] s = absurd s
   values-are made (item ∷ items) (x ∷ xs) s = λ i. sym s.0.is i ∷ values-are made items xs s.1 i
 
-  pub nodes_mean : (program : ProgramTree) (found : Nodes) → nodes_of program ≡ Some found → length inputs ≡ input_count program.inputs →
-      meaning program inputs ≡ Some (map (λ k. slice_index_or (values found inputs) k zero_f) found.outputs)
-  nodes_mean program found e long = let there = lowers program found e long in there.is ∙ ap Some (values-are found.nodes found.outputs there.held there.stand)
+  pub nodes_mean : (lang : Lang) (program : ProgramTree) (found : Nodes) → nodes_of lang program ≡ Some found → length inputs ≡ input_count program.inputs →
+      meaning lang program inputs ≡ Some (map (λ k. slice_index_or (values found inputs) k zero_f) found.outputs)
+  nodes_mean lang program found e long = let there = lowers lang program found e long in there.is ∙ ap Some (values-are found.nodes found.outputs there.held there.stand)
 
 -- as many inputs as a program has, of no meaning
 some_inputs : ProgramTree → List F
@@ -199,16 +200,16 @@ counted count (Ok end) found e =
     sym (ap (λ (n : Nodes). n.inputs) (same_some made found e))
 counted count (Err refused) found e = cc
 
-pub inputs-counted : (program : ProgramTree) (found : Nodes) → nodes_of program ≡ Some found → found.inputs ≡ input_count program.inputs
-inputs-counted program found e = counted (input_count program.inputs) (end_of nodes program (record { nodes = []; outputs = [] })) found e
+pub inputs-counted : (lang : Lang) (program : ProgramTree) (found : Nodes) → nodes_of lang program ≡ Some found → found.inputs ≡ input_count program.inputs
+inputs-counted lang program found e = counted (input_count program.inputs) (end_of nodes lang program (record { nodes = []; outputs = [] })) found e
 
-pub nodes-fine : (program : ProgramTree) (found : Nodes) → nodes_of program ≡ Some found → (k : ℕ) → k < length found.nodes → IsFineAt found.inputs k (node_at found k)
-nodes-fine program found e k inside =
-    let there = lowers (some_inputs program) program found e (some_long program) in
-    let same : length (some_inputs program) ≡ found.inputs = some_long program ∙ sym (inputs-counted program found e) in
+pub nodes-fine : (lang : Lang) (program : ProgramTree) (found : Nodes) → nodes_of lang program ≡ Some found → (k : ℕ) → k < length found.nodes → IsFineAt found.inputs k (node_at found k)
+nodes-fine lang program found e k inside =
+    let there = lowers (some_inputs program) lang program found e (some_long program) in
+    let same : length (some_inputs program) ≡ found.inputs = some_long program ∙ sym (inputs-counted lang program found e) in
     subst (λ count. IsFineAt count k (node_at found k)) same (there.fine.at k inside)
 
-pub outputs-there : (program : ProgramTree) (found : Nodes) → nodes_of program ≡ Some found → All (λ output. output < length found.nodes) found.outputs
-outputs-there program found e k d inside =
-    let there = lowers (some_inputs program) program found e (some_long program) in
+pub outputs-there : (lang : Lang) (program : ProgramTree) (found : Nodes) → nodes_of lang program ≡ Some found → All (λ output. output < length found.nodes) found.outputs
+outputs-there lang program found e k d inside =
+    let there = lowers (some_inputs program) lang program found e (some_long program) in
     (each-get (Stands (some_inputs program) found.nodes) found.outputs there.held k d zero_f there.stand inside).inside

@@ -1,5 +1,6 @@
 -- The nodes of programs: their run over arrays of nodes. A node's number is its place in the list.
 use Rattle.std.specs.Prelude.{List, [], ◌∷◌, ◌++◌, Option, Some, None, ℕ, Ok, Err, get_or, set}
+use Rattle.arr_ast.specs.declared.lang.Lang.{Lang}
 use Rattle.arr_ast.specs.ProgramTree.{ProgramTree}
 use Rattle.arr_run.specs.declared.counts.Counts.{Counts}
 use Rattle.arr_run.specs.Agrees.{Answer}
@@ -45,8 +46,8 @@ nodes_at_end inputs (Ok end) = Some (record {
 })
 nodes_at_end inputs (Err refused) = None
 
--- the nodes of a program, where it isn't refused
-abbrev pub nodes_of : ProgramTree → Option Nodes
-nodes_of program =
+-- the nodes of a program of a language, where it isn't refused
+abbrev pub nodes_of : Lang → ProgramTree → Option Nodes
+nodes_of lang program =
     nodes_at_end (input_count program.inputs)
-    (end_of nodes program (record { nodes = []; outputs = [] }))
+    (end_of nodes lang program (record { nodes = []; outputs = [] }))

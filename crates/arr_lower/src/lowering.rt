@@ -18,7 +18,9 @@ use std::alloc::{AllocError, Global};
 /// computed, the steps that are run and the parts of index expressions, but for the search of
 /// constants, which is logarithmic in their number.
 pub fn lower(alloc: Global, checked: &Checked) -> Result<NodeList, AllocError>
-    ensures nodes { IfOk result (λ list. nodes_of (program_tree checked.now.program) ≡ Some list) }
+    ensures nodes { IfOk result (λ list. nodes_of checked.now.lang
+        (program_tree checked.now.program)
+        ≡ Some list) }
     ensures in_order { IfOk result (λ list. IsNodeList list) }
 {
     let mut lowering = Lowering {
@@ -26,7 +28,7 @@ pub fn lower(alloc: Global, checked: &Checked) -> Result<NodeList, AllocError>
         nodes: Nodes::new(alloc),
         outputs: Vec::new(alloc),
     };
-    match run(alloc, &mut lowering, &checked.program) {
+    match run(alloc, &mut lowering, &checked.program, checked.lang) {
         Ok(_) => Ok(list_of(checked, lowering)),
         Err(CheckRefused::Memory) => Err(AllocError),
         Err(CheckRefused::Bad { .. }) => unreachable!(),
@@ -36,12 +38,12 @@ pub fn lower(alloc: Global, checked: &Checked) -> Result<NodeList, AllocError>
 /// The list of what a run has made.
 fn list_of(checked: &Checked, lowering: Lowering) -> NodeList
     requires few { checked.now.inputs < 2 ^ 32 }
-    requires made { nodes_of (program_tree checked.now.program) ≡ Some (record {
+    requires made { nodes_of checked.now.lang (program_tree checked.now.program) ≡ Some (record {
       inputs = checked.now.inputs;
       nodes = lowering.nodes;
       outputs = lowering.outputs;
     }) }
-    ensures nodes { nodes_of (program_tree checked.now.program) ≡ Some result }
+    ensures nodes { nodes_of checked.now.lang (program_tree checked.now.program) ≡ Some result }
     ensures in_order { IsNodeList result }
 {
     let inputs = checked.inputs as u32;

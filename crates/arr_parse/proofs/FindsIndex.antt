@@ -21,24 +21,24 @@ record Below (source : Source) (n : ℕ) : Type 0 where
   sum : Finds Sum sum_marks AnIndex source n
 
 factor_at : (source : Source) (n : ℕ) → Below source n → (due : List Part) (token : Token) (tokens : List Token) (s : Symbol) → token.symbol ≡ s → length tokens < n →
-    refusal (length source.text) (AnIndexFactor ∷ due) (token ∷ tokens) ≡ None → Found Factor factor_marks source due (token ∷ tokens)
+    refusal source.lang (length source.text) (AnIndexFactor ∷ due) (token ∷ tokens) ≡ None → Found Factor factor_marks source due (token ∷ tokens)
 factor_at source n below due token tokens (symbol.Number value) is few h = record {
   tree = Number token.start value;
   rest = tokens;
   spelled = ap (λ m. m ∷ map (mark source) tokens) (marked source token (symbol.Number value) is);
-  goes_on = after (length source.text) AnIndexFactor due token tokens [] (rowed AnIndexFactor token (symbol.Number value) (Some []) is refl) h;
+  goes_on = after source.lang (length source.text) AnIndexFactor due token tokens [] (rowed source.lang AnIndexFactor token (symbol.Number value) (Some []) is refl) h;
   shorter = omega arith;
 }
 factor_at source n below due token tokens symbol.Name is few h = record {
   tree = Name token.start (number_at source token);
   rest = tokens;
   spelled = ap (λ m. m ∷ map (mark source) tokens) (marked source token symbol.Name is);
-  goes_on = after (length source.text) AnIndexFactor due token tokens [] (rowed AnIndexFactor token symbol.Name (Some []) is refl) h;
+  goes_on = after source.lang (length source.text) AnIndexFactor due token tokens [] (rowed source.lang AnIndexFactor token symbol.Name (Some []) is refl) h;
   shorter = omega arith;
 }
 factor_at source n below due token tokens symbol.OpenRound is few h =
     let new : List Part = AnIndex ∷ The symbol.CloseRound ∷ [] in
-    let inner = below.sum (The symbol.CloseRound ∷ due) tokens few (after (length source.text) AnIndexFactor due token tokens new (rowed AnIndexFactor token symbol.OpenRound (Some new) is refl) h) in
+    let inner = below.sum (The symbol.CloseRound ∷ due) tokens few (after source.lang (length source.text) AnIndexFactor due token tokens new (rowed source.lang AnIndexFactor token symbol.OpenRound (Some new) is refl) h) in
     let shut = separator symbol.CloseRound source due inner.rest (λ at word. refl) inner.goes_on in
     record {
       tree = Parenthesized token.start inner.tree;
@@ -48,17 +48,17 @@ factor_at source n below due token tokens symbol.OpenRound is few h =
       goes_on = shut.goes_on;
       shorter = let a : length inner.rest < length tokens = inner.shorter in let b : length shut.rest < length inner.rest = shut.shorter in omega arith;
     }
-factor_at source n below due token tokens s is few h = absurd (no_row (length source.text) AnIndexFactor due token tokens (rowed AnIndexFactor token s None is refl) refl h)
+factor_at source n below due token tokens s is few h = absurd (no_row source.lang (length source.text) AnIndexFactor due token tokens (rowed source.lang AnIndexFactor token s None is refl) refl h)
 
 factor : (source : Source) (n : ℕ) → Below source n → Finds Factor factor_marks AnIndexFactor source (suc n)
-factor source n below due [] few h = absurd (none_left (length source.text) AnIndexFactor due refl h)
+factor source n below due [] few h = absurd (none_left source.lang (length source.text) AnIndexFactor due refl h)
 factor source n below due (token ∷ tokens) few h = factor_at source n below due token tokens token.symbol refl (omega arith) h
 
 factors_at : (source : Source) (n : ℕ) → Below source n → (due : List Part) (token : Token) (tokens : List Token) (s : Symbol) → token.symbol ≡ s → length tokens < n →
-    refusal (length source.text) (MoreIndexFactors ∷ due) (token ∷ tokens) ≡ None → FoundUpTo Factors factors_marks source due (token ∷ tokens)
+    refusal source.lang (length source.text) (MoreIndexFactors ∷ due) (token ∷ tokens) ≡ None → FoundUpTo Factors factors_marks source due (token ∷ tokens)
 factors_at source n below due token tokens symbol.Star is few h =
     let new : List Part = AnIndexFactor ∷ MoreIndexFactors ∷ [] in
-    let first = below.factor (MoreIndexFactors ∷ due) tokens few (after (length source.text) MoreIndexFactors due token tokens new (rowed MoreIndexFactors token symbol.Star (Some new) is refl) h) in
+    let first = below.factor (MoreIndexFactors ∷ due) tokens few (after source.lang (length source.text) MoreIndexFactors due token tokens new (rowed source.lang MoreIndexFactors token symbol.Star (Some new) is refl) h) in
     let a : length first.rest < length tokens = first.shorter in
     let more = below.factors due first.rest (omega arith) first.goes_on in
     record {
@@ -73,7 +73,7 @@ factors_at source n below due token tokens s is few h = record {
   tree = NoFactor;
   rest = token ∷ tokens;
   spelled = refl;
-  goes_on = sym (skipped (length source.text) MoreIndexFactors due token tokens (rowed MoreIndexFactors token s None is refl) refl) ∙ h;
+  goes_on = sym (skipped source.lang (length source.text) MoreIndexFactors due token tokens (rowed source.lang MoreIndexFactors token s None is refl) refl) ∙ h;
   within = omega arith;
 }
 
@@ -83,7 +83,7 @@ factors source n below due (token ∷ tokens) few h = factors_at source n below 
 
 product : (source : Source) (n : ℕ) → Below source n → Finds Product product_marks AnIndexTerm source (suc n)
 product source n below due tokens few h =
-    let first = factor source n below (MoreIndexFactors ∷ due) tokens few (sym (refusal-index_term (length source.text) due tokens) ∙ h) in
+    let first = factor source n below (MoreIndexFactors ∷ due) tokens few (sym (refusal-index_term source.lang (length source.text) due tokens) ∙ h) in
     let a : length first.rest < length tokens = first.shorter in
     let more = below.factors due first.rest (omega arith) first.goes_on in
     let b : length more.rest < suc (length first.rest) = more.within in
@@ -97,7 +97,7 @@ product source n below due tokens few h =
 
 term_behind : (source : Source) (n : ℕ) → Below source n → (due : List Part) (token : Token) (tokens : List Token) (sign : Sign) → token.symbol ≡ sign_symbol sign →
     mark source token ≡ Placed token.start (sign_symbol sign) → length tokens < n →
-    refusal (length source.text) (AnIndexTerm ∷ (MoreIndexTerms ∷ due)) tokens ≡ None → FoundUpTo Terms terms_marks source due (token ∷ tokens)
+    refusal source.lang (length source.text) (AnIndexTerm ∷ (MoreIndexTerms ∷ due)) tokens ≡ None → FoundUpTo Terms terms_marks source due (token ∷ tokens)
 term_behind source n below due token tokens sign is placed few h =
     let first = below.product (MoreIndexTerms ∷ due) tokens few h in
     let a : length first.rest < length tokens = first.shorter in
@@ -112,18 +112,18 @@ term_behind source n below due token tokens sign is placed few h =
     }
 
 terms_at : (source : Source) (n : ℕ) → Below source n → (due : List Part) (token : Token) (tokens : List Token) (s : Symbol) → token.symbol ≡ s → length tokens < n →
-    refusal (length source.text) (MoreIndexTerms ∷ due) (token ∷ tokens) ≡ None → FoundUpTo Terms terms_marks source due (token ∷ tokens)
+    refusal source.lang (length source.text) (MoreIndexTerms ∷ due) (token ∷ tokens) ≡ None → FoundUpTo Terms terms_marks source due (token ∷ tokens)
 terms_at source n below due token tokens symbol.Plus is few h =
     let new : List Part = AnIndexTerm ∷ MoreIndexTerms ∷ [] in
-    term_behind source n below due token tokens PlusSign is (marked source token symbol.Plus is) few (after (length source.text) MoreIndexTerms due token tokens new (rowed MoreIndexTerms token symbol.Plus (Some new) is refl) h)
+    term_behind source n below due token tokens PlusSign is (marked source token symbol.Plus is) few (after source.lang (length source.text) MoreIndexTerms due token tokens new (rowed source.lang MoreIndexTerms token symbol.Plus (Some new) is refl) h)
 terms_at source n below due token tokens symbol.Minus is few h =
     let new : List Part = AnIndexTerm ∷ MoreIndexTerms ∷ [] in
-    term_behind source n below due token tokens MinusSign is (marked source token symbol.Minus is) few (after (length source.text) MoreIndexTerms due token tokens new (rowed MoreIndexTerms token symbol.Minus (Some new) is refl) h)
+    term_behind source n below due token tokens MinusSign is (marked source token symbol.Minus is) few (after source.lang (length source.text) MoreIndexTerms due token tokens new (rowed source.lang MoreIndexTerms token symbol.Minus (Some new) is refl) h)
 terms_at source n below due token tokens s is few h = record {
   tree = NoTerm;
   rest = token ∷ tokens;
   spelled = refl;
-  goes_on = sym (skipped (length source.text) MoreIndexTerms due token tokens (rowed MoreIndexTerms token s None is refl) refl) ∙ h;
+  goes_on = sym (skipped source.lang (length source.text) MoreIndexTerms due token tokens (rowed source.lang MoreIndexTerms token s None is refl) refl) ∙ h;
   within = omega arith;
 }
 
@@ -133,7 +133,7 @@ terms source n below due (token ∷ tokens) few h = terms_at source n below due 
 
 sum : (source : Source) (n : ℕ) → Below source n → Finds Sum sum_marks AnIndex source (suc n)
 sum source n below due tokens few h =
-    let first = product source n below (MoreIndexTerms ∷ due) tokens few (sym (refusal-index (length source.text) due tokens) ∙ h) in
+    let first = product source n below (MoreIndexTerms ∷ due) tokens few (sym (refusal-index source.lang (length source.text) due tokens) ∙ h) in
     let a : length first.rest < length tokens = first.shorter in
     let more = below.terms due first.rest (omega arith) first.goes_on in
     let b : length more.rest < suc (length first.rest) = more.within in
@@ -161,5 +161,5 @@ found_below source (suc n) = let below = found_below source n in record {
   sum = sum source n below;
 }
 
-pub finds_index : (source : Source) (due : List Part) (tokens : List Token) → refusal (length source.text) (AnIndex ∷ due) tokens ≡ None → Found Sum sum_marks source due tokens
+pub finds_index : (source : Source) (due : List Part) (tokens : List Token) → refusal source.lang (length source.text) (AnIndex ∷ due) tokens ≡ None → Found Sum sum_marks source due tokens
 finds_index source due tokens h = (found_below source (suc (length tokens))).sum due tokens (omega arith) h

@@ -1,8 +1,10 @@
 mod Due
+mod DefinitionRows
 mod Finding
 mod FindsExpression
 mod FindsIndex
 mod FindsProgram
+mod FurtherNames
 mod IndexRows
 mod Loop
 mod Naming
@@ -15,3 +17,4 @@ mod StatementRows
 mod Symbols
 mod TreesRead
 mod Unplaced
+mod Wider

@@ -10,6 +10,7 @@ use Rattle.std.specs.Ordering.{is_eq, nat_cmp}
 use Rattle.std.specs.Str.{bytes_eq}
 use Rattle.std.proofs.lemmas.Bool.{cases_Bool}
 use Rattle.std.proofs.lemmas.Map.Text.{is_eq-slice_cmp}
+use Rattle.arr_ast.specs.declared.lang.Lang.{Lang}
 use Rattle.arr_lex.specs.declared.token.Symbol.{Symbol}
 use Rattle.arr_lex.specs.declared.token.Symbol.TheVariants as symbol
 use Rattle.arr_lex.specs.declared.token.Token.{Token}
@@ -199,8 +200,8 @@ same_number None b h k e = cc
 same_number (Some a) None h k e = cc
 same_number (Some a) (Some b) h k e = ap Some e
 
-pub tells_names : (text : List ℕ) (tokens : List Token) (a b : Token) → Contains tokens a → Contains tokens b → a.symbol ≡ symbol.Name → b.symbol ≡ symbol.Name → KnowsNames text tokens a b
-tells_names text tokens a b h k is is' = record {
+pub tells_names : (lang : Lang) (text : List ℕ) (tokens : List Token) (a b : Token) → Contains tokens a → Contains tokens b → a.symbol ≡ symbol.Name → b.symbol ≡ symbol.Name → KnowsNames lang text tokens a b
+tells_names lang text tokens a b h k is is' = record {
   same = ap (λ name. or_zero (found_in (names_from 0 (words text tokens)) name));
   apart = λ e.
       let some = is_found text 0 tokens b k is' in

@@ -2,6 +2,7 @@
 use Rattle.std.proofs.Common.{◌≡◌, ℕ, Bool, true, false, List, [], ◌∷◌, Option, Some, None, map, refl, ap, ◌∙◌}
 use Rattle.std.specs.Prelude.{is_some, if◌then◌else◌, nat_lt}
 use Rattle.std.specs.List.{list_all}
+use Rattle.arr_ast.specs.declared.lang.Lang.{Lang}
 use Rattle.arr_lex.specs.declared.token.Token.{Token}
 use Rattle.arr_parse.specs.Grammar.{Part, may_be_empty}
 use Rattle.arr_parse.specs.Reading.{levels, taken, unless_refused, refusal}
@@ -21,13 +22,13 @@ behind : (at other : ℕ) (next : Option (List Part)) (go_on go_on' : List Part 
 behind at other None go_on go_on' e = refl
 behind at other (Some due) go_on go_on' e = either (nat_lt 64 (levels due)) (go_on due) (go_on' due) (Nesting at) (Nesting other) (e due)
 
-pub refused_by_symbols : (end other_end : ℕ) (due : List Part) (tokens others : List Token) → map (λ (token : Token). token.symbol) tokens ≡ map (λ (token : Token). token.symbol) others →
-    is_some (refusal end due tokens) ≡ is_some (refusal other_end due others)
-refused_by_symbols end other_end due [] [] e = at_end (list_all may_be_empty due) (Syntax end) (Syntax other_end)
-refused_by_symbols end other_end due [] (other ∷ others) e = cc
-refused_by_symbols end other_end due (token ∷ tokens) [] e = cc
-refused_by_symbols end other_end due (token ∷ tokens) (other ∷ others) e =
+pub refused_by_symbols : (lang : Lang) (end other_end : ℕ) (due : List Part) (tokens others : List Token) → map (λ (token : Token). token.symbol) tokens ≡ map (λ (token : Token). token.symbol) others →
+    is_some (refusal lang end due tokens) ≡ is_some (refusal lang other_end due others)
+refused_by_symbols lang end other_end due [] [] e = at_end (list_all may_be_empty due) (Syntax end) (Syntax other_end)
+refused_by_symbols lang end other_end due [] (other ∷ others) e = cc
+refused_by_symbols lang end other_end due (token ∷ tokens) [] e = cc
+refused_by_symbols lang end other_end due (token ∷ tokens) (other ∷ others) e =
     let same : token.symbol ≡ other.symbol = cc in
     let rest : map (λ (t : Token). t.symbol) tokens ≡ map (λ (t : Token). t.symbol) others = cc in
-    ap (λ s. is_some (unless_refused token.start (taken s due) (λ next. refusal end next tokens))) same
-    ∙ behind token.start other.start (taken other.symbol due) (λ next. refusal end next tokens) (λ next. refusal other_end next others) (λ next. refused_by_symbols end other_end next tokens others rest)
+    ap (λ s. is_some (unless_refused token.start (taken lang s due) (λ next. refusal lang end next tokens))) same
+    ∙ behind token.start other.start (taken lang other.symbol due) (λ next. refusal lang end next tokens) (λ next. refusal lang other_end next others) (λ next. refused_by_symbols lang end other_end next tokens others rest)

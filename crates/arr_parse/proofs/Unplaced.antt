@@ -6,18 +6,19 @@ use Rattle.arr_ast.specs.declared.expression.SingleFunction.TheVariants as singl
 use Rattle.arr_ast.specs.declared.program.Dimensions.{Dimensions}
 use Rattle.arr_ast.specs.declared.program.Dimensions.TheVariants.{Scalar, Vector, Matrix}
 use Rattle.arr_ast.specs.IndexTree as index
-use Rattle.arr_ast.specs.ExpressionTree.{IndicesTree, ExpressionTree, ExpressionOf, AddedTree, NoTerm, Added, TermTree, TermOf, TimesTree, NoFactor, Times, FactorTree, Number, Name, Element, Negation, Parenthesized, Single, Pair}
-use Rattle.arr_ast.specs.ProgramTree.{StatementTree, Let, Set, SetElement, For, BlockTree, EndOfBlock, Then, TopTree, Output, Inner, InputTree, ProgramTree}
+use Rattle.arr_ast.specs.declared.lang.Lang.{Lang}
+use Rattle.arr_ast.specs.ExpressionTree.{NameTree, IndicesTree, ExpressionTree, ExpressionOf, AddedTree, NoTerm, Added, TermTree, TermOf, TimesTree, NoFactor, Times, FactorTree, Number, Name, Element, Negation, Parenthesized, Single, Pair, Call, ArgumentsTree, NoArgument, Argument}
+use Rattle.arr_ast.specs.ProgramTree.{StatementTree, Let, Set, SetElement, For, BlockTree, EndOfBlock, Then, TopTree, Output, Inner, InputTree, DefinitionTree, ProgramTree}
 use Rattle.arr_lex.specs.declared.token.Symbol.{Symbol}
 use Rattle.arr_lex.specs.declared.token.Symbol.TheVariants as symbol
 use Rattle.arr_lex.specs.declared.token.Token.{Token}
 use Rattle.arr_parse.specs.Mark.{Mark, Separator, Placed, Named, Source, mark, mark_of, found_in, or_zero, number_at}
 use Rattle.arr_parse.specs.Names.{words, names_from, source_of}
 use Rattle.arr_parse.specs.IndexSpelling.{sign_symbol, sum_marks, terms_marks, product_marks, factors_marks, factor_marks as index_factor_marks, bracket_marks, second_marks, indices_marks}
-use Rattle.arr_parse.specs.Spelling.{pair_symbol, expression_marks, added_marks, term_marks, times_marks, factor_marks}
-use Rattle.arr_parse.specs.ProgramSpelling.{statement_marks, block_marks, dimensions_spelling, input_marks, top_marks, program_marks}
+use Rattle.arr_parse.specs.Spelling.{pair_symbol, expression_marks, added_marks, term_marks, times_marks, factor_marks, further_marks}
+use Rattle.arr_parse.specs.ProgramSpelling.{statement_marks, block_marks, dimensions_spelling, input_marks, further_names_marks, parameters_marks, definition_marks, top_marks, program_marks}
 use Rattle.arr_parse.specs.Parsed.{IsTreeOf}
-use Rattle.arr_parse.specs.Unplaced.{SameWords, unplaced_sum, unplaced_terms, unplaced_product, unplaced_factors, unplaced_index_factor, unplaced_indices, unplaced_expression, unplaced_added, unplaced_term, unplaced_times, unplaced_factor, unplaced_statement, unplaced_block, unplaced_top, unplaced_dimensions, unplaced_input, unplaced}
+use Rattle.arr_parse.specs.Unplaced.{SameWords, unplaced_sum, unplaced_terms, unplaced_product, unplaced_factors, unplaced_index_factor, unplaced_indices, unplaced_expression, unplaced_added, unplaced_term, unplaced_times, unplaced_factor, unplaced_arguments, unplaced_name, unplaced_statement, unplaced_block, unplaced_top, unplaced_dimensions, unplaced_input, unplaced_definition, unplaced}
 use Rattle.arr_parse.proofs.OneProgram.{one_program_tree}
 
 abbrev bare : Mark → Mark
@@ -95,6 +96,14 @@ mutual
       ap (λ marks. Placed 0 (pair_symbol function) ∷ Placed 0 symbol.OpenRound ∷ marks)
       (both _ _ (expression_marks left) (Separator symbol.Comma ∷ (expression_marks right ++ Separator symbol.CloseRound ∷ [])) (bare_expression left)
       (ap (λ marks. Separator symbol.Comma ∷ marks) (closed _ (expression_marks right) symbol.CloseRound (bare_expression right))))
+  bare_factor (Call name parenthesis first further) =
+      ap (λ marks. Named 0 name.number ∷ Placed 0 symbol.OpenRound ∷ marks)
+      (both _ _ (expression_marks first) (further_marks further ++ Separator symbol.CloseRound ∷ []) (bare_expression first)
+      (closed _ (further_marks further) symbol.CloseRound (bare_further further)))
+
+  bare_further : (further : ArgumentsTree) → further_marks (unplaced_arguments further) ≡ bares (further_marks further)
+  bare_further NoArgument = refl
+  bare_further (Argument argument rest) = ap (λ marks. Separator symbol.Comma ∷ marks) (both _ _ (expression_marks argument) (further_marks rest) (bare_expression argument) (bare_further rest))
 
 -- a value and the semicolon after it
 bare_ended : (value : ExpressionTree) → expression_marks (unplaced_expression value) ++ Separator symbol.Semicolon ∷ [] ≡ bares (expression_marks value ++ Separator symbol.Semicolon ∷ [])
@@ -139,8 +148,28 @@ bare_tops : (tops : List TopTree) → flat_map top_marks (map unplaced_top tops)
 bare_tops [] = refl
 bare_tops (top ∷ tops) = both _ _ (top_marks top) (flat_map top_marks tops) (bare_top top) (bare_tops tops)
 
+bare_names : (names : List NameTree) → further_names_marks (map unplaced_name names) ≡ bares (further_names_marks names)
+bare_names [] = refl
+bare_names (name ∷ names) = ap (λ marks. Separator symbol.Comma ∷ Named 0 name.number ∷ marks) (bare_names names)
+
+bare_parameters : (names : List NameTree) → parameters_marks (map unplaced_name names) ≡ bares (parameters_marks names)
+bare_parameters [] = refl
+bare_parameters (name ∷ names) = ap (λ marks. Named 0 name.number ∷ marks) (bare_names names)
+
+bare_definition : (definition : DefinitionTree) → definition_marks (unplaced_definition definition) ≡ bares (definition_marks definition)
+bare_definition definition =
+    ap (λ marks. Placed 0 symbol.Def ∷ Named 0 definition.name.number ∷ Placed 0 symbol.OpenRound ∷ marks)
+    (both _ _ (parameters_marks definition.parameters) (Separator symbol.CloseRound ∷ Separator symbol.Equals ∷ (expression_marks definition.body ++ Separator symbol.Semicolon ∷ [])) (bare_parameters definition.parameters)
+    (ap (λ marks. Separator symbol.CloseRound ∷ Separator symbol.Equals ∷ marks) (bare_ended definition.body)))
+
+bare_definitions : (definitions : List DefinitionTree) → flat_map definition_marks (map unplaced_definition definitions) ≡ bares (flat_map definition_marks definitions)
+bare_definitions [] = refl
+bare_definitions (definition ∷ definitions) = both _ _ (definition_marks definition) (flat_map definition_marks definitions) (bare_definition definition) (bare_definitions definitions)
+
 bare_program : (program : ProgramTree) → program_marks (unplaced program) ≡ bares (program_marks program)
-bare_program program = both _ _ (flat_map input_marks program.inputs) (flat_map top_marks program.statements) (bare_inputs program.inputs) (bare_tops program.statements)
+bare_program program =
+    both _ _ (flat_map input_marks program.inputs) (flat_map definition_marks program.definitions ++ flat_map top_marks program.statements) (bare_inputs program.inputs)
+    (both _ _ (flat_map definition_marks program.definitions) (flat_map top_marks program.statements) (bare_definitions program.definitions) (bare_tops program.statements))
 
 -- ---- words
 
@@ -160,7 +189,7 @@ bare_words source (token ∷ tokens) = ap₂ ◌∷◌ (bare_mark token.symbol t
 abbrev marks_of : List (Symbol × List ℕ) → List Mark
 marks_of all = map (word_mark (names_from 0 all)) all
 
-pub one_tree_of_words : (text other : List ℕ) (tokens others : List Token) (a b : ProgramTree) → SameWords text tokens other others → IsTreeOf text tokens a → IsTreeOf other others b → unplaced a ≡ unplaced b
-one_tree_of_words text other tokens others a b same first second =
+pub one_tree_of_words : (lang : Lang) (text other : List ℕ) (tokens others : List Token) (a b : ProgramTree) → SameWords text tokens other others → IsTreeOf lang text tokens a → IsTreeOf lang other others b → unplaced a ≡ unplaced b
+one_tree_of_words lang text other tokens others a b same first second =
     one_program_tree (unplaced a) (unplaced b)
-    (bare_program a ∙ ap bares (sym first.spelled) ∙ bare_words (source_of text tokens) tokens ∙ ap marks_of same ∙ sym (bare_words (source_of other others) others) ∙ ap bares second.spelled ∙ sym (bare_program b)) refl
+    (bare_program a ∙ ap bares (sym first.spelled) ∙ bare_words (source_of lang text tokens) tokens ∙ ap marks_of same ∙ sym (bare_words (source_of lang other others) others) ∙ ap bares second.spelled ∙ sym (bare_program b)) refl

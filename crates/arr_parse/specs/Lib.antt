@@ -9,3 +9,4 @@ pub mod Reading
 pub mod Parsed
 pub mod Steps
 pub mod Unplaced
+pub mod Written

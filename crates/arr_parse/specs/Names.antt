@@ -1,5 +1,6 @@
 -- The numbers of a program's names: a name's number is the place of the first token that is this name.
 use Rattle.std.specs.Prelude.{◌≡◌, ℕ, ◌+◌, List, [], ◌∷◌, map}
+use Rattle.arr_ast.specs.declared.lang.Lang.{Lang}
 use Rattle.arr_lex.specs.declared.token.Symbol.{Symbol}
 use Rattle.arr_lex.specs.declared.token.Symbol.TheVariants.{Name}
 use Rattle.arr_lex.specs.declared.token.Token.{Token}
@@ -19,12 +20,14 @@ names_from place [] = []
 names_from place (word ∷ words) = named_at place word.0 word.1 (names_from (place + 1) words)
 
 -- a text with its names, of which these are the tokens
-abbrev pub source_of : List ℕ → List Token → Source
-source_of text tokens = record { text = text; names = names_from 0 (words text tokens) }
+abbrev pub source_of : Lang → List ℕ → List Token → Source
+source_of lang text tokens =
+    record { lang = lang; text = text; names = names_from 0 (words text tokens) }
 
 -- two tokens that are names have one number exactly where they have the same bytes
-pub record KnowsNames (text : List ℕ) (tokens : List Token) (a b : Token) : Type 0 where
+pub record KnowsNames (lang : Lang) (text : List ℕ) (tokens : List Token) (a b : Token)
+    : Type 0 where
   pub same : part_of text a.start a.end ≡ part_of text b.start b.end
-      → number_at (source_of text tokens) a ≡ number_at (source_of text tokens) b
-  pub apart : number_at (source_of text tokens) a ≡ number_at (source_of text tokens) b
+      → number_at (source_of lang text tokens) a ≡ number_at (source_of lang text tokens) b
+  pub apart : number_at (source_of lang text tokens) a ≡ number_at (source_of lang text tokens) b
       → part_of text a.start a.end ≡ part_of text b.start b.end

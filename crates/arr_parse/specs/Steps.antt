@@ -1,13 +1,16 @@
 -- What a step of the parser does to what is left to read.
-use Rattle.std.specs.Prelude.{◌≡◌, ℕ, ◌≤◌, List, [], ◌∷◌, ◌++◌, Option, Some, None, Result, length, map}
+use Rattle.std.specs.Prelude.{◌≡◌, ℕ, suc, ◌≤◌, List, [], ◌∷◌, ◌++◌, Option, Some, None, Result, length, map}
+use Rattle.arr_ast.specs.declared.lang.Lang.{Lang}
 use Rattle.arr_ast.specs.declared.program.Dimension.{Dimension}
 use Rattle.arr_lex.specs.declared.token.Token.{Token}
 use Rattle.arr_parse.specs.Mark.{Mark, Source, mark}
-use Rattle.arr_parse.specs.Grammar.{Part}
+use Rattle.arr_parse.specs.Grammar.{Part, The, AName, MoreParameters}
 use Rattle.arr_parse.specs.ProgramSpelling.{dimension_spelling}
 use Rattle.arr_parse.specs.Reading.{levels, refusal}
 use Rattle.arr_parse.specs.Parsed.{Agrees}
 use Rattle.arr_parse.specs.declared.refused.ParseRefused.{ParseRefused}
+use Rattle.arr_parse.specs.declared.refused.ParseRefused.TheVariants.{Syntax}
+use Rattle.arr_lex.specs.declared.token.Symbol.TheVariants.{CloseRound}
 
 -- the tokens of a source that are left, with so many levels open
 pub record Rest : Type 0 where
@@ -28,8 +31,10 @@ pub record Takes (before : List Mark) (old : Rest) (spelling : List Mark) (new :
 abbrev pub Leads : {X : Type 0} → List Part → (X → List Part) → Rest → Result X ParseRefused
     → Rest → Type 0
 Leads first next old result new = (due : List Part) → levels due ≡ old.levels
-    → Agrees (λ found. refusal (length old.source.text) (next found ++ due) new.tokens) result
-    (refusal (length old.source.text) (first ++ due) old.tokens)
+    → Agrees
+    (λ found. refusal old.source.lang (length old.source.text) (next found ++ due) new.tokens)
+    result
+    (refusal old.source.lang (length old.source.text) (first ++ due) old.tokens)
 
 -- these parts are read
 abbrev pub Reads : {X : Type 0} → List Part → Rest → Result X ParseRefused → Rest → Type 0
@@ -42,14 +47,24 @@ after_found part (Some found) = part ∷ []
 
 -- The tokens begin no row of the part, so it is skipped, whatever is due after it.
 abbrev pub IsSkipped : Part → List Token → Type 0
-IsSkipped part tokens = (end : ℕ) (due : List Part)
-    → refusal end (part ∷ due) tokens ≡ refusal end due tokens
+IsSkipped part tokens = (lang : Lang) (end : ℕ) (due : List Part)
+    → refusal lang end (part ∷ due) tokens ≡ refusal lang end due tokens
 
 -- Where the tokens begin with the sign of a further operand, it is taken and the operand is due.
 abbrev pub Chains : {X : Type 0} → Part → Part → Rest → Option X → Rest → Type 0
 Chains more operand old None new = IsSkipped more old.tokens
-Chains more operand old (Some sign) new = (end : ℕ) (due : List Part) → levels due ≡ old.levels
-    → refusal end (more ∷ due) old.tokens ≡ refusal end (operand ∷ (more ∷ due)) new.tokens
+Chains more operand old (Some sign) new = (lang : Lang) (end : ℕ) (due : List Part)
+    → levels due ≡ old.levels → refusal lang end (more ∷ due) old.tokens
+    ≡ refusal lang end (operand ∷ (more ∷ due)) new.tokens
+
+-- Where the tokens begin with the comma before a further parameter, it is taken and a name is due, or it is one too many.
+abbrev pub ChainsNames : Rest → Option ℕ → Rest → Type 0
+ChainsNames old None new = (left : ℕ) → IsSkipped (MoreParameters left) old.tokens
+ChainsNames old (Some at) new = (lang : Lang) (end : ℕ) (due : List Part) →
+    suc (levels due) ≡ old.levels →
+    ((left : ℕ) → refusal lang end (MoreParameters (suc left) ∷ The CloseRound ∷ due) old.tokens
+    ≡ refusal lang end (AName ∷ MoreParameters left ∷ The CloseRound ∷ due) new.tokens)
+    × (refusal lang end (MoreParameters 0 ∷ The CloseRound ∷ due) old.tokens ≡ Some (Syntax at))
 
 -- a dimension in its brackets, if there is one
 abbrev pub maybe_dimension_spelling : Option Dimension → List Mark

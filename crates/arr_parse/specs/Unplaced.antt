@@ -4,8 +4,8 @@ use Rattle.arr_ast.specs.declared.program.Dimension.{Dimension}
 use Rattle.arr_ast.specs.declared.program.Dimensions.{Dimensions}
 use Rattle.arr_ast.specs.declared.program.Dimensions.TheVariants.{Scalar, Vector, Matrix}
 use Rattle.arr_ast.specs.IndexTree as index
-use Rattle.arr_ast.specs.ExpressionTree.{NameTree, IndicesTree, ExpressionTree, ExpressionOf, AddedTree, NoTerm, Added, TermTree, TermOf, TimesTree, NoFactor, Times, FactorTree, Number, Name, Element, Negation, Parenthesized, Single, Pair}
-use Rattle.arr_ast.specs.ProgramTree.{StatementTree, Let, Set, SetElement, For, BlockTree, EndOfBlock, Then, TopTree, Output, Inner, InputTree, ProgramTree}
+use Rattle.arr_ast.specs.ExpressionTree.{NameTree, IndicesTree, ExpressionTree, ExpressionOf, AddedTree, NoTerm, Added, TermTree, TermOf, TimesTree, NoFactor, Times, FactorTree, Number, Name, Element, Negation, Parenthesized, Single, Pair, Call, ArgumentsTree, NoArgument, Argument}
+use Rattle.arr_ast.specs.ProgramTree.{StatementTree, Let, Set, SetElement, For, BlockTree, EndOfBlock, Then, TopTree, Output, Inner, InputTree, DefinitionTree, ProgramTree}
 use Rattle.arr_lex.specs.declared.token.Token.{Token}
 use Rattle.arr_parse.specs.Names.{words}
 
@@ -70,6 +70,13 @@ abbrev mutual
       Single function 0 0 (unplaced_expression argument)
   unplaced_factor (Pair function at parenthesis left right) =
       Pair function 0 0 (unplaced_expression left) (unplaced_expression right)
+  unplaced_factor (Call name parenthesis first further) =
+      Call (unplaced_name name) 0 (unplaced_expression first) (unplaced_arguments further)
+
+  pub unplaced_arguments : ArgumentsTree → ArgumentsTree
+  unplaced_arguments NoArgument = NoArgument
+  unplaced_arguments (Argument argument rest) =
+      Argument (unplaced_expression argument) (unplaced_arguments rest)
 
 abbrev mutual
   pub unplaced_statement : StatementTree → StatementTree
@@ -103,10 +110,20 @@ unplaced_input input = record {
   dimensions = unplaced_dimensions input.dimensions;
 }
 
+abbrev pub unplaced_definition : DefinitionTree → DefinitionTree
+unplaced_definition definition = record {
+  at = 0;
+  name = unplaced_name definition.name;
+  parenthesis = 0;
+  parameters = map unplaced_name definition.parameters;
+  body = unplaced_expression definition.body;
+}
+
 -- the program, whatever the places of its parts and the length of its text
 abbrev pub unplaced : ProgramTree → ProgramTree
 unplaced program = record {
   inputs = map unplaced_input program.inputs;
+  definitions = map unplaced_definition program.definitions;
   statements = map unplaced_top program.statements;
   end = 0;
 }

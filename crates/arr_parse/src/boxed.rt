@@ -4,7 +4,7 @@ ghost use Rattle.std.specs.Prelude.{◌≡◌, [], ◌∷◌, ◌++◌, IfOk, On
 ghost use Rattle.arr_lex.specs.declared.token.Symbol.TheVariants.{Number, Minus, Star, OpenRound, Comma, CloseRound, Let as LetWord, Equals, Semicolon, For as ForWord, In, Range, OpenCurly, CloseCurly};
 ghost use Rattle.arr_parse.specs.Mark.{Separator, Placed};
 ghost use Rattle.arr_parse.specs.IndexSpelling.{sign_symbol, name_spelling, index_spelling, maybe_indices_spelling};
-ghost use Rattle.arr_parse.specs.Spelling.{single_symbol, pair_symbol, expression_spelling, term_spelling, factor_spelling, added_term_spelling, times_factor_spelling};
+ghost use Rattle.arr_parse.specs.Spelling.{single_symbol, pair_symbol, expression_spelling, term_spelling, factor_spelling, added_term_spelling, times_factor_spelling, further_spelling};
 ghost use Rattle.arr_parse.specs.ProgramSpelling.{statement_spelling};
 
 use crate::refused::ParseRefused;
@@ -173,6 +173,43 @@ pub fn pair_call(
         right,
     };
     Ok(Box::new(alloc, call)?)
+}
+
+/// A call of a definition, with the place of its `(`.
+#[inline(never)]
+#[tactic(auto, using(crate::proofs::Rows::of_expressions))]
+pub fn call_of(
+    alloc: Global,
+    name: Name,
+    parenthesis: usize,
+    first: Box<Expression>,
+    further: Vec<Expression>,
+) -> Result<Box<Factor>, AllocError>
+    ensures { IfOk result (λ factor. factor_spelling factor.value
+        ≡ name_spelling name ++ (Placed parenthesis OpenRound ∷ (expression_spelling first.value
+        ++ (flat_map further_spelling further.items ++ Separator CloseRound ∷ [])))) }
+{
+    let call = Factor::Call {
+        name,
+        parenthesis,
+        first,
+        further,
+    };
+    Ok(Box::new(alloc, call)?)
+}
+
+/// Adds a further argument.
+#[inline(never)]
+pub fn add_argument(
+    further: &mut Vec<Expression>,
+    argument: Box<Expression>,
+) -> Result<(), AllocError>
+    ensures { OnOk result (flat_map further_spelling further.new.items
+        ≡ flat_map further_spelling further.old.items
+        ++ (Separator Comma ∷ expression_spelling argument.value)) }
+{
+    further.push(Box::into_inner(argument))?;
+    Ok(())
 }
 
 /// A declaration.

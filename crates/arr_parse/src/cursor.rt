@@ -1,18 +1,19 @@
 //! The tokens of a text, from the left.
 
-ghost use Rattle.std.specs.Prelude.{◌≡◌, ◌≤◌, ◌<◌, ℕ, suc, true, List, [], ◌∷◌, length, IfOk, OnOk, IfErr, IfNone, IfSome, OnSome, MatchBool, MatchResult, map};
-ghost use Rattle.arr_lex.specs.declared.token.Symbol.TheVariants.{Input as InputWord, Output as OutputWord, Star, OpenRound, CloseRound, OpenSquare, Comma};
+ghost use Rattle.std.specs.Prelude.{◌≡◌, ◌≤◌, ◌<◌, ℕ, suc, true, List, [], ◌∷◌, Some, length, IfOk, OnOk, IfErr, IfNone, IfSome, OnSome, MatchBool, MatchResult, map};
+ghost use Rattle.arr_lex.specs.declared.token.Symbol.TheVariants.{Input as InputWord, Def as DefinitionWord, Output as OutputWord, Star, OpenRound, CloseRound, OpenSquare, Comma, Equals, Semicolon};
+ghost use Rattle.arr_ast.specs.declared.lang.Lang.{Lang};
 ghost use Rattle.arr_parse.specs.declared.refused.ParseRefused.TheVariants.{Syntax, Nesting};
 ghost use Rattle.arr_parse.specs.Mark.{Separator, Placed, mark, number_at};
 ghost use Rattle.arr_parse.specs.IndexSpelling.{sign_symbol, name_spelling};
-ghost use Rattle.arr_parse.specs.Grammar.{Part, The, AName, AnExpression, Inputs, TopStatements, ATopStatement, Statements, AStatement, OneArgument, TwoArguments, FirstDimension, SecondDimension, FirstIndex, SecondIndex, ATerm, MoreTerms, AFactor, MoreFactors, AnIndexTerm, MoreIndexTerms, AnIndexFactor, MoreIndexFactors, is_the};
-ghost use Rattle.arr_parse.specs.Reading.{levels as levels_of, refusal};
+ghost use Rattle.arr_parse.specs.Grammar.{Part, The, AName, AnExpression, Inputs, Definitions, Parameters, MoreParameters, AfterName, MoreArguments, TopStatements, ATopStatement, Statements, AStatement, OneArgument, TwoArguments, FirstDimension, SecondDimension, FirstIndex, SecondIndex, ATerm, MoreTerms, AFactor, MoreFactors, AnIndexTerm, MoreIndexTerms, AnIndexFactor, MoreIndexFactors, is_the};
+ghost use Rattle.arr_parse.specs.Reading.{levels as levels_of, unless_refused, refusal};
 ghost use Rattle.arr_parse.specs.Parsed.{Agrees};
-ghost use Rattle.arr_parse.specs.Steps.{Takes, Leads, Reads, IsSkipped, Chains};
+ghost use Rattle.arr_parse.specs.Steps.{Takes, Leads, Reads, IsSkipped, Chains, ChainsNames};
 
 use crate::refused::ParseRefused;
 use crate::source::Source;
-use arr_ast::{Name, Sign};
+use arr_ast::{Lang, Name, Sign};
 use arr_lex::{Symbol, Token};
 use std::alloc::Global;
 use std::marker::Model;
@@ -66,9 +67,9 @@ impl<'t> Cursor<'t> {
     /// Whether no token is left.
     #[tactic(auto, using(crate::proofs::Due::refusal_top))]
     pub fn is_empty(&self) -> bool
-        ensures { MatchBool result (self.now.tokens ≡ []) ((end : ℕ)
-            → refusal end (TopStatements ∷ []) self.now.tokens
-            ≡ refusal end (ATopStatement ∷ (TopStatements ∷ [])) self.now.tokens) }
+        ensures { MatchBool result (self.now.tokens ≡ []) ((lang : Lang) (end : ℕ) →
+            refusal lang end (TopStatements ∷ []) self.now.tokens
+            ≡ refusal lang end (ATopStatement ∷ (TopStatements ∷ [])) self.now.tokens) }
     {
         match self.tokens.split_first() {
             Some(_) => false,
@@ -100,8 +101,10 @@ impl<'t> Cursor<'t> {
         ensures spelled { OnOk result (Takes [] self.old (Separator due ∷ []) self.new) }
         ensures within { self.old.levels ≤ 64 }
         ensures exact { (others : List Part) → levels_of others ≤ 64 →
-            Agrees (λ _. refusal (length self.old.source.text) others self.new.tokens) result
-            (refusal (length self.old.source.text) (The due ∷ others) self.old.tokens) }
+            Agrees (λ _. refusal self.old.source.lang (length self.old.source.text) others
+            self.new.tokens) result
+            (refusal self.old.source.lang (length self.old.source.text) (The due ∷ others)
+            self.old.tokens) }
     {
         let token = self.next()?;
         if token.symbol == due {
@@ -145,9 +148,12 @@ impl<'t> Cursor<'t> {
         ensures shorter { OnOk result (length self.new.tokens < length self.old.tokens) }
         ensures source { OnOk result (self.new.source ≡ self.old.source) }
         ensures levels { OnOk result (self.old.levels ≡ suc self.new.levels) }
+        ensures within { self.old.levels ≤ 64 }
         ensures exact { (others : List Part) → levels_of others ≤ 64 →
-            Agrees (λ _. refusal (length self.old.source.text) others self.new.tokens) result
-            (refusal (length self.old.source.text) (The due ∷ others) self.old.tokens) }
+            Agrees (λ _. refusal self.old.source.lang (length self.old.source.text) others
+            self.new.tokens) result
+            (refusal self.old.source.lang (length self.old.source.text) (The due ∷ others)
+            self.old.tokens) }
     {
         self.take(due)?;
         self.end_level();
@@ -167,6 +173,8 @@ impl<'t> Cursor<'t> {
         ensures arguments { Leads (TwoArguments ∷ [])
             (λ _. AnExpression ∷ The Comma ∷ AnExpression ∷ The CloseRound ∷ [])
             self.old result self.new }
+        ensures parameters { Leads (Parameters ∷ [])
+            (λ _. AName ∷ MoreParameters 7 ∷ The CloseRound ∷ []) self.old result self.new }
     {
         let token = self.next()?;
         let at = token.start;
@@ -273,15 +281,85 @@ impl<'t> Cursor<'t> {
             × (found.now.symbol ≡ InputWord)) }
         ensures source { self.new.source ≡ self.old.source }
         ensures levels { self.new.levels ≡ self.old.levels }
-        ensures none { IfNone result ((self.new.tokens ≡ self.old.tokens) × ((end : ℕ) →
-            refusal end (Inputs ∷ []) self.old.tokens
-            ≡ refusal end (TopStatements ∷ []) self.old.tokens)) }
+        ensures none { IfNone result ((self.new.tokens ≡ self.old.tokens)
+            × ((lang : Lang) (end : ℕ) → refusal lang end (Inputs ∷ []) self.old.tokens
+            ≡ refusal lang end (Definitions ∷ []) self.old.tokens)) }
     {
         let (token, rest) = self.tokens.split_first()?;
         match token.symbol {
             Symbol::Input => {
                 self.tokens = rest;
                 Some(token)
+            }
+            _ => None,
+        }
+    }
+
+    /// The word of a definition, where the tokens begin with it and the language has definitions.
+    pub fn definition_word(&mut self) -> Option<&'t Token>
+        ensures found { IfSome result (λ found. (self.old.tokens ≡ found.now ∷ self.new.tokens)
+            × (found.now.symbol ≡ DefinitionWord)) }
+        ensures source { self.new.source ≡ self.old.source }
+        ensures levels { self.new.levels ≡ self.old.levels }
+        ensures due { OnSome result ((end : ℕ) →
+            refusal self.old.source.lang end (Definitions ∷ []) self.old.tokens
+            ≡ refusal self.old.source.lang end (AName ∷ Parameters ∷ The Equals ∷ AnExpression
+            ∷ The Semicolon ∷ Definitions ∷ []) self.new.tokens) }
+        ensures none { IfNone result ((self.new.tokens ≡ self.old.tokens) × ((end : ℕ) →
+            refusal self.old.source.lang end (Definitions ∷ []) self.old.tokens
+            ≡ refusal self.old.source.lang end (TopStatements ∷ []) self.old.tokens)) }
+    {
+        let (token, rest) = self.tokens.split_first()?;
+        match (self.source.lang(), token.symbol) {
+            (Lang::Two, Symbol::Def) => {
+                self.tokens = rest;
+                Some(token)
+            }
+            _ => None,
+        }
+    }
+
+    /// A `(`, where the tokens begin with one and the language has calls.
+    pub fn open_arguments(&mut self) -> Option<&'t Token>
+        ensures found { IfSome result (λ found. (self.old.tokens ≡ found.now ∷ self.new.tokens)
+            × (found.now.symbol ≡ OpenRound)) }
+        ensures source { self.new.source ≡ self.old.source }
+        ensures levels { self.new.levels ≡ self.old.levels }
+        ensures due { IfSome result (λ found. (end : ℕ) (due : List Part) →
+            refusal self.old.source.lang end (AfterName ∷ due) self.old.tokens
+            ≡ unless_refused found.now.start
+            (Some (AnExpression ∷ MoreArguments ∷ The CloseRound ∷ due))
+            (λ next. refusal self.old.source.lang end next self.new.tokens)) }
+        ensures none { IfNone result ((self.new.tokens ≡ self.old.tokens)
+            × ((end : ℕ) (due : List Part) →
+            refusal self.old.source.lang end (AfterName ∷ due) self.old.tokens
+            ≡ refusal self.old.source.lang end (FirstIndex ∷ due) self.old.tokens)) }
+    {
+        let (token, rest) = self.tokens.split_first()?;
+        match (self.source.lang(), token.symbol) {
+            (Lang::Two, Symbol::OpenRound) => {
+                self.tokens = rest;
+                Some(token)
+            }
+            _ => None,
+        }
+    }
+
+    /// The place of a `,`, where the tokens begin with one.
+    pub fn comma(&mut self) -> Option<usize>
+        ensures spelled { OnSome result (Takes [] self.old (Separator Comma ∷ []) self.new) }
+        ensures shorter { OnSome result (length self.new.tokens < length self.old.tokens) }
+        ensures source { self.new.source ≡ self.old.source }
+        ensures levels { self.new.levels ≡ self.old.levels }
+        ensures none { IfNone result (self.new.tokens ≡ self.old.tokens) }
+        ensures arguments { Chains MoreArguments AnExpression self.old result self.new }
+        ensures parameters { ChainsNames self.old result self.new }
+    {
+        let (token, rest) = self.tokens.split_first()?;
+        match token.symbol {
+            Symbol::Comma => {
+                self.tokens = rest;
+                Some(token.start)
             }
             _ => None,
         }
@@ -295,8 +373,9 @@ impl<'t> Cursor<'t> {
         ensures source { self.new.source ≡ self.old.source }
         ensures levels { self.new.levels ≡ self.old.levels }
         ensures none { IfNone result ((self.new.tokens ≡ self.old.tokens)
-            × ((end : ℕ) (due : List Part) → refusal end (ATopStatement ∷ due) self.old.tokens
-            ≡ refusal end (AStatement ∷ due) self.old.tokens)) }
+            × ((lang : Lang) (end : ℕ) (due : List Part) →
+            refusal lang end (ATopStatement ∷ due) self.old.tokens
+            ≡ refusal lang end (AStatement ∷ due) self.old.tokens)) }
     {
         let (token, rest) = self.tokens.split_first()?;
         match token.symbol {
@@ -311,9 +390,9 @@ impl<'t> Cursor<'t> {
     /// Whether the tokens begin with a statement.
     pub fn begins_statement(&self) -> bool
         ensures { MatchBool result
-            ((end : ℕ) (due : List Part)
-            → refusal end (Statements ∷ due) self.now.tokens
-            ≡ refusal end (AStatement ∷ Statements ∷ due) self.now.tokens)
+            ((lang : Lang) (end : ℕ) (due : List Part)
+            → refusal lang end (Statements ∷ due) self.now.tokens
+            ≡ refusal lang end (AStatement ∷ Statements ∷ due) self.now.tokens)
             (IsSkipped Statements self.now.tokens) }
     {
         let Some((token, _)) = self.tokens.split_first() else {

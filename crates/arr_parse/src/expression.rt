@@ -1,15 +1,18 @@
 //! Expressions, from the left.
 
-ghost use Rattle.std.specs.Prelude.{[], ◌∷◌, IfOk, OnOk, flat_map};
-ghost use Rattle.arr_parse.specs.Mark.{Placed};
+ghost use Rattle.std.specs.Prelude.{◌≡◌, ◌<◌, ◌≤◌, suc, [], ◌∷◌, ◌++◌, List, length, map, IfOk, OnOk, flat_map};
+ghost use Rattle.arr_lex.specs.declared.token.Symbol.TheVariants.{OpenRound, CloseRound};
+ghost use Rattle.arr_parse.specs.Mark.{Placed, Separator, mark};
 ghost use Rattle.arr_parse.specs.IndexSpelling.{name_spelling};
-ghost use Rattle.arr_parse.specs.Spelling.{single_symbol, pair_symbol, expression_spelling, term_spelling, factor_spelling, added_term_spelling, times_factor_spelling};
-ghost use Rattle.arr_parse.specs.Grammar.{AnExpression, MoreTerms, ATerm, MoreFactors, AFactor, FirstIndex, OneArgument, TwoArguments};
+ghost use Rattle.arr_parse.specs.Spelling.{single_symbol, pair_symbol, expression_spelling, term_spelling, factor_spelling, added_term_spelling, times_factor_spelling, further_spelling};
+ghost use Rattle.arr_parse.specs.Grammar.{Part, The, AnExpression, MoreTerms, ATerm, MoreFactors, AFactor, AfterName, MoreArguments, FirstIndex, OneArgument, TwoArguments};
+ghost use Rattle.arr_parse.specs.Reading.{levels as levels_of, refusal};
+ghost use Rattle.arr_parse.specs.Parsed.{Agrees};
 ghost use Rattle.arr_parse.specs.Steps.{Takes, Reads};
 
 use crate::boxed::{
-    add_factor, add_term, expression_of, let_go, named, negation, number, pair_call, parenthesized,
-    single_call, term_of,
+    add_argument, add_factor, add_term, call_of, expression_of, let_go, named, negation, number,
+    pair_call, parenthesized, single_call, term_of,
 };
 use crate::cursor::Cursor;
 use crate::indices::maybe_indices;
@@ -106,7 +109,7 @@ fn factor(cursor: &mut Cursor) -> Result<Box<Factor>, ParseRefused>
         Symbol::Number(value) => Ok(number(cursor.alloc(), at, value)?),
         Symbol::Name => {
             let name = cursor.name(token);
-            name_or_element(cursor, name)
+            after_name(cursor, name)
         }
         Symbol::Minus => {
             cursor.open(at)?;
@@ -129,6 +132,22 @@ fn factor(cursor: &mut Cursor) -> Result<Box<Factor>, ParseRefused>
     }
 }
 
+/// A name, its element at the indices after it, or a call with the arguments after it.
+#[cycle(expression)]
+#[inline(never)]
+#[tactic(auto, using(crate::proofs::Rows::of_expressions))]
+fn after_name(cursor: &mut Cursor, name: Name) -> Result<Box<Factor>, ParseRefused>
+    ensures spelled { IfOk result (λ found.
+        Takes (name_spelling name) cursor.old (factor_spelling found.value) cursor.new) }
+    ensures exact { Reads (AfterName ∷ []) cursor.old result cursor.new }
+{
+    let Some(token) = cursor.open_arguments() else {
+        return name_or_element(cursor, name);
+    };
+    cursor.open(token.start)?;
+    call(cursor, name, token.start)
+}
+
 /// A name, or its element at the indices after it.
 #[inline(never)]
 fn name_or_element(cursor: &mut Cursor, name: Name) -> Result<Box<Factor>, ParseRefused>
@@ -138,6 +157,72 @@ fn name_or_element(cursor: &mut Cursor, name: Name) -> Result<Box<Factor>, Parse
 {
     let indices = maybe_indices(cursor)?;
     Ok(named(cursor.alloc(), name, indices)?)
+}
+
+/// A call, after the `(` of its arguments.
+#[cycle(expression)]
+#[inline(never)]
+#[tactic(auto, using(crate::proofs::Rows::of_expressions))]
+fn call(cursor: &mut Cursor, name: Name, parenthesis: usize) -> Result<Box<Factor>, ParseRefused>
+    requires { 0 < cursor.old.levels }
+    ensures spelled { IfOk result (λ found.
+        name_spelling name ++ (Placed parenthesis OpenRound
+        ∷ map (mark cursor.old.source) cursor.old.tokens)
+        ≡ factor_spelling found.value ++ map (mark cursor.old.source) cursor.new.tokens) }
+    ensures shorter { OnOk result (length cursor.new.tokens < length cursor.old.tokens) }
+    ensures source { OnOk result (cursor.new.source ≡ cursor.old.source) }
+    ensures levels { OnOk result (cursor.old.levels ≡ suc cursor.new.levels) }
+    ensures exact { (others : List Part) → suc (levels_of others) ≡ cursor.old.levels →
+        Agrees (λ _. refusal cursor.old.source.lang (length cursor.old.source.text) others
+        cursor.new.tokens) result
+        (refusal cursor.old.source.lang (length cursor.old.source.text)
+        (AnExpression ∷ MoreArguments ∷ The CloseRound ∷ others) cursor.old.tokens) }
+{
+    let first = boxed_expression(cursor)?;
+    let mut further = Vec::new(cursor.alloc());
+    match closed_arguments(cursor, &mut further) {
+        Ok(()) => Ok(call_of(cursor.alloc(), name, parenthesis, first, further)?),
+        Err(refused) => Err(let_go(refused, first, further)),
+    }
+}
+
+/// Adds the further arguments of a call, up to the `)` after them.
+#[cycle(expression)]
+#[inline(never)]
+#[tactic(auto, using(crate::proofs::Rows::of_expressions))]
+fn closed_arguments(cursor: &mut Cursor, further: &mut Vec<Expression>) -> Result<(), ParseRefused>
+    requires { 0 < cursor.old.levels }
+    ensures spelled { OnOk result (flat_map further_spelling further.old.items
+        ++ map (mark cursor.old.source) cursor.old.tokens
+        ≡ flat_map further_spelling further.new.items
+        ++ (Separator CloseRound ∷ map (mark cursor.old.source) cursor.new.tokens)) }
+    ensures shorter { OnOk result (length cursor.new.tokens < length cursor.old.tokens) }
+    ensures source { OnOk result (cursor.new.source ≡ cursor.old.source) }
+    ensures levels { OnOk result (cursor.old.levels ≡ suc cursor.new.levels) }
+    ensures exact { (others : List Part) → suc (levels_of others) ≡ cursor.old.levels →
+        Agrees (λ _. refusal cursor.old.source.lang (length cursor.old.source.text) others
+        cursor.new.tokens) result
+        (refusal cursor.old.source.lang (length cursor.old.source.text)
+        (MoreArguments ∷ The CloseRound ∷ others) cursor.old.tokens) }
+{
+    further_arguments(cursor, further)?;
+    cursor.close(Symbol::CloseRound)?;
+    Ok(())
+}
+
+/// Adds the further arguments of a call.
+#[cycle(expression)]
+#[tactic(auto, using(crate::proofs::Rows::of_expressions))]
+fn further_arguments(cursor: &mut Cursor, further: &mut Vec<Expression>) -> Result<(), ParseRefused>
+    ensures spelled { OnOk result (Takes (flat_map further_spelling further.old.items) cursor.old
+        (flat_map further_spelling further.new.items) cursor.new) }
+    ensures exact { Reads (MoreArguments ∷ []) cursor.old result cursor.new }
+{
+    while let Some(_) = cursor.comma() {
+        let argument = boxed_expression(cursor)?;
+        add_argument(further, argument)?;
+    }
+    Ok(())
 }
 
 /// A call of a function of one argument, after the function's word.

@@ -1,10 +1,10 @@
-//! Inputs, which come before all statements.
+//! Inputs, which come before all else.
 
 ghost use Rattle.std.specs.Prelude.{◌≡◌, [], ◌∷◌, length, IfOk, flat_map};
 ghost use Rattle.arr_lex.specs.declared.token.Symbol.TheVariants.{Input as InputWord, Number, Semicolon};
 ghost use Rattle.arr_parse.specs.Mark.{Placed};
 ghost use Rattle.arr_parse.specs.ProgramSpelling.{dimensions_spelling, input_spelling};
-ghost use Rattle.arr_parse.specs.Grammar.{The, AName, ANumber, FirstDimension, SecondDimension, Inputs, TopStatements};
+ghost use Rattle.arr_parse.specs.Grammar.{The, AName, ANumber, FirstDimension, SecondDimension, Inputs, Definitions};
 ghost use Rattle.arr_parse.specs.Reading.{refusal};
 ghost use Rattle.arr_parse.specs.Parsed.{Agrees};
 ghost use Rattle.arr_parse.specs.Steps.{Takes, Leads, Reads, after_found, maybe_dimension_spelling};
@@ -20,8 +20,10 @@ pub fn inputs(cursor: &mut Cursor) -> Result<Vec<Input>, ParseRefused>
     ensures spelled { IfOk result
         (λ found. Takes [] cursor.old (flat_map input_spelling found.items) cursor.new) }
     ensures exact { Agrees
-        (λ _. refusal (length cursor.old.source.text) (TopStatements ∷ []) cursor.new.tokens) result
-        (refusal (length cursor.old.source.text) (Inputs ∷ []) cursor.old.tokens) }
+        (λ _. refusal cursor.old.source.lang (length cursor.old.source.text) (Definitions ∷ [])
+        cursor.new.tokens) result
+        (refusal cursor.old.source.lang (length cursor.old.source.text) (Inputs ∷ [])
+        cursor.old.tokens) }
 {
     let mut inputs = Vec::new(cursor.alloc());
     'each: while let Some(word) = cursor.input_word() {

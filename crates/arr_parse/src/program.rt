@@ -10,27 +10,37 @@ ghost use Rattle.arr_parse.specs.Parsed.{Agrees, IsTreeOf};
 ghost use Rattle.arr_parse.specs.Steps.{Takes, Reads};
 
 use crate::cursor::Cursor;
+use crate::definition::definitions;
 use crate::input::inputs;
 use crate::refused::ParseRefused;
 use crate::source::Source;
 use crate::statement::{ended_value, statement};
-use arr_ast::{Program, TopStatement};
+use arr_ast::{Lang, Program, TopStatement};
 use arr_lex::Token;
 use std::alloc::Global;
 
-/// The tree of a text, of which these are the tokens.
-pub fn parse(alloc: Global, text: &[u8], tokens: &[Token]) -> Result<Program, ParseRefused>
+/// The tree of a text in a language, of which these are the tokens.
+pub fn parse(
+    alloc: Global,
+    text: &[u8],
+    tokens: &[Token],
+    lang: Lang,
+) -> Result<Program, ParseRefused>
     // The tokens are the tree's.
-    ensures tree { IfOk result (λ program. IsTreeOf text.now tokens.now (program_tree program)) }
+    ensures tree { IfOk result
+        (λ program. IsTreeOf lang text.now tokens.now (program_tree program)) }
     // It is refused exactly where reading refuses the tokens, unless memory runs out.
-    ensures exact { Agrees (λ _. None) result (refusal (length text.now) (Inputs ∷ []) tokens.now) }
+    ensures exact { Agrees (λ _. None) result
+        (refusal lang (length text.now) (Inputs ∷ []) tokens.now) }
 {
-    let source = Source::new(alloc, text, tokens)?;
+    let source = Source::new(alloc, lang, text, tokens)?;
     let mut cursor = Cursor::new(alloc, &source, tokens);
     let inputs = inputs(&mut cursor)?;
+    let definitions = definitions(&mut cursor)?;
     let statements = top_statements(&mut cursor)?;
     Ok(Program {
         inputs,
+        definitions,
         statements,
         end: text.len(),
     })
@@ -42,7 +52,8 @@ fn top_statements(cursor: &mut Cursor) -> Result<Vec<TopStatement>, ParseRefused
     ensures spelled { IfOk result (λ found. map (mark cursor.old.source) cursor.old.tokens
         ≡ flat_map top_statement_spelling found.items) }
     ensures exact { Agrees (λ _. None) result
-        (refusal (length cursor.old.source.text) (TopStatements ∷ []) cursor.old.tokens) }
+        (refusal cursor.old.source.lang (length cursor.old.source.text) (TopStatements ∷ [])
+        cursor.old.tokens) }
 {
     let mut statements = Vec::new(cursor.alloc());
     'each: while !cursor.is_empty() {

@@ -5,15 +5,16 @@ ghost use Rattle.arr_parse.specs.Mark.{part_of, found_in, number_in, number_at};
 ghost use Rattle.arr_parse.specs.NameMap.{found, or_else};
 ghost use Rattle.arr_parse.specs.Names.{words, named_at, names_from};
 
-use arr_ast::Name;
+use arr_ast::{Lang, Name};
 use arr_lex::{Symbol, Token};
 use std::alloc::{AllocError, Global};
 use std::collections::BTreeMap;
 use std::marker::Model;
 
-/// A text, with the place of the first token for each of its names.
+/// A text in its language, with the place of the first token for each of its names.
 #[derive(Drop)]
 pub struct Source<'a> {
+    lang: Lang,
     text: &'a [u8],
     places: BTreeMap<Vec<u8>, usize>,
 }
@@ -24,18 +25,35 @@ impl<'a> Model for Source<'a> {
 
     ghost Value = { Source };
 
-    ghost view = { λ s. record { text = s.text.now; names = entries_of s.places.entries } };
+    ghost view = { λ s. record {
+      lang = s.lang;
+      text = s.text.now;
+      names = entries_of s.places.entries;
+    } };
 }
 
 impl<'a> Source<'a> {
     /// A text of which these are the tokens.
-    pub fn new(alloc: Global, text: &'a [u8], tokens: &[Token]) -> Result<Source<'a>, AllocError>
+    pub fn new(
+        alloc: Global,
+        lang: Lang,
+        text: &'a [u8],
+        tokens: &[Token],
+    ) -> Result<Source<'a>, AllocError>
+        ensures lang { IfOk result (λ source. source.lang ≡ lang) }
         ensures text { IfOk result (λ source. source.text ≡ text.now) }
         ensures names { IfOk result (λ source. (name : List ℕ) → found_in source.names name
             ≡ found_in (names_from 0 (words text.now tokens.now)) name) }
     {
         let places = places_of(alloc, text, tokens)?;
-        Ok(Source { text, places })
+        Ok(Source { lang, text, places })
+    }
+
+    /// The language of the text.
+    pub fn lang(&self) -> Lang
+        ensures { result ≡ self.now.lang }
+    {
+        self.lang
     }
 
     /// The length of the text.

@@ -79,7 +79,7 @@ fn assignment(cursor: &mut Cursor, name: Name) -> Result<Box<Statement>, ParseRe
 }
 
 /// `= e ;`
-fn assigned_value(cursor: &mut Cursor) -> Result<Expression, ParseRefused>
+pub fn assigned_value(cursor: &mut Cursor) -> Result<Expression, ParseRefused>
     ensures spelled { IfOk result (λ found. Takes [] cursor.old
         (Separator Equals ∷ (expression_spelling found ++ Separator Semicolon ∷ [])) cursor.new) }
     ensures exact { Reads (The Equals ∷ AnExpression ∷ The Semicolon ∷ [])

@@ -5,3 +5,7 @@ mod Inserted
 mod Places
 mod Elements
 mod Within
+mod Newest
+mod WorkRows
+mod Waiting
+mod Parameters

@@ -5,3 +5,4 @@ pub mod InputNodes
 pub mod Related
 pub mod Shapes
 pub mod StatementRows
+pub mod Wider

@@ -8,13 +8,14 @@ use Rattle.arr_run.specs.Agrees.{Answer, ◌>>=◌}
 use Rattle.arr_run.specs.Limits.{modulus, most_steps, most_nodes}
 
 abbrev pub step_at : ℕ → Counts → Answer Counts
-step_at at counts = if nat_lt counts.steps most_steps then Ok (record counts { steps = counts.steps + 1 })
+step_at at counts =
+    if nat_lt counts.steps most_steps then Ok (record counts { steps = counts.steps + 1 })
     else Err (Bad at Steps)
 
 abbrev pub nodes_at : ℕ → ℕ → Counts → Answer Counts
-nodes_at at more counts = if nat_le (more + counts.nodes) most_nodes then Ok (record counts {
-  nodes = more + counts.nodes;
-}) else Err (Bad at Nodes)
+nodes_at at more counts =
+    if nat_le (more + counts.nodes) (most_nodes counts.lang)
+    then Ok (record counts { nodes = more + counts.nodes }) else Err (Bad at Nodes)
 
 abbrev pub with_constant : ℕ → Counts → Counts
 with_constant value counts = record counts { constants = set.insert counts.constants value }

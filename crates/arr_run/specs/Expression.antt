@@ -1,9 +1,9 @@
 -- The values of expressions: a shape and an array, and what is counted and kept after it.
-use Rattle.std.specs.Prelude.{ℕ, ◌+◌, ◌*◌, Option, Some, None, Ok, Err}
+use Rattle.std.specs.Prelude.{ℕ, suc, ◌+◌, ◌*◌, ◌==◌, List, [], ◌∷◌, ◌++◌, length, if◌then◌else◌, Option, Some, None, Ok, Err}
 use Rattle.arr_ast.specs.declared.expression.Sign.{Sign}
 use Rattle.arr_ast.specs.declared.expression.SingleFunction.{SingleFunction}
 use Rattle.arr_ast.specs.declared.expression.PairFunction.{PairFunction}
-use Rattle.arr_ast.specs.ExpressionTree.{IndicesTree, ExpressionTree, ExpressionOf, AddedTree, NoTerm, Added, TermTree, TermOf, TimesTree, NoFactor, Times, FactorTree, Number, Name, Element, Negation, Parenthesized, Single, Pair}
+use Rattle.arr_ast.specs.ExpressionTree.{IndicesTree, ExpressionTree, ExpressionOf, AddedTree, NoTerm, Added, TermTree, TermOf, TimesTree, NoFactor, Times, FactorTree, Number, Name, Element, Negation, Parenthesized, Single, Pair, Call, ArgumentsTree, NoArgument, Argument}
 use Rattle.arr_ast.specs.declared.shape.ShapeOf.{ShapeOf}
 use Rattle.arr_ast.specs.declared.shape.ShapeOf.TheVariants.{Scalar, Matrix}
 use Rattle.arr_run.specs.declared.bound.Bound.{Bound}
@@ -12,7 +12,7 @@ use Rattle.arr_run.specs.declared.counts.Counts.{Counts}
 use Rattle.arr_run.specs.declared.refused.CheckKind.TheVariants.{Unknown, Shape}
 use Rattle.arr_run.specs.declared.refused.CheckRefused.TheVariants.{Bad}
 use Rattle.arr_run.specs.Agrees.{Answer, ◌>>=◌}
-use Rattle.arr_run.specs.Counting.{constant_at}
+use Rattle.arr_run.specs.Counting.{constant_at, step_at}
 use Rattle.arr_run.specs.Element.{indices_at}
 use Rattle.arr_run.specs.Operations.{Operations}
 use Rattle.arr_run.specs.Scope.{Names, binding_of}
@@ -21,6 +21,51 @@ use Rattle.arr_run.specs.Shape.{Shaped, size_of, for_minus_one, sum_shape, produ
 -- a shape and an array, and what is counted and kept after it
 abbrev pub Valued : Type 0 → Type 0 → Type 0
 Valued A S = ShapeOf × A × Counts × S
+
+-- What a call of a definition runs: the names of its parameters by their numbers, and its body, over what names stand for.
+pub record Callable (A S : Type 0) : Type 0 where
+  pub name : ℕ
+  pub parameters : List ℕ
+  pub body : Names A → Counts → S → Answer (Valued A S)
+
+-- the definitions that may be called, the newest first
+abbrev pub Calls : Type 0 → Type 0 → Type 0
+Calls A S = List (Callable A S)
+
+-- the definition of a name
+abbrev pub called : {A S : Type 0} → ℕ → ℕ → Calls A S → Answer (Callable A S)
+called at name [] = Err (Bad at Unknown)
+called at name (callable ∷ earlier) =
+    if callable.name == name then Ok callable else called at name earlier
+
+-- as many arguments as parameters
+abbrev pub if_as_many : ℕ → ℕ → ℕ → Answer (Unit {0})
+if_as_many at parameters arguments =
+    if parameters == arguments then Ok tt else Err (Bad at Shape)
+
+abbrev pub count_of : ArgumentsTree → ℕ
+count_of NoArgument = 0
+count_of (Argument argument rest) = suc (count_of rest)
+
+-- the values of arguments, and what is counted and kept after them
+abbrev pub Passed : Type 0 → Type 0 → Type 0
+Passed A S = List (ShapeOf × A) × Counts × S
+
+abbrev pub with_argument : {A S : Type 0} → List (ShapeOf × A) → Valued A S → Passed A S
+with_argument earlier found = (earlier ++ (found.0, found.1) ∷ [], found.2, found.3)
+
+-- each parameter stands for its argument's value
+abbrev pub parameters_bound : {A : Type 0} → List ℕ → List (ShapeOf × A) → Names A
+parameters_bound [] values = []
+parameters_bound (parameter ∷ parameters) [] = []
+parameters_bound (parameter ∷ parameters) (found ∷ values) =
+    (parameter, Value found.0 found.1) ∷ parameters_bound parameters values
+
+-- a call is a step, and then its body
+abbrev pub call_value : {A S : Type 0} → ℕ → Callable A S → Passed A S → Answer (Valued A S)
+call_value at callable passed =
+    step_at at passed.1 >>= λ counts.
+    callable.body (parameters_bound callable.parameters passed.0) counts passed.2
 
 -- a shape that fits, and the array that is made
 abbrev pub made : {A S : Type 0} → Shaped → (S → A × S) → S → Answer (Valued A S)
@@ -83,37 +128,50 @@ module _ {A S : Type 0} (operations : Operations A S) where
       (operations.pair function left.0 right.0 left.1 right.1) right.3
 
   abbrev mutual
-    pub value_of : ExpressionTree → Names A → Counts → S → Answer (Valued A S)
-    value_of (ExpressionOf first added) names counts kept =
-        term_value first names counts kept >>= added_value added names
+    pub value_of : Calls A S → ExpressionTree → Names A → Counts → S → Answer (Valued A S)
+    value_of calls (ExpressionOf first added) names counts kept =
+        term_value calls first names counts kept >>= added_value calls added names
 
-    pub added_value : AddedTree → Names A → Valued A S → Answer (Valued A S)
-    added_value NoTerm names left = Ok left
-    added_value (Added sign at term rest) names left =
-        (term_value term names left.2 left.3 >>= signed_value sign at left) >>=
-        added_value rest names
+    pub added_value : Calls A S → AddedTree → Names A → Valued A S → Answer (Valued A S)
+    added_value calls NoTerm names left = Ok left
+    added_value calls (Added sign at term rest) names left =
+        (term_value calls term names left.2 left.3 >>= signed_value sign at left) >>=
+        added_value calls rest names
 
-    pub term_value : TermTree → Names A → Counts → S → Answer (Valued A S)
-    term_value (TermOf first times) names counts kept =
-        factor_value first names counts kept >>= times_value times names
+    pub term_value : Calls A S → TermTree → Names A → Counts → S → Answer (Valued A S)
+    term_value calls (TermOf first times) names counts kept =
+        factor_value calls first names counts kept >>= times_value calls times names
 
-    pub times_value : TimesTree → Names A → Valued A S → Answer (Valued A S)
-    times_value NoFactor names left = Ok left
-    times_value (Times at factor rest) names left =
-        (factor_value factor names left.2 left.3 >>= product_value at left) >>=
-        times_value rest names
+    pub times_value : Calls A S → TimesTree → Names A → Valued A S → Answer (Valued A S)
+    times_value calls NoFactor names left = Ok left
+    times_value calls (Times at factor rest) names left =
+        (factor_value calls factor names left.2 left.3 >>= product_value at left) >>=
+        times_value calls rest names
 
-    pub factor_value : FactorTree → Names A → Counts → S → Answer (Valued A S)
-    factor_value (Number at value) names counts kept = constant_value at value counts kept
-    factor_value (Name name) names counts kept =
+    pub factor_value : Calls A S → FactorTree → Names A → Counts → S → Answer (Valued A S)
+    factor_value calls (Number at value) names counts kept = constant_value at value counts kept
+    factor_value calls (Name name) names counts kept =
         bound_value name.at (binding_of name.number names) counts kept
-    factor_value (Element name indices) names counts kept =
+    factor_value calls (Element name indices) names counts kept =
         element_value names name.at indices (binding_of name.number names) counts kept
-    factor_value (Negation at operand) names counts kept =
-        factor_value operand names counts kept >>= opposite_value at
-    factor_value (Parenthesized at inner) names counts kept = value_of inner names counts kept
-    factor_value (Single function at parenthesis argument) names counts kept =
-        value_of argument names counts kept >>= single_value function at
-    factor_value (Pair function at parenthesis left right) names counts kept =
-        value_of left names counts kept >>= λ left.
-        value_of right names left.2 left.3 >>= pair_value function at left
+    factor_value calls (Negation at operand) names counts kept =
+        factor_value calls operand names counts kept >>= opposite_value at
+    factor_value calls (Parenthesized at inner) names counts kept =
+        value_of calls inner names counts kept
+    factor_value calls (Single function at parenthesis argument) names counts kept =
+        value_of calls argument names counts kept >>= single_value function at
+    factor_value calls (Pair function at parenthesis left right) names counts kept =
+        value_of calls left names counts kept >>= λ left.
+        value_of calls right names left.2 left.3 >>= pair_value function at left
+    factor_value calls (Call name parenthesis first further) names counts kept =
+        called name.at name.number calls >>= λ callable.
+        if_as_many name.at (length callable.parameters) (suc (count_of further)) >>= λ fits.
+        (value_of calls first names counts kept >>= λ found. Ok (with_argument [] found)) >>=
+        passed_value calls further names >>= call_value name.at callable
+
+    -- the arguments after those that were passed, in order
+    pub passed_value : Calls A S → ArgumentsTree → Names A → Passed A S → Answer (Passed A S)
+    passed_value calls NoArgument names passed = Ok passed
+    passed_value calls (Argument argument rest) names passed =
+        (value_of calls argument names passed.1 passed.2 >>= λ found.
+        Ok (with_argument passed.0 found)) >>= passed_value calls rest names

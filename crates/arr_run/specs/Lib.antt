@@ -1,6 +1,7 @@
 pub mod Agrees
 pub mod Bounds
 pub mod Counting
+pub mod Definitions
 pub mod Element
 pub mod Expression
 pub mod Index
@@ -10,5 +11,8 @@ pub mod Places
 pub mod Program
 pub mod Scope
 pub mod Shape
+pub mod State
 pub mod Statement
 pub mod Steps
+pub mod Tasks
+pub mod Work

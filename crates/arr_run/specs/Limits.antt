@@ -1,5 +1,7 @@
--- The numbers of the language: what it counts has a limit, and what it computes is modulo a prime.
+-- The numbers of the languages: what they count has a limit, and what they compute is modulo a prime.
 use Rattle.std.specs.Prelude.{ℕ, ◌^◌}
+use Rattle.arr_ast.specs.declared.lang.Lang.{Lang}
+use Rattle.arr_ast.specs.declared.lang.Lang.TheVariants.{One, Two}
 
 -- the prime that elements are numbers below, which is that of field_ext
 abbrev pub modulus : ℕ
@@ -13,9 +15,14 @@ minus_one = 2147483646
 abbrev pub most_steps : ℕ
 most_steps = 1048576
 
--- how many nodes a program has
-abbrev pub most_nodes : ℕ
-most_nodes = 262144
+-- how many nodes a program of a language has
+abbrev pub most_nodes : Lang → ℕ
+most_nodes One = 262144
+most_nodes Two = 1048576
+
+-- how many definitions a program has
+abbrev pub most_definitions : ℕ
+most_definitions = 64
 
 -- how many outputs a program has
 abbrev pub most_outputs : ℕ

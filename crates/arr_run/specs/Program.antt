@@ -1,10 +1,11 @@
 -- The run of programs.
-use Rattle.std.specs.Prelude.{ℕ, List, sum_by, ◌+◌, ◌==◌, ◌&&◌, [], Ok, Err, nat_le, if◌then◌else◌}
+use Rattle.std.specs.Prelude.{ℕ, List, reverse, sum_by, ◌+◌, ◌==◌, ◌&&◌, [], Ok, Err, nat_le, if◌then◌else◌}
 use Rattle.std.specs.FinSet as set
+use Rattle.arr_ast.specs.declared.lang.Lang.{Lang}
 use Rattle.arr_ast.specs.declared.program.Dimension.{Dimension}
 use Rattle.arr_ast.specs.declared.program.Dimensions.{Dimensions}
 use Rattle.arr_ast.specs.declared.program.Dimensions.TheVariants.{Scalar, Vector, Matrix}
-use Rattle.arr_ast.specs.ProgramTree.{InputTree, TopTree, Output, Inner, ProgramTree}
+use Rattle.arr_ast.specs.ProgramTree.{InputTree, DefinitionTree, TopTree, Output, Inner, ProgramTree}
 use Rattle.arr_ast.specs.declared.shape.ShapeOf.{ShapeOf}
 use Rattle.arr_ast.specs.declared.shape.ShapeOf.TheVariants.{Scalar as ShapeScalar, Vector as ShapeVector, Matrix as ShapeMatrix}
 use Rattle.arr_run.specs.declared.bound.Bound.TheVariants.{Value}
@@ -13,11 +14,13 @@ use Rattle.arr_run.specs.declared.refused.CheckRefused.TheVariants.{Bad}
 use Rattle.arr_run.specs.declared.counts.Counts.{Counts}
 use Rattle.arr_run.specs.Agrees.{Answer, ◌>>=◌, each}
 use Rattle.arr_run.specs.Counting.{step_at, nodes_at}
+use Rattle.arr_run.specs.Definitions.{callables, after_definitions}
 use Rattle.arr_run.specs.Expression.{value_of}
 use Rattle.arr_run.specs.Limits.{most_dimension, most_outputs}
 use Rattle.arr_run.specs.Operations.{Operations}
 use Rattle.arr_run.specs.Shape.{size_of}
-use Rattle.arr_run.specs.Statement.{State, state, after_statement, bound, if_free, with_name}
+use Rattle.arr_run.specs.State.{State, state, bound, if_free, with_name}
+use Rattle.arr_run.specs.Statement.{after_statement}
 
 -- a dimension within its limits
 abbrev pub dimension_of : Dimension → Answer ℕ
@@ -44,8 +47,10 @@ outputs_at at more counts =
     then Ok (record counts { outputs = more + counts.outputs })
     else Err (Bad at Outputs)
 
-abbrev pub none_counted : Counts
-none_counted = record { constants = set.empty; steps = 0; nodes = 0; outputs = 0 }
+-- nothing counted yet, in a language, whose limits hold
+abbrev pub none_counted : Lang → Counts
+none_counted lang =
+    record { lang = lang; constants = set.empty; steps = 0; nodes = 0; outputs = 0 }
 
 abbrev pub if_any_output : {A S : Type 0} → ℕ → State A S → Answer (State A S)
 if_any_output end after = if after.counts.outputs == 0 then Err (Bad end NoOutput) else Ok after
@@ -60,23 +65,27 @@ module _ {A S : Type 0} (operations : Operations A S) where
       Ok (state (with_name input.name.number (Value shape (operations.input shape before.kept).0)
       before.names) counts (operations.input shape before.kept).1)
 
-  abbrev pub after_top : TopTree → State A S → Answer (State A S)
-  after_top (Output at value) before =
+  -- where these definitions may be called, the newest of which is first
+  abbrev pub after_top : List DefinitionTree → TopTree → State A S → Answer (State A S)
+  after_top definitions (Output at value) before =
       step_at at before.counts >>= λ counts.
-      value_of operations value before.names counts before.kept >>= λ found.
-      outputs_at at (size_of found.0) found.2 >>= λ counts.
+      value_of operations (callables operations definitions) value before.names counts before.kept
+      >>= λ found. outputs_at at (size_of found.0) found.2 >>= λ counts.
       Ok (state before.names counts (operations.output found.1 found.3))
-  after_top (Inner statement) before = after_statement operations statement before
+  after_top definitions (Inner statement) before =
+      after_statement operations definitions statement before
 
   -- the state at the end, or the first refusal
-  abbrev pub run_of : ProgramTree → S → Answer (State A S)
-  run_of program kept =
-      each after_input program.inputs (state [] none_counted kept) >>=
-      each after_top program.statements >>= if_any_output program.end
+  abbrev pub run_of : Lang → ProgramTree → S → Answer (State A S)
+  run_of lang program kept =
+      each after_input program.inputs (state [] (none_counted lang) kept) >>=
+      after_definitions [] program.definitions >>=
+      each (after_top (reverse program.definitions)) program.statements >>=
+      if_any_output program.end
 
   -- what is counted and kept at the end
-  abbrev pub end_of : ProgramTree → S → Answer (Counts × S)
-  end_of program kept = run_of program kept >>= λ after. Ok (after.counts, after.kept)
+  abbrev pub end_of : Lang → ProgramTree → S → Answer (Counts × S)
+  end_of lang program kept = run_of lang program kept >>= λ after. Ok (after.counts, after.kept)
 
 -- how many numbers an input has
 abbrev pub numbers_of_input : InputTree → ℕ

@@ -3,23 +3,38 @@
 ghost use Rattle.std.specs.Prelude.{◌≡◌, ◌*◌};
 ghost use Rattle.arr_run.specs.Counting.{step_at, nodes_at, constant_at};
 ghost use Rattle.arr_run.specs.Agrees.{Agrees};
+ghost use Rattle.arr_run.specs.Limits.{most_nodes};
 
 use crate::constants::Constants;
 use crate::refused::{CheckKind, CheckRefused};
+use arr_ast::Lang;
 
 const MAX_STEPS: u64 = 1_048_576;
 
-const MAX_NODES: u64 = 262_144;
+const MAX_NODES_ONE: u64 = 262_144;
+
+const MAX_NODES_TWO: u64 = 1_048_576;
 
 const MODULUS: u32 = 2_147_483_647;
 
-/// What was counted so far.
+/// What was counted so far, in a language whose limits hold.
 #[derive(Drop)]
 pub struct Counts {
+    pub lang: Lang,
     pub constants: Constants,
     pub steps: u64,
     pub nodes: u64,
     pub outputs: u64,
+}
+
+/// How many nodes a program of a language may have.
+fn max_nodes(lang: Lang) -> u64
+    ensures { result ≡ most_nodes lang }
+{
+    match lang {
+        Lang::One => MAX_NODES_ONE,
+        Lang::Two => MAX_NODES_TWO,
+    }
 }
 
 /// One more step.
@@ -56,7 +71,7 @@ pub fn add_nodes_each(
         .checked_mul(each)
         .and_then(|more| more.checked_add(counts.nodes));
     match nodes {
-        Some(nodes) if nodes <= MAX_NODES => {
+        Some(nodes) if nodes <= max_nodes(counts.lang) => {
             counts.nodes = nodes;
             Ok(())
         }

@@ -1,127 +1,160 @@
 //! The values of expressions.
+//!
+//! What is to be done with a value waits in a list of tasks, so that an expression's nesting takes memory and no stack. All
+//! statements of a program have one list, so that it isn't allocated for each. The body of a call has a list of its own, and calls
+//! are nested no deeper than there are definitions.
 
-ghost use Rattle.std.specs.Prelude.{◌≡◌, Ok, option_copied};
-ghost use Rattle.arr_ast.specs.ExpressionTree.{name_tree, indices_tree, expression_tree, term_tree, factor_tree};
+ghost use Rattle.std.specs.Prelude.{◌≡◌, ◌+◌, ◌<◌, ◌≤◌, sum_by, IfOk};
+ghost use Rattle.arr_ast.specs.ExpressionTree.{expression_tree, term_tree, factor_tree};
+ghost use Rattle.arr_run.specs.declared.counts.Counts.{Counts};
 ghost use Rattle.arr_run.specs.Agrees.{Agrees};
-ghost use Rattle.arr_run.specs.Expression.{value_of, term_value as value_of_term, factor_value as value_of_factor, constant_value as value_of_constant, bound_value, element_value as value_of_element, signed_value as value_of_sum, product_value as value_of_product, opposite_value as value_of_opposite, single_value as value_of_single, pair_value as value_of_pair};
-ghost use Rattle.arr_ast.specs.declared.shape.ShapeOf.TheVariants.{Scalar};
-ghost use Rattle.arr_run.specs.Scope.{binding_of};
-ghost use Rattle.arr_run.specs.Steps.{added_term_value, times_factor_value, opposite_of, single_of, pair_of};
+ghost use Rattle.arr_run.specs.Expression.{value_of};
+ghost use Rattle.arr_run.specs.Steps.{calls_of};
+ghost use Rattle.arr_run.specs.Tasks.{Continues, call_at, expression_with, term_with, factor_with, task_with, added_with, times_with, arguments_with, next_with};
+ghost use Rattle.arr_run.specs.Work.{expression_work, term_work, factor_work, added_term_work, times_factor_work, further_work, task_work, tasks_work, next_work};
 
-use crate::bound::Bound;
-use crate::counts::{Counts, use_constant};
-use crate::element::{offset, place_in};
+use crate::counts::{Counts, step};
+use crate::defined::{Defined, bind_parameters, callable_place};
 use crate::machine::Machine;
+use crate::operation::{
+    constant_value, element_value, name_value, opposite_value, pair_value, product_value,
+    signed_value, single_value,
+};
 use crate::refused::{CheckKind, CheckRefused};
 use crate::scope::Scope;
-use crate::shape::{opposite_shape, pair_shape, signed_shape, single_shape, times_shape};
-use arr_ast::{
-    AddedTerm, Expression, Factor, Indices, Name, PairFunction, ShapeOf, Sign, SingleFunction,
-    Term, TimesFactor,
-};
+use crate::task::{Next, Task};
+use arr_ast::{AddedTerm, Expression, Factor, ShapeOf, Term, TimesFactor};
+use std::alloc::AllocError;
 
-/// The value of an expression: its shape and its array.
+/// The value of an expression: its shape and its array. The list is emptied first.
 #[cycle(expression)]
-#[tactic(auto, using(crate::proofs::ExpressionRows::of_expressions))]
-pub fn value<M: Machine>(
+pub fn value<'t, M: Machine>(
+    defined: &Defined,
     scope: &Scope<M::Array>,
     counts: &mut Counts,
     machine: &mut M,
-    expression: &Expression,
+    tasks: &mut Vec<Task<'t, M::Array>>,
+    expression: &'t Expression,
 ) -> Result<(ShapeOf, M::Array), CheckRefused>
     ensures { Agrees (λ found. (found.0, found.1, counts.new, machine.new)) result
-        (value_of M.operations (expression_tree expression.now) scope.now counts.old
-        machine.old) }
+        (value_of M.operations (calls_of M.operations defined.now.definitions.now)
+        (expression_tree expression.now) scope.now counts.old machine.old) }
+{
+    tasks.clear();
+    let mut next = Next::Inner(first_factor::<M>(defined, scope, tasks, expression)?);
+    'each: loop {
+        match next {
+            Next::Inner(factor) => {
+                next = begin(defined, scope, counts, machine, tasks, factor)?;
+            }
+            Next::Found(shape, array) => {
+                let Some(task) = tasks.pop() else {
+                    return Ok((shape, array));
+                };
+                next = go_on(defined, scope, counts, machine, tasks, task, shape, array)?;
+            }
+        }
+    }
+}
+
+/// The first factor of an expression, where what comes after it waits.
+fn first_factor<'t, M: Machine>(
+    defined: &Defined,
+    scope: &Scope<M::Array>,
+    tasks: &mut Vec<Task<'t, M::Array>>,
+    expression: &'t Expression,
+) -> Result<&'t Factor, AllocError>
+    ensures value { IfOk result (λ first. (counts : Counts) (kept : M) →
+        expression_with M.operations defined.now.definitions.now scope.now
+        (expression_tree expression.now) tasks.old.items counts kept
+        ≡ factor_with M.operations defined.now.definitions.now scope.now
+        (factor_tree first.now) tasks.new.items counts kept) }
+    ensures work { IfOk result (λ first.
+        factor_work (factor_tree first.now) + 1 + tasks_work tasks.new.items
+        ≤ expression_work (expression_tree expression.now) + tasks_work tasks.old.items) }
 {
     if expression.added.is_empty() {
-        return term_value(scope, counts, machine, &expression.first);
+        let first = first_of_term::<M>(defined, scope, tasks, &expression.first)?;
+        return Ok(first);
     }
-    let mut value = term_value(scope, counts, machine, &expression.first)?;
-    'each: for added in &expression.added {
-        value = added_value(scope, counts, machine, value, added)?;
-    }
-    Ok(value)
+    tasks.push(Task::Terms(&expression.added))?;
+    let first = first_of_term::<M>(defined, scope, tasks, &expression.first)?;
+    Ok(first)
 }
 
-#[cycle(expression)]
-#[tactic(auto, using(crate::proofs::ExpressionRows::of_expressions))]
-fn added_value<M: Machine>(
+/// The first factor of a term, where what comes after it waits.
+fn first_of_term<'t, M: Machine>(
+    defined: &Defined,
     scope: &Scope<M::Array>,
-    counts: &mut Counts,
-    machine: &mut M,
-    left: (ShapeOf, M::Array),
-    added: &AddedTerm,
-) -> Result<(ShapeOf, M::Array), CheckRefused>
-    ensures { Agrees (λ found. (found.0, found.1, counts.new, machine.new)) result
-        (added_term_value M.operations added.now scope.now
-        (left.0, left.1, counts.old, machine.old)) }
-{
-    let right = term_value(scope, counts, machine, &added.term)?;
-    signed_value(counts, machine, added.sign, added.at, left, right)
-}
-
-#[cycle(expression)]
-#[tactic(auto, using(crate::proofs::ExpressionRows::of_expressions))]
-fn term_value<M: Machine>(
-    scope: &Scope<M::Array>,
-    counts: &mut Counts,
-    machine: &mut M,
-    term: &Term,
-) -> Result<(ShapeOf, M::Array), CheckRefused>
-    ensures { Agrees (λ found. (found.0, found.1, counts.new, machine.new)) result
-        (value_of_term M.operations (term_tree term.now) scope.now counts.old machine.old) }
+    tasks: &mut Vec<Task<'t, M::Array>>,
+    term: &'t Term,
+) -> Result<&'t Factor, AllocError>
+    ensures value { IfOk result (λ first. (counts : Counts) (kept : M) →
+        term_with M.operations defined.now.definitions.now scope.now
+        (term_tree term.now) tasks.old.items counts kept
+        ≡ factor_with M.operations defined.now.definitions.now scope.now
+        (factor_tree first.now) tasks.new.items counts kept) }
+    ensures work { IfOk result (λ first.
+        factor_work (factor_tree first.now) + 1 + tasks_work tasks.new.items
+        ≤ term_work (term_tree term.now) + tasks_work tasks.old.items) }
 {
     if term.times.is_empty() {
-        return factor_value(scope, counts, machine, &term.first);
+        return Ok(&term.first);
     }
-    let mut value = factor_value(scope, counts, machine, &term.first)?;
-    'each: for times in &term.times {
-        value = times_value(scope, counts, machine, value, times)?;
-    }
-    Ok(value)
+    tasks.push(Task::Factors(&term.times))?;
+    Ok(&term.first)
 }
 
-#[cycle(expression)]
-#[tactic(auto, using(crate::proofs::ExpressionRows::of_expressions))]
-fn times_value<M: Machine>(
+/// Begins with a factor: with what is inside, or with its value.
+fn begin<'t, M: Machine>(
+    defined: &Defined,
     scope: &Scope<M::Array>,
     counts: &mut Counts,
     machine: &mut M,
-    left: (ShapeOf, M::Array),
-    times: &TimesFactor,
-) -> Result<(ShapeOf, M::Array), CheckRefused>
-    ensures { Agrees (λ found. (found.0, found.1, counts.new, machine.new)) result
-        (times_factor_value M.operations times.now scope.now
-        (left.0, left.1, counts.old, machine.old)) }
-{
-    let right = factor_value(scope, counts, machine, &times.factor)?;
-    product_value(counts, machine, times.at, left, right)
-}
-
-#[cycle(expression)]
-#[tactic(auto, using(crate::proofs::ExpressionRows::of_expressions))]
-fn factor_value<M: Machine>(
-    scope: &Scope<M::Array>,
-    counts: &mut Counts,
-    machine: &mut M,
-    factor: &Factor,
-) -> Result<(ShapeOf, M::Array), CheckRefused>
-    ensures { Agrees (λ found. (found.0, found.1, counts.new, machine.new)) result
-        (value_of_factor M.operations (factor_tree factor.now) scope.now counts.old
-        machine.old) }
+    tasks: &mut Vec<Task<'t, M::Array>>,
+    factor: &'t Factor,
+) -> Result<Next<'t, M::Array>, CheckRefused>
+    ensures value { Continues (λ next. next_with M.operations defined.now.definitions.now scope.now
+        next tasks.new.items counts.new machine.new) result
+        (factor_with M.operations defined.now.definitions.now scope.now (factor_tree factor.now)
+        tasks.old.items counts.old machine.old) }
+    ensures work { IfOk result (λ next. next_work next + tasks_work tasks.new.items
+        ≤ factor_work (factor_tree factor.now) + tasks_work tasks.old.items) }
 {
     match factor {
-        Factor::Number { at, value } => constant_value(counts, machine, *at, *value),
-        Factor::Name(name) => name_value(scope, counts, machine, name),
-        Factor::Element { name, indices } => element_value(scope, machine, name, indices),
-        Factor::Negation { at, operand } => negated_factor(scope, counts, machine, *at, operand),
-        Factor::Parenthesized { inner, .. } => value(scope, counts, machine, inner),
+        Factor::Number { at, value } => {
+            let (shape, array) = constant_value(counts, machine, *at, *value)?;
+            Ok(Next::Found(shape, array))
+        }
+        Factor::Name(name) => {
+            let (shape, array) = name_value(scope, counts, machine, name)?;
+            Ok(Next::Found(shape, array))
+        }
+        Factor::Element { name, indices } => {
+            let (shape, array) = element_value(scope, machine, name, indices)?;
+            Ok(Next::Found(shape, array))
+        }
+        Factor::Negation { at, operand } => {
+            tasks.push(Task::Opposite { at: *at })?;
+            Ok(Next::Inner(operand))
+        }
+        Factor::Parenthesized { inner, .. } => {
+            let first = first_factor::<M>(defined, scope, tasks, inner)?;
+            Ok(Next::Inner(first))
+        }
         Factor::Single {
             function,
             at,
             argument,
             ..
-        } => single_call(scope, counts, machine, *function, *at, argument),
+        } => {
+            tasks.push(Task::Single {
+                function: *function,
+                at: *at,
+            })?;
+            let first = first_factor::<M>(defined, scope, tasks, argument)?;
+            Ok(Next::Inner(first))
+        }
         Factor::Pair {
             function,
             at,
@@ -129,212 +162,283 @@ fn factor_value<M: Machine>(
             right,
             ..
         } => {
-            let left = value(scope, counts, machine, left)?;
-            pair_call(scope, counts, machine, *function, *at, left, right)
+            tasks.push(Task::Left {
+                function: *function,
+                at: *at,
+                right,
+            })?;
+            let first = first_factor::<M>(defined, scope, tasks, left)?;
+            Ok(Next::Inner(first))
+        }
+        Factor::Call {
+            name,
+            first,
+            further,
+            ..
+        } => {
+            let place = callable_place(defined.definitions, name, further.len())?;
+            let at = name.at;
+            let passed = Vec::new(defined.alloc);
+            tasks.push(Task::Argument {
+                at,
+                place,
+                passed,
+                further,
+            })?;
+            let first = first_factor::<M>(defined, scope, tasks, first)?;
+            Ok(Next::Inner(first))
         }
     }
 }
 
-/// The opposite of a factor.
-#[inline(never)]
+/// Does the newest task with a value that is found.
 #[cycle(expression)]
-#[tactic(auto, using(crate::proofs::ExpressionRows::of_expressions))]
-fn negated_factor<M: Machine>(
+fn go_on<'t, M: Machine>(
+    defined: &Defined,
     scope: &Scope<M::Array>,
     counts: &mut Counts,
     machine: &mut M,
-    at: usize,
-    operand: &Factor,
-) -> Result<(ShapeOf, M::Array), CheckRefused>
-    ensures { Agrees (λ found. (found.0, found.1, counts.new, machine.new)) result
-        (opposite_of M.operations at (factor_tree operand.now) scope.now counts.old
-        machine.old) }
+    tasks: &mut Vec<Task<'t, M::Array>>,
+    task: Task<'t, M::Array>,
+    shape: ShapeOf,
+    array: M::Array,
+) -> Result<Next<'t, M::Array>, CheckRefused>
+    ensures value { Continues (λ next. next_with M.operations defined.now.definitions.now scope.now
+        next tasks.new.items counts.new machine.new) result
+        (task_with M.operations defined.now.definitions.now scope.now task.entry
+        (shape, array, counts.old, machine.old) tasks.old.items) }
+    ensures work { IfOk result (λ next. next_work next + tasks_work tasks.new.items
+        < task_work task.entry + tasks_work tasks.old.items) }
 {
-    let found = factor_value(scope, counts, machine, operand)?;
-    opposite_value(counts, machine, at, found)
-}
-
-/// A function of one expression.
-#[inline(never)]
-#[cycle(expression)]
-#[tactic(auto, using(crate::proofs::ExpressionRows::of_expressions))]
-fn single_call<M: Machine>(
-    scope: &Scope<M::Array>,
-    counts: &mut Counts,
-    machine: &mut M,
-    function: SingleFunction,
-    at: usize,
-    argument: &Expression,
-) -> Result<(ShapeOf, M::Array), CheckRefused>
-    ensures { Agrees (λ found. (found.0, found.1, counts.new, machine.new)) result
-        (single_of M.operations function at (expression_tree argument.now) scope.now counts.old
-        machine.old) }
-{
-    let found = value(scope, counts, machine, argument)?;
-    single_value(counts, machine, function, at, found)
-}
-
-/// A function of two expressions, the first of which has this value.
-#[inline(never)]
-#[cycle(expression)]
-#[tactic(auto, using(crate::proofs::ExpressionRows::of_expressions))]
-fn pair_call<M: Machine>(
-    scope: &Scope<M::Array>,
-    counts: &mut Counts,
-    machine: &mut M,
-    function: PairFunction,
-    at: usize,
-    left: (ShapeOf, M::Array),
-    right: &Expression,
-) -> Result<(ShapeOf, M::Array), CheckRefused>
-    ensures { Agrees (λ found. (found.0, found.1, counts.new, machine.new)) result
-        (pair_of M.operations function at (expression_tree right.now) scope.now
-        (left.0, left.1, counts.old, machine.old)) }
-{
-    let right = value(scope, counts, machine, right)?;
-    pair_value(counts, machine, function, at, left, right)
-}
-
-fn constant_value<M: Machine>(
-    counts: &mut Counts,
-    machine: &mut M,
-    at: usize,
-    value: u32,
-) -> Result<(ShapeOf, M::Array), CheckRefused>
-    ensures { Agrees (λ found. (found.0, found.1, counts.new, machine.new)) result
-        (value_of_constant M.operations at value counts.old machine.old) }
-{
-    use_constant(counts, at, value)?;
-    Ok((ShapeOf::Scalar, machine.constant(value)?))
-}
-
-/// What a name stands for.
-fn name_value<M: Machine>(
-    scope: &Scope<M::Array>,
-    counts: &mut Counts,
-    machine: &mut M,
-    name: &Name,
-) -> Result<(ShapeOf, M::Array), CheckRefused>
-    ensures { Agrees (λ found. (found.0, found.1, counts.new, machine.new)) result
-        (bound_value M.operations name.now.at (binding_of name.now.number scope.now) counts.old
-        machine.old) }
-{
-    match scope.get(name.number) {
-        Some(Bound::Value(shape, array)) => Ok((*shape, machine.share(array)?)),
-        Some(Bound::Turn(number)) => constant_value(counts, machine, name.at, *number),
-        None => Err(CheckRefused::Bad {
-            at: name.at,
-            kind: CheckKind::Unknown,
-        }),
-    }
-}
-
-/// An element of a name.
-fn element_value<M: Machine>(
-    scope: &Scope<M::Array>,
-    machine: &M,
-    name: &Name,
-    indices: &Indices,
-) -> Result<(ShapeOf, M::Array), CheckRefused>
-    ensures { (counts : Counts) (kept : M) →
-        Agrees (λ found. (found.0, found.1, counts, kept)) result
-        (value_of_element M.operations scope.now name.now.at (indices_tree indices.now)
-        (binding_of name.now.number scope.now) counts kept) }
-{
-    match scope.get(name.number) {
-        Some(Bound::Value(shape, array)) => {
-            let (row, column) = place_in(scope, name.at, indices, *shape)?;
-            let place = offset(*shape, row, column);
-            Ok((ShapeOf::Scalar, machine.element(array, place)))
+    match task {
+        Task::Terms(terms) => {
+            let next = add_terms::<M>(defined, scope, tasks, shape, array, terms)?;
+            Ok(next)
         }
-        Some(Bound::Turn(_)) => Err(CheckRefused::Bad {
-            at: name.at,
-            kind: CheckKind::Shape,
-        }),
-        None => Err(CheckRefused::Bad {
-            at: name.at,
-            kind: CheckKind::Unknown,
-        }),
+        Task::Signed {
+            sign,
+            at,
+            shape: left,
+            array: kept,
+            further,
+        } => {
+            let (shape, array) = signed_value(
+                counts,
+                machine,
+                sign,
+                at,
+                (left, kept),
+                (shape, array),
+            )?;
+            let next = add_terms::<M>(defined, scope, tasks, shape, array, further)?;
+            Ok(next)
+        }
+        Task::Factors(factors) => {
+            let next = multiply::<M>(defined, scope, tasks, shape, array, factors)?;
+            Ok(next)
+        }
+        Task::Product {
+            at,
+            shape: left,
+            array: kept,
+            further,
+        } => {
+            let (shape, array) = product_value(counts, machine, at, (left, kept), (shape, array))?;
+            let next = multiply::<M>(defined, scope, tasks, shape, array, further)?;
+            Ok(next)
+        }
+        Task::Opposite { at } => {
+            let (shape, array) = opposite_value(counts, machine, at, (shape, array))?;
+            Ok(Next::Found(shape, array))
+        }
+        Task::Single { function, at } => {
+            let (shape, array) = single_value(counts, machine, function, at, (shape, array))?;
+            Ok(Next::Found(shape, array))
+        }
+        Task::Left {
+            function,
+            at,
+            right,
+        } => {
+            tasks.push(Task::Right {
+                function,
+                at,
+                shape,
+                array,
+            })?;
+            let first = first_factor::<M>(defined, scope, tasks, right)?;
+            Ok(Next::Inner(first))
+        }
+        Task::Right {
+            function,
+            at,
+            shape: left,
+            array: kept,
+        } => {
+            let (shape, array) = pair_value(
+                counts,
+                machine,
+                function,
+                at,
+                (left, kept),
+                (shape, array),
+            )?;
+            Ok(Next::Found(shape, array))
+        }
+        Task::Argument {
+            at,
+            place,
+            passed,
+            further,
+        } => {
+            let mut passed = passed;
+            passed.push((shape, array))?;
+            pass(
+                defined, scope, counts, machine, tasks, at, place, passed, further,
+            )
+        }
     }
 }
 
-#[inline(never)]
-fn signed_value<M: Machine>(
-    counts: &mut Counts,
-    machine: &mut M,
-    sign: Sign,
-    at: usize,
-    left: (ShapeOf, M::Array),
-    right: (ShapeOf, M::Array),
-) -> Result<(ShapeOf, M::Array), CheckRefused>
-    ensures { Agrees (λ found. (found.0, found.1, counts.new, machine.new)) result
-        (value_of_sum M.operations sign at (left.0, left.1, counts.old, machine.old)
-        (right.0, right.1, counts.old, machine.old)) }
+/// Goes on with the terms that are added to a value.
+fn add_terms<'t, M: Machine>(
+    defined: &Defined,
+    scope: &Scope<M::Array>,
+    tasks: &mut Vec<Task<'t, M::Array>>,
+    shape: ShapeOf,
+    array: M::Array,
+    terms: &'t [AddedTerm],
+) -> Result<Next<'t, M::Array>, AllocError>
+    ensures value { IfOk result (λ next. (counts : Counts) (kept : M) →
+        added_with M.operations defined.now.definitions.now scope.now terms.now
+        (shape, array, counts, kept) tasks.old.items
+        ≡ next_with M.operations defined.now.definitions.now scope.now next tasks.new.items
+        counts kept) }
+    ensures work { IfOk result (λ next. next_work next + tasks_work tasks.new.items
+        ≤ sum_by added_term_work terms.now + tasks_work tasks.old.items) }
 {
-    let shape = signed_shape(counts, sign, at, left.0, right.0)?;
-    Ok((shape, machine.signed(sign, left.1, right.1)?))
+    let Some((added, further)) = terms.split_first() else {
+        return Ok(Next::Found(shape, array));
+    };
+    tasks.push(Task::Signed {
+        sign: added.sign,
+        at: added.at,
+        shape,
+        array,
+        further,
+    })?;
+    let first = first_of_term::<M>(defined, scope, tasks, &added.term)?;
+    Ok(Next::Inner(first))
 }
 
-#[inline(never)]
-fn product_value<M: Machine>(
-    counts: &mut Counts,
-    machine: &mut M,
-    at: usize,
-    left: (ShapeOf, M::Array),
-    right: (ShapeOf, M::Array),
-) -> Result<(ShapeOf, M::Array), CheckRefused>
-    ensures { Agrees (λ found. (found.0, found.1, counts.new, machine.new)) result
-        (value_of_product M.operations at (left.0, left.1, counts.old, machine.old)
-        (right.0, right.1, counts.old, machine.old)) }
+/// Goes on with the factors that a value is multiplied by.
+fn multiply<'t, M: Machine>(
+    defined: &Defined,
+    scope: &Scope<M::Array>,
+    tasks: &mut Vec<Task<'t, M::Array>>,
+    shape: ShapeOf,
+    array: M::Array,
+    factors: &'t [TimesFactor],
+) -> Result<Next<'t, M::Array>, AllocError>
+    ensures value { IfOk result (λ next. (counts : Counts) (kept : M) →
+        times_with M.operations defined.now.definitions.now scope.now factors.now
+        (shape, array, counts, kept) tasks.old.items
+        ≡ next_with M.operations defined.now.definitions.now scope.now next tasks.new.items
+        counts kept) }
+    ensures work { IfOk result (λ next. next_work next + tasks_work tasks.new.items
+        ≤ sum_by times_factor_work factors.now + tasks_work tasks.old.items) }
 {
-    let shape = times_shape(counts, at, left.0, right.0)?;
-    Ok((shape, machine.product(left.1, right.1)?))
+    let Some((times, further)) = factors.split_first() else {
+        return Ok(Next::Found(shape, array));
+    };
+    tasks.push(Task::Product {
+        at: times.at,
+        shape,
+        array,
+        further,
+    })?;
+    Ok(Next::Inner(&times.factor))
 }
 
+/// Goes on with the arguments that are left of a call, or with the call.
 #[inline(never)]
-fn opposite_value<M: Machine>(
+#[cycle(expression)]
+fn pass<'t, M: Machine>(
+    defined: &Defined,
+    scope: &Scope<M::Array>,
     counts: &mut Counts,
     machine: &mut M,
+    tasks: &mut Vec<Task<'t, M::Array>>,
     at: usize,
-    found: (ShapeOf, M::Array),
-) -> Result<(ShapeOf, M::Array), CheckRefused>
-    ensures { Agrees (λ found. (found.0, found.1, counts.new, machine.new)) result
-        (value_of_opposite M.operations at (found.0, found.1, counts.old, machine.old)) }
+    place: usize,
+    passed: Vec<(ShapeOf, M::Array)>,
+    further: &'t [Expression],
+) -> Result<Next<'t, M::Array>, CheckRefused>
+    ensures value { Continues (λ next. next_with M.operations defined.now.definitions.now scope.now
+        next tasks.new.items counts.new machine.new) result
+        (arguments_with M.operations defined.now.definitions.now scope.now at place further.now
+        (passed.items, counts.old, machine.old) tasks.old.items) }
+    ensures work { IfOk result (λ next. next_work next + tasks_work tasks.new.items
+        ≤ sum_by further_work further.now + tasks_work tasks.old.items) }
 {
-    let shape = opposite_shape(counts, at, found.0)?;
-    Ok((shape, machine.opposite(found.1)?))
+    let Some((argument, further)) = further.split_first() else {
+        let (shape, array) = call(defined, counts, machine, at, place, passed)?;
+        return Ok(Next::Found(shape, array));
+    };
+    tasks.push(Task::Argument {
+        at,
+        place,
+        passed,
+        further,
+    })?;
+    let first = first_factor::<M>(defined, scope, tasks, argument)?;
+    Ok(Next::Inner(first))
 }
 
+/// The value of a call of the definition at a place, with all its arguments.
 #[inline(never)]
-fn single_value<M: Machine>(
+#[cycle(expression)]
+fn call<M: Machine>(
+    defined: &Defined,
     counts: &mut Counts,
     machine: &mut M,
-    function: SingleFunction,
     at: usize,
-    found: (ShapeOf, M::Array),
+    place: usize,
+    arguments: Vec<(ShapeOf, M::Array)>,
 ) -> Result<(ShapeOf, M::Array), CheckRefused>
     ensures { Agrees (λ found. (found.0, found.1, counts.new, machine.new)) result
-        (value_of_single M.operations function at
-        (found.0, found.1, counts.old, machine.old)) }
+        (call_at M.operations defined.now.definitions.now at place
+        (arguments.items, counts.old, machine.old)) }
 {
-    let shape = single_shape(counts, function, at, found.0)?;
-    Ok((shape, machine.single(function, found.0, found.1)?))
+    let Some(definition) = defined.definitions.get(place) else {
+        return Err(CheckRefused::Bad {
+            at,
+            kind: CheckKind::Unknown,
+        });
+    };
+    step(counts, at)?;
+    let names = bind_parameters(defined.alloc, &definition.parameters, arguments)?;
+    let earlier = Defined {
+        alloc: defined.alloc,
+        definitions: &defined.definitions[..place],
+    };
+    body_value(&earlier, &names, counts, machine, &definition.body)
 }
 
-#[inline(never)]
-fn pair_value<M: Machine>(
+/// The value of a definition's body, with a list of tasks of its own.
+#[cycle(expression)]
+fn body_value<M: Machine>(
+    defined: &Defined,
+    scope: &Scope<M::Array>,
     counts: &mut Counts,
     machine: &mut M,
-    function: PairFunction,
-    at: usize,
-    left: (ShapeOf, M::Array),
-    right: (ShapeOf, M::Array),
+    body: &Expression,
 ) -> Result<(ShapeOf, M::Array), CheckRefused>
     ensures { Agrees (λ found. (found.0, found.1, counts.new, machine.new)) result
-        (value_of_pair M.operations function at (left.0, left.1, counts.old, machine.old)
-        (right.0, right.1, counts.old, machine.old)) }
+        (value_of M.operations (calls_of M.operations defined.now.definitions.now)
+        (expression_tree body.now) scope.now counts.old machine.old) }
 {
-    let shape = pair_shape(counts, function, at, left.0, right.0)?;
-    let array = machine.pair(function, left.0, right.0, left.1, right.1)?;
+    let mut tasks = Vec::new(defined.alloc);
+    let (shape, array) = value(defined, scope, counts, machine, &mut tasks, body)?;
     Ok((shape, array))
 }

@@ -1,23 +1,28 @@
-//! One run of programs, over any kind of arrays.
+//! One run of programs, over any kind of arrays, for both languages.
+//!
+//! A call of a definition runs its body in a scope of its own, which has only the parameters, and the body may call only earlier
+//! definitions. So calls are nested no deeper than there are definitions, and a run of them ends.
 #![tactic(auto)]
 
 mod bound;
 mod constants;
 mod counts;
+mod defined;
 mod element;
 mod expression;
 mod index;
 mod machine;
+mod operation;
 mod place;
 mod program;
 mod refused;
 mod scope;
 mod shape;
 mod statement;
+mod task;
 
 pub use bound::Bound;
 pub use counts::Counts;
-pub use expression::value;
 pub use machine::Machine;
 pub use program::{Ran, run};
 pub use refused::{CheckKind, CheckRefused};

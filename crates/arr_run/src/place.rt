@@ -18,5 +18,6 @@ pub fn expression_at(expression: &Expression) -> usize
         Factor::Parenthesized { at, .. } => *at,
         Factor::Single { at, .. } => *at,
         Factor::Pair { at, .. } => *at,
+        Factor::Call { name, .. } => name.at,
     }
 }

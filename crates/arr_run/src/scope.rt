@@ -12,14 +12,17 @@ use std::marker::Model;
 /// The names in scope by their numbers, with what they stand for, seen as a list, the oldest first.
 ///
 /// The oldest place of each name is kept beside the list, so a look-up takes constant time, and forgetting costs only the names
-/// forgotten.
+/// forgotten. A short list, as that of a definition's parameters, is gone through instead, so that making one costs no more than
+/// its names.
 #[derive(Drop)]
 pub struct Scope<A> {
     names: Vec<(usize, Bound<A>)>,
     places: Vec<Option<usize>>,
+    is_short: bool,
 }
 
 impl<A> Model for Scope<A> {
+    ghost use Rattle.std.specs.Prelude.{◌≡◌, false};
     ghost use Rattle.arr_run.specs.Scope.{Names};
     ghost use Rattle.arr_run.specs.Places.{Answers};
 
@@ -27,7 +30,7 @@ impl<A> Model for Scope<A> {
 
     ghost view = { λ s. s.names.items };
 
-    ghost invariant = { λ s. Answers s.places.items s.names.items };
+    ghost invariant = { λ s. s.is_short ≡ false → Answers s.places.items s.names.items };
 }
 
 impl<A: Drop> Scope<A> {
@@ -38,6 +41,18 @@ impl<A: Drop> Scope<A> {
         Scope {
             names: Vec::new(alloc),
             places: Vec::new(alloc),
+            is_short: false,
+        }
+    }
+
+    /// No names, where only a few will come.
+    pub fn short(alloc: Global) -> Scope<A>
+        ensures { result ≡ [] }
+    {
+        Scope {
+            names: Vec::new(alloc),
+            places: Vec::new(alloc),
+            is_short: true,
         }
     }
 
@@ -52,7 +67,7 @@ impl<A: Drop> Scope<A> {
     pub fn get(&self, name: usize) -> Option<&Bound<A>>
         ensures { option_copied result ≡ binding_of name self.now }
     {
-        match place_at(&self.places, name) {
+        match self.place(name) {
             Some(place) => Some(&self.names[place].1),
             None => None,
         }
@@ -63,7 +78,7 @@ impl<A: Drop> Scope<A> {
         ensures old { result ≡ binding_of name self.old }
         ensures new { self.new ≡ with_binding name new self.old }
     {
-        match place_at(&self.places, name) {
+        match self.place(name) {
             Some(place) => Some(std::mem::replace(&mut self.names[place], (name, new)).1),
             None => None,
         }
@@ -95,18 +110,33 @@ impl<A: Drop> Scope<A> {
     pub fn place(&self, name: usize) -> Option<usize>
         ensures { result ≡ place_of name self.now }
     {
-        place_at(&self.places, name)
+        if self.is_short {
+            place_among(&self.names, name)
+        } else {
+            place_at(&self.places, name)
+        }
     }
 
     /// Adds a name after the others. Where the name was in scope already, the older one is still found first.
     pub fn declare(&mut self, name: usize, binding: Bound<A>) -> Result<(), AllocError>
         ensures { OnOk result (self.new ≡ self.old ++ (name, binding) ∷ []) }
     {
-        if self.place(name).is_some() {
+        if self.is_short {
+            self.declare_short(name, binding)
+        } else if self.place(name).is_some() {
             self.declare_again(name, binding)
         } else {
             self.declare_new(name, binding)
         }
+    }
+
+    /// Adds a name to a short list.
+    fn declare_short(&mut self, name: usize, binding: Bound<A>) -> Result<(), AllocError>
+        ensures { OnOk result (self.new ≡ self.old ++ (name, binding) ∷ []) }
+    {
+        self.is_short = true;
+        self.names.push((name, binding))?;
+        Ok(())
     }
 
     /// Adds a name that is in scope.
@@ -151,6 +181,18 @@ impl<A: Drop> Scope<A> {
             }
         }
     }
+}
+
+/// The first place of a name in a list.
+fn place_among<A: Drop>(names: &[(usize, Bound<A>)], name: usize) -> Option<usize>
+    ensures { result ≡ place_of name names.now }
+{
+    for (place, entry) in names.iter().enumerate() {
+        if entry.0 == name {
+            return Some(place);
+        }
+    }
+    None
 }
 
 /// The place of a name, which is none after the last.

@@ -6,12 +6,16 @@ ghost use Rattle.arr_ast.specs.ExpressionTree.{name_tree, indices_tree, expressi
 ghost use Rattle.arr_ast.specs.ProgramTree.{statement_tree};
 ghost use Rattle.arr_run.specs.Agrees.{Agrees, each};
 ghost use Rattle.arr_run.specs.Bounds.{bounds_of, turns_of};
-ghost use Rattle.arr_run.specs.Statement.{bound, state, after_statement, declared, assigned as after_assignment, element_assigned, counted_loop as after_loop, if_free, if_of, stepped, target_shape as shape_of_target, turns, one_turn as after_turn, with_element_of};
+ghost use Rattle.arr_run.specs.State.{bound, state, if_free};
+ghost use Rattle.arr_run.specs.Steps.{newest_first};
+ghost use Rattle.arr_run.specs.Definitions.{if_new};
+ghost use Rattle.arr_run.specs.Statement.{after_statement, declared, assigned as after_assignment, element_assigned, counted_loop as after_loop, if_of, stepped, target_shape as shape_of_target, turns, one_turn as after_turn, with_element_of};
 ghost use Rattle.arr_run.specs.declared.refused.CheckRefused.TheVariants.{Memory};
 ghost use Rattle.arr_run.specs.Statement.{expression_at as place_of_value};
 
 use crate::bound::Bound;
 use crate::counts::{Counts, step};
+use crate::defined::{Defined, has_definition};
 use crate::element::{offset, place_in};
 use crate::expression::value;
 use crate::index::{index_at, index_value};
@@ -20,31 +24,35 @@ use crate::place::expression_at;
 use crate::refused::{CheckKind, CheckRefused};
 use crate::scope::Scope;
 use crate::shape::is_alike;
-use arr_ast::{Expression, IndexExpression, Indices, Name, ShapeOf, Statement};
+use crate::task::Task;
+use arr_ast::{Definition, Expression, IndexExpression, Indices, Name, ShapeOf, Statement};
 
 const MODULUS: i64 = 2_147_483_647;
 
 /// The run of one statement.
 #[cycle(statement)]
 #[tactic(auto, using(crate::proofs::api::StatementRows::of_statements))]
-pub fn run_statement<M: Machine>(
+pub fn run_statement<'t, M: Machine>(
+    defined: &Defined,
     scope: &mut Scope<M::Array>,
     counts: &mut Counts,
     machine: &mut M,
-    statement: &Statement,
+    tasks: &mut Vec<Task<'t, M::Array>>,
+    statement: &'t Statement,
 ) -> Result<(), CheckRefused>
     ensures { Agrees (λ _. state scope.new counts.new machine.new) result
-        (after_statement M.operations (statement_tree statement.now)
+        (after_statement M.operations (newest_first defined.now.definitions.now)
+        (statement_tree statement.now)
         (state scope.old counts.old machine.old)) }
 {
     match statement {
         Statement::Let { at, name, value } => {
             step(counts, *at)?;
-            declare(scope, counts, machine, name, value)
+            declare(defined, scope, counts, machine, tasks, name, value)
         }
         Statement::Set { name, value } => {
             step(counts, name.at)?;
-            assign(scope, counts, machine, name, value)
+            assign(defined, scope, counts, machine, tasks, name, value)
         }
         Statement::SetElement {
             name,
@@ -52,7 +60,7 @@ pub fn run_statement<M: Machine>(
             value,
         } => {
             step(counts, name.at)?;
-            assign_element(scope, counts, machine, name, indices, value)
+            assign_element(defined, scope, counts, machine, tasks, name, indices, value)
         }
         Statement::For {
             at,
@@ -60,57 +68,70 @@ pub fn run_statement<M: Machine>(
             low,
             high,
             body,
-        } => { counted_loop(scope, counts, machine, *at, name, body, low, high) }
+        } => {
+            counted_loop(
+                defined, scope, counts, machine, tasks, *at, name, body, low, high,
+            )
+        }
     }
 }
 
 /// A loop.
 #[cycle(statement)]
 #[tactic(auto, using(crate::proofs::api::StatementRows::of_statements))]
-fn counted_loop<M: Machine>(
+fn counted_loop<'t, M: Machine>(
+    defined: &Defined,
     scope: &mut Scope<M::Array>,
     counts: &mut Counts,
     machine: &mut M,
+    tasks: &mut Vec<Task<'t, M::Array>>,
     at: usize,
     name: &Name,
-    body: &[Statement],
+    body: &'t [Statement],
     low: &IndexExpression,
     high: &IndexExpression,
 ) -> Result<(), CheckRefused>
     ensures { Agrees (λ _. state scope.new counts.new machine.new) result
-        (stepped M.operations at (after_loop M.operations at (name_tree name.now)
+        (stepped M.operations at
+        (after_loop M.operations (newest_first defined.now.definitions.now) at (name_tree name.now)
         (sum_tree low.now) (sum_tree high.now)
-        (each (after_statement M.operations) (map statement_tree body.now)))
+        (each (after_statement M.operations (newest_first defined.now.definitions.now))
+        (map statement_tree body.now)))
         (state scope.old counts.old machine.old)) }
 {
     step(counts, at)?;
-    require_free(scope, name)?;
+    require_new(defined.definitions, scope, name)?;
     let (first, end) = bounds(scope, low, high)?;
-    all_turns(scope, counts, machine, at, name, first, end, body)
+    all_turns(
+        defined, scope, counts, machine, tasks, at, name, first, end, body,
+    )
 }
 
 /// The turns of a loop from the first on, below the end.
 #[cycle(statement)]
 #[tactic(auto, using(crate::proofs::api::StatementRows::of_statements, crate::proofs::api::StatementRows::of_turns))]
-fn all_turns<M: Machine>(
+fn all_turns<'t, M: Machine>(
+    defined: &Defined,
     scope: &mut Scope<M::Array>,
     counts: &mut Counts,
     machine: &mut M,
+    tasks: &mut Vec<Task<'t, M::Array>>,
     at: usize,
     name: &Name,
     first: u32,
     end: u32,
-    body: &[Statement],
+    body: &'t [Statement],
 ) -> Result<(), CheckRefused>
     requires { first ≤ end }
     ensures { Agrees (λ _. state scope.new counts.new machine.new) result
         (turns M.operations (end - first) first
         (after_turn M.operations at (name_tree name.now)
-        (each (after_statement M.operations) (map statement_tree body.now)))
+        (each (after_statement M.operations (newest_first defined.now.definitions.now))
+        (map statement_tree body.now)))
         (state scope.old counts.old machine.old)) }
 {
     'each: for turn in first..end {
-        one_turn(scope, counts, machine, at, name, turn, body)?;
+        one_turn(defined, scope, counts, machine, tasks, at, name, turn, body)?;
     }
     Ok(())
 }
@@ -118,24 +139,27 @@ fn all_turns<M: Machine>(
 /// One turn of a loop.
 #[cycle(statement)]
 #[tactic(auto, using(crate::proofs::api::StatementRows::of_statements))]
-fn one_turn<M: Machine>(
+fn one_turn<'t, M: Machine>(
+    defined: &Defined,
     scope: &mut Scope<M::Array>,
     counts: &mut Counts,
     machine: &mut M,
+    tasks: &mut Vec<Task<'t, M::Array>>,
     at: usize,
     name: &Name,
     turn: u32,
-    body: &[Statement],
+    body: &'t [Statement],
 ) -> Result<(), CheckRefused>
     ensures { Agrees (λ _. state scope.new counts.new machine.new) result
         (after_turn M.operations at (name_tree name.now)
-        (each (after_statement M.operations) (map statement_tree body.now)) turn
+        (each (after_statement M.operations (newest_first defined.now.definitions.now))
+        (map statement_tree body.now)) turn
         (state scope.old counts.old machine.old)) }
 {
     step(counts, at)?;
     let kept = scope.len();
     scope.declare(name.number, Bound::Turn(turn))?;
-    run_all(scope, counts, machine, body)?;
+    run_all(defined, scope, counts, machine, tasks, body)?;
     scope.forget(kept);
     Ok(())
 }
@@ -143,75 +167,87 @@ fn one_turn<M: Machine>(
 /// The run of statements, one after another.
 #[cycle(statement)]
 #[tactic(auto, using(crate::proofs::api::StatementRows::of_statements))]
-fn run_all<M: Machine>(
+fn run_all<'t, M: Machine>(
+    defined: &Defined,
     scope: &mut Scope<M::Array>,
     counts: &mut Counts,
     machine: &mut M,
-    statements: &[Statement],
+    tasks: &mut Vec<Task<'t, M::Array>>,
+    statements: &'t [Statement],
 ) -> Result<(), CheckRefused>
     ensures { Agrees (λ _. state scope.new counts.new machine.new) result
-        (each (after_statement M.operations) (map statement_tree statements.now)
+        (each (after_statement M.operations (newest_first defined.now.definitions.now))
+        (map statement_tree statements.now)
         (state scope.old counts.old machine.old)) }
 {
     'each: for statement in statements {
-        run_statement(scope, counts, machine, statement)?;
+        run_statement(defined, scope, counts, machine, tasks, statement)?;
     }
     Ok(())
 }
 
 /// Declares a name with a value.
-fn declare<M: Machine>(
+fn declare<'t, M: Machine>(
+    defined: &Defined,
     scope: &mut Scope<M::Array>,
     counts: &mut Counts,
     machine: &mut M,
+    tasks: &mut Vec<Task<'t, M::Array>>,
     name: &Name,
-    expression: &Expression,
+    expression: &'t Expression,
 ) -> Result<(), CheckRefused>
     ensures { Agrees (λ _. state scope.new counts.new machine.new) result
-        (declared M.operations (name_tree name.now) (expression_tree expression.now)
+        (declared M.operations (newest_first defined.now.definitions.now) (name_tree name.now)
+        (expression_tree expression.now)
         (state scope.old counts.old machine.old)) }
 {
-    require_free(scope, name)?;
-    let (shape, array) = value(scope, counts, machine, expression)?;
+    require_new(defined.definitions, scope, name)?;
+    let (shape, array) = value(defined, scope, counts, machine, tasks, expression)?;
     scope.declare(name.number, Bound::Value(shape, array))?;
     Ok(())
 }
 
 /// Sets the array of a name.
-fn assign<M: Machine>(
+fn assign<'t, M: Machine>(
+    defined: &Defined,
     scope: &mut Scope<M::Array>,
     counts: &mut Counts,
     machine: &mut M,
+    tasks: &mut Vec<Task<'t, M::Array>>,
     name: &Name,
-    expression: &Expression,
+    expression: &'t Expression,
 ) -> Result<(), CheckRefused>
     ensures { Agrees (λ _. state scope.new counts.new machine.new) result
-        (after_assignment M.operations (name_tree name.now) (expression_tree expression.now)
+        (after_assignment M.operations (newest_first defined.now.definitions.now)
+        (name_tree name.now) (expression_tree expression.now)
         (state scope.old counts.old machine.old)) }
 {
     let target = target_shape(scope, name)?;
-    let (shape, array) = value(scope, counts, machine, expression)?;
+    let (shape, array) = value(defined, scope, counts, machine, tasks, expression)?;
     require_alike(target, shape, expression)?;
     scope.replace(name.number, Bound::Value(target, array));
     Ok(())
 }
 
 /// Sets one element of a name.
-fn assign_element<M: Machine>(
+fn assign_element<'t, M: Machine>(
+    defined: &Defined,
     scope: &mut Scope<M::Array>,
     counts: &mut Counts,
     machine: &mut M,
+    tasks: &mut Vec<Task<'t, M::Array>>,
     name: &Name,
     indices: &Indices,
-    expression: &Expression,
+    expression: &'t Expression,
 ) -> Result<(), CheckRefused>
     ensures { Agrees (λ _. state scope.new counts.new machine.new) result
-        (element_assigned M.operations (name_tree name.now) (indices_tree indices.now)
+        (element_assigned M.operations (newest_first defined.now.definitions.now)
+        (name_tree name.now) (indices_tree indices.now)
         (expression_tree expression.now) (state scope.old counts.old machine.old)) }
 {
     let target = target_shape(scope, name)?;
     let (row, column) = place_in(scope, name.at, indices, target)?;
-    let (shape, element) = value(scope, counts, machine, expression)?;
+    let (shape, element) = value(defined, scope, counts, machine, tasks, expression)?;
     require_alike(ShapeOf::Scalar, shape, expression)?;
     set_element(
         scope,
@@ -241,7 +277,25 @@ fn set_element<M: Machine>(
     Ok(())
 }
 
-/// Tests that a name may be declared.
+/// Tests that a name may be declared where there are these definitions.
+pub fn require_new<A: Drop>(
+    definitions: &[Definition],
+    scope: &Scope<A>,
+    name: &Name,
+) -> Result<(), CheckRefused>
+    ensures { Agrees (λ free. free) result
+        (if_new (name_tree name.now) scope.now (newest_first definitions.now)) }
+{
+    if has_definition(definitions, name.number) {
+        return Err(CheckRefused::Bad {
+            at: name.at,
+            kind: CheckKind::Taken,
+        });
+    }
+    require_free(scope, name)
+}
+
+/// Tests that a name isn't in scope.
 pub fn require_free<A: Drop>(scope: &Scope<A>, name: &Name) -> Result<(), CheckRefused>
     ensures { Agrees (λ free. free) result
         (if_free name.now.at (bound (name_tree name.now) scope.now)) }

@@ -100,7 +100,7 @@ inside P count k total (Some m) f u = (let below = f.1.below in omega (arith, f.
 
 -- a circuit has few challenges
 module _ (c : SoundCircuit) where
-  width_most : (i : ℕ) (layers : List (List CircuitGate)) → i + length layers ≡ height c.parts → total_exponent (layers_from c.parts i layers) ≤ 16 * length layers
+  width_most : (i : ℕ) (layers : List (List CircuitGate)) → i + length layers ≡ height c.parts → total_exponent (layers_from c.parts i layers) ≤ 20 * length layers
   width_most i [] e = omega arith
   width_most i (gates ∷ layers) e =
       let here = size_of c (i + 1) (omega arith) in

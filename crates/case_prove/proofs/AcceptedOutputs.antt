@@ -1,6 +1,7 @@
 -- Accepted outputs that aren't the meaning aren't the circuit's, so that some challenge is exceptional.
 use Rattle.std.proofs.Common.{◌≡◌, ◌∙◌, ◌≤◌, ℕ, List, [], ◌∷◌, ◌++◌, length, take, drop, replicate, subst, refl, sym, ap}
 use Rattle.std.specs.Prelude.{IsTrue, is_none, Option, Some, None}
+use Rattle.arr_ast.specs.declared.lang.Lang.{Lang}
 use Rattle.field_ext.specs.Field.{F, K}
 use Rattle.circuit_core.specs.Faults.{fault_of}
 use Rattle.circuit_core.specs.Parts.{Parts, layer_values, zero_f}
@@ -24,8 +25,8 @@ use Rattle.case_prove.proofs.api.ProvedOutputs.{InputsAre, IsComputed}
 pub record IsKnown : Type 0 where
   pub inputs : InputsAre
   pub computes : IsComputed
-  pub faultless : (text : List ℕ) (parts : Parts) → IsCompiled text parts → fault_of greatest parts ≡ None
-  pub has_output : (text : List ℕ) (parts : Parts) → IsCompiled text parts → 1 ≤ parts.outputs
+  pub faultless : (lang : Lang) (text : List ℕ) (parts : Parts) → IsCompiled lang text parts → fault_of greatest parts ≡ None
+  pub has_output : (lang : Lang) (text : List ℕ) (parts : Parts) → IsCompiled lang text parts → 1 ≤ parts.outputs
   pub lists : (form : ProofForm) (circuit : SoundCircuit) (inputs outputs : List F) (messages : Messages) (rs : List K) → length outputs ≡ circuit.parts.outputs → HaveShape form (drop 1 (exponents circuit.parts)) messages.layers →
       let stated = claim_in form circuit.parts inputs outputs in let qs = all_messages messages.layers in
       length rs ≡ challenge_count stated → verdict_of stated qs rs ≡ Accepted → IsFalse circuit.parts inputs outputs → (n : ℕ) × LetsPass stated qs rs n
@@ -45,7 +46,7 @@ front (x ∷ xs) ys = ap (λ (zs : List F). x ∷ zs) (front xs ys)
 pub meant : InputsAre → IsComputed → (c : Content) (parts : Parts) (outputs : List F) (claim : IsClaim c parts outputs) → length outputs ≡ parts.outputs → outputs ≡ take (length outputs) (drop 1 (layer_values parts c.inputs 0)) → HasMeaning c
 meant inputs_are computes c parts outputs claim many same =
     let compiled = claim.compiled in
-    let values = computes c.program parts compiled c.inputs claim.counted in
+    let values = computes c.lang c.program parts compiled c.inputs claim.counted in
     let as_many : length outputs ≡ length values.outputs = many ∙ sym values.as_many in
     let are : outputs ≡ values.outputs =
     same
@@ -58,7 +59,7 @@ meant inputs_are computes c parts outputs claim many same =
       evaluated = record {
         tree = compiled.tree;
         accepted = compiled.lowered.accepted;
-        counted = claim.counted ∙ inputs_are c.program parts compiled;
+        counted = claim.counted ∙ inputs_are c.lang c.program parts compiled;
         meaning_is = values.meaning_is ∙ ap (λ (xs : List F). Some xs) (sym are);
       };
     }
@@ -67,8 +68,8 @@ pub sound : IsKnown → (c : Content) → IsVerdictOn c Accepted → ¬ HasMeani
 sound known c is wrong =
     let circuit : SoundCircuit = record {
       parts = is.parts;
-      faultless = no_fault (fault_of greatest is.parts) (known.faultless c.program is.parts is.claim.compiled);
-      has_output = known.has_output c.program is.parts is.claim.compiled;
+      faultless = no_fault (fault_of greatest is.parts) (known.faultless c.lang c.program is.parts is.claim.compiled);
+      has_output = known.has_output c.lang c.program is.parts is.claim.compiled;
     } in
     let state = start_of is.form c.program c.inputs is.outputs in
     let stated = claim_in is.form is.parts c.inputs is.outputs in

@@ -31,7 +31,7 @@ use Rattle.case_prove.proofs.api.ProvedOutputs.{OneTree, InputsAre, IsComputed, 
 
 -- the circuit of an audited case
 abbrev circuit_of : (c : Content) (audit : Audit) → IsAudited c audit → SoundCircuit
-circuit_of c audit is = sound c.program is.parts is.proof.claim.compiled
+circuit_of c audit is = sound c.lang c.program is.parts is.proof.claim.compiled
 
 -- ---- one audit
 
@@ -41,7 +41,7 @@ OneAudit = (form : ProofForm) (circuit : SoundCircuit) (inputs outputs : List F)
 
 pub one_audit : OneCircuit → OneAudit → (c : Content) (a b : Audit) → IsAudited c a → IsAudited c b → a ≡ b
 one_audit circuit one c a b is is' =
-    let parts : is'.parts ≡ is.parts = circuit c.program is'.parts is.parts is'.proof.claim.compiled is.proof.claim.compiled in
+    let parts : is'.parts ≡ is.parts = circuit c.lang c.program is'.parts is.parts is'.proof.claim.compiled is.proof.claim.compiled in
     let outputs : is'.outputs ≡ is.outputs = one_value c.outputs is'.outputs is.outputs is'.proof.claim.outputs_are is.proof.claim.outputs_are in
     let shape = subst (λ (p : Parts). HaveShape Line (drop 1 (exponents p)) is'.messages.layers) parts is'.proof.of_shape in
     let says = coe 0 1 (i. Says Line c (parts i) (outputs i) is'.messages) is'.proof.spelled in
@@ -82,7 +82,7 @@ HonestyIsUnnamed = (form : ProofForm) (circuit : SoundCircuit) (inputs outputs :
 pub proved_unnamed : OneTree → InputsAre → IsComputed → HonestIsAccepted Line → HonestyIsUnnamed → (version : ProofVersion) (c proved : Content) → IsProved (ByLines version) c proved → IsAudited proved names_nothing
 proved_unnamed one inputs_are computes honest law version c proved is =
     let there = meaning_there one inputs_are computes c is.parts is.compiled is.outputs is.evaluated in
-    let verdict = honest (sound c.program is.parts is.compiled) c.inputs is.outputs transcript (start_of Line c.program c.inputs is.outputs) is.messages there.as_many there.stand is.of_shape is.honest in
+    let verdict = honest (sound c.lang c.program is.parts is.compiled) c.inputs is.outputs transcript (start_of Line c.program c.inputs is.outputs) is.messages there.as_many there.stand is.of_shape is.honest in
     subst (λ (q : Content). IsAudited q names_nothing) (sym is.proved_is) (record {
       parts = is.parts;
       outputs = is.outputs;
@@ -91,7 +91,7 @@ proved_unnamed one inputs_are computes honest law version c proved is =
         claim = record { compiled = is.compiled; counted = there.counted; outputs_are = refl };
         as_many = there.as_many;
         of_shape = is.of_shape;
-        spelled = kind_says (ByLines version) c.program c.inputs is.outputs is.parts is.messages is.of_shape verdict;
+        spelled = kind_says (ByLines version) c.lang c.program c.inputs is.outputs is.parts is.messages is.of_shape verdict;
       };
-      audit_is = law Line (sound c.program is.parts is.compiled) c.inputs is.outputs transcript (start_of Line c.program c.inputs is.outputs) is.messages there.as_many there.stand is.of_shape is.honest;
+      audit_is = law Line (sound c.lang c.program is.parts is.compiled) c.inputs is.outputs transcript (start_of Line c.program c.inputs is.outputs) is.messages there.as_many there.stand is.of_shape is.honest;
     })

@@ -1,5 +1,6 @@
 -- What is converted says the same messages, so that it has the same verdicts, and converting back gives the case again.
 use Rattle.std.proofs.Common.{◌≡◌, inl, inr, ◌↔◌, ℕ, List, Option, Some, drop, refl, sym, ◌∙◌, ap, subst}
+use Rattle.arr_ast.specs.declared.lang.Lang.{Lang}
 use Rattle.field_ext.specs.Field.{F}
 use Rattle.circuit_core.specs.Parts.{Parts}
 use Rattle.circuit_core.specs.Sound.{exponents}
@@ -29,11 +30,11 @@ use Rattle.case_prove.proofs.api.ProvedCases.{OneCircuit}
 use Rattle.case_prove.proofs.api.ReadProofs.{one_value}
 
 -- a case with its messages by lines in a version says these messages, where the sums hold if it has to
-pub version_says : (version : ProofVersion) (program : List ℕ) (inputs outputs : List F) (told : Option (List F)) (p : Parts) (m : Messages) → HaveShape Line (drop 1 (exponents p)) m.layers
+pub version_says : (version : ProofVersion) (lang : Lang) (program : List ℕ) (inputs outputs : List F) (told : Option (List F)) (p : Parts) (m : Messages) → HaveShape Line (drop 1 (exponents p)) m.layers
     → (version ≡ Two → first_failure (sums_of p outputs transcript (start_of Line program inputs outputs) m) ≡ Accepted)
-    → Says Line (record { program = program; inputs = inputs; outputs = told; proof = Some (kind_spelling (ByLines version) m) }) p outputs m
-version_says One program inputs outputs told p m shape sums = inl refl
-version_says Two program inputs outputs told p m shape sums = inr (record {
+    → Says Line (record { lang = lang; program = program; inputs = inputs; outputs = told; proof = Some (kind_spelling (ByLines version) m) }) p outputs m
+version_says One lang program inputs outputs told p m shape sums = inl refl
+version_says Two lang program inputs outputs told p m shape sums = inr (record {
   pairs = shortened m;
   pairs_shape = short_shape (drop 1 (exponents p)) m.layers shape;
   pairs_spelled = refl;
@@ -42,7 +43,7 @@ version_says Two program inputs outputs told p m shape sums = inr (record {
 
 -- the case that is written
 abbrev rewritten : Content → ProofVersion → Messages → Content
-rewritten c version m = record { program = c.program; inputs = c.inputs; outputs = c.outputs; proof = Some (kind_spelling (ByLines version) m) }
+rewritten c version m = record { lang = c.lang; program = c.program; inputs = c.inputs; outputs = c.outputs; proof = Some (kind_spelling (ByLines version) m) }
 
 written_has : (version : ProofVersion) (c d : Content) (is : IsConverted version c d) → HasProof Line d is.parts is.outputs is.messages
 written_has version c d is =
@@ -50,14 +51,14 @@ written_has version c d is =
       claim = record { compiled = is.proof.claim.compiled; counted = is.proof.claim.counted; outputs_are = is.proof.claim.outputs_are };
       as_many = is.proof.as_many;
       of_shape = is.proof.of_shape;
-      spelled = version_says version c.program c.inputs is.outputs c.outputs is.parts is.messages is.proof.of_shape is.sums;
+      spelled = version_says version c.lang c.program c.inputs is.outputs c.outputs is.parts is.messages is.proof.of_shape is.sums;
     })
 
 -- a verdict on a case is the one on the messages that its proof says
 one_verdict : OneCircuit → (c : Content) (p : Parts) (o : List F) (m : Messages) → HasProof Line c p o m → (v : Verdict) → IsVerdictOn c v → v ≡ transcript_verdict Line c p o m
 one_verdict circuit c p o m has v is =
     let form : is.form ≡ Line = sym (says_form is.form c is.parts is.outputs is.messages is.spelled) ∙ says_form Line c p o m has.spelled in
-    let parts : is.parts ≡ p = circuit c.program is.parts p is.claim.compiled has.claim.compiled in
+    let parts : is.parts ≡ p = circuit c.lang c.program is.parts p is.claim.compiled has.claim.compiled in
     let outputs : is.outputs ≡ o = one_value c.outputs is.outputs o is.claim.outputs_are has.claim.outputs_are in
     let shape = coe 0 1 (i. HaveShape (form i) (drop 1 (exponents (parts i))) is.messages.layers) is.of_shape in
     let says = coe 0 1 (i. Says (form i) c (parts i) (outputs i) is.messages) is.spelled in
@@ -91,7 +92,7 @@ same_verdicts circuit version c d is v = (
 -- two proofs of a case say the same messages
 same_messages : OneCircuit → (c : Content) (p q : Parts) (o r : List F) (m n : Messages) → HasProof Line c p o m → HasProof Line c q r n → m ≡ n
 same_messages circuit c p q o r m n has has' =
-    let parts : p ≡ q = circuit c.program p q has.claim.compiled has'.claim.compiled in
+    let parts : p ≡ q = circuit c.lang c.program p q has.claim.compiled has'.claim.compiled in
     let outputs : o ≡ r = one_value c.outputs o r has.claim.outputs_are has'.claim.outputs_are in
     let shape = coe 0 1 (i. HaveShape Line (drop 1 (exponents (parts i))) m.layers) has.of_shape in
     let says = coe 0 1 (i. Says Line c (parts i) (outputs i) m) has.spelled in
@@ -113,4 +114,4 @@ back circuit c two one is is' plain =
     let messages : is'.messages ≡ is.messages = same_messages circuit two is'.parts is.parts is'.outputs is.outputs is'.messages is.messages is'.proof (written_has Two c two is) in
     is'.written_is
     ∙ (λ i. rewritten (is.written_is i) One (messages i))
-    ∙ (λ i. record { program = c.program; inputs = c.inputs; outputs = c.outputs; proof = spelled_by c is.parts is.outputs is.messages plain.0 is.proof.spelled plain.1 i })
+    ∙ (λ i. record { lang = c.lang; program = c.program; inputs = c.inputs; outputs = c.outputs; proof = spelled_by c is.parts is.outputs is.messages plain.0 is.proof.spelled plain.1 i })

@@ -4,6 +4,8 @@ use Rattle.std.specs.Prelude.{codes}
 use Rattle.std.specs.List.{concat, flat_map}
 use Rattle.std.specs.Int.{w32, to_le_bytes}
 use Rattle.std.proofs.lemmas.Fmt.{length-decimal-le}
+use Rattle.arr_ast.specs.declared.lang.Lang.{Lang}
+use Rattle.arr_ast.specs.declared.lang.Lang.TheVariants as langs
 use Rattle.hex.specs.Hex.{IsBytes, encode_lower}
 use Rattle.hex.specs.Hex as hex
 use Rattle.hex.proofs.HexLemmas.{length-encode_with}
@@ -22,7 +24,7 @@ use Rattle.proof_two.specs.Lists.{shortened}
 use Rattle.proof_two.specs.Spelling.{all_elements, magic_two}
 use Rattle.case_text.specs.Rules.{after_value}
 use Rattle.case_text.specs.Content.{Content, Fits}
-use Rattle.case_text.specs.Spelling.{header, number, program_text, values_text, counted_text, outputs_text, proof_text, last_line, lower_case_text, Spells}
+use Rattle.case_text.specs.Spelling.{language_text, number, program_text, values_text, counted_text, outputs_text, proof_text, last_line, lower_case_text, Spells}
 use Rattle.case_text.specs.declared.case.form.Form.TheVariants.{Full}
 use Rattle.case_text.proofs.api.HexWriting.{lower_is_hex, lower_spells}
 
@@ -66,11 +68,11 @@ kind_bytes (ByLines Two) messages =
     (four_bytes 71 75 82 50 (omega arith) (omega arith) (omega arith) (omega arith)) (coefficient_bytes (all_elements (shortened messages).layers))
 kind_bytes ByPairs messages = proof_bytes Pair messages
 
-pub spells : (kind : ProofKind) (program : List ℕ) (inputs outputs : List F) (messages : Messages) →
-    let c : Content = record { program = program; inputs = inputs; outputs = Some outputs; proof = Some (kind_spelling kind messages) } in
+pub spells : (kind : ProofKind) (lang : Lang) (program : List ℕ) (inputs outputs : List F) (messages : Messages) →
+    let c : Content = record { lang = lang; program = program; inputs = inputs; outputs = Some outputs; proof = Some (kind_spelling kind messages) } in
     Fits c → Spells Full (lower_case_text c) c
-spells kind program inputs outputs messages fits =
-    lower_spells (record { program = program; inputs = inputs; outputs = Some outputs; proof = Some (kind_spelling kind messages) }) _ fits (lower_is_hex (kind_spelling kind messages) (kind_bytes kind messages)) refl Full tt tt
+spells kind lang program inputs outputs messages fits =
+    lower_spells (record { lang = lang; program = program; inputs = inputs; outputs = Some outputs; proof = Some (kind_spelling kind messages) }) _ fits (lower_is_hex (kind_spelling kind messages) (kind_bytes kind messages)) refl Full tt tt
 
 -- ---- its length
 
@@ -96,9 +98,9 @@ length-four : (a b c d : List ℕ) (x y z w : ℕ) → length a ≤ x → length
 length-four a b c d x y z w h i j k =
     omega (arith, h, i, j, k, length-append a (concat (b ∷ c ∷ d ∷ [])), length-append b (concat (c ∷ d ∷ [])), length-append c (concat (d ∷ [])), length-append d [])
 
-length-seven : (a b c d e f g : List ℕ) → length (concat (a ∷ b ∷ c ∷ d ∷ e ∷ f ∷ g ∷ [])) ≡ length a + (length b + (length c + length (concat (d ∷ e ∷ f ∷ g ∷ []))))
-length-seven a b c d e f g =
-    omega (arith, length-append a (concat (b ∷ c ∷ d ∷ e ∷ f ∷ g ∷ [])), length-append b (concat (c ∷ d ∷ e ∷ f ∷ g ∷ [])), length-append c (concat (d ∷ e ∷ f ∷ g ∷ [])))
+length-nine : (a b c d e f g h i : List ℕ) → length (concat (a ∷ b ∷ c ∷ d ∷ e ∷ f ∷ g ∷ h ∷ i ∷ [])) ≡ length a + (length b + (length c + (length d + (length e + length (concat (f ∷ g ∷ h ∷ i ∷ []))))))
+length-nine a b c d e f g h i =
+    omega (arith, length-append a (concat (b ∷ c ∷ d ∷ e ∷ f ∷ g ∷ h ∷ i ∷ [])), length-append b (concat (c ∷ d ∷ e ∷ f ∷ g ∷ h ∷ i ∷ [])), length-append c (concat (d ∷ e ∷ f ∷ g ∷ h ∷ i ∷ [])), length-append d (concat (e ∷ f ∷ g ∷ h ∷ i ∷ [])), length-append e (concat (f ∷ g ∷ h ∷ i ∷ [])))
 
 exactly : (n m : ℕ) → n ≡ m → n ≤ m
 exactly n m e = omega (arith, e)
@@ -117,18 +119,24 @@ length-proof proof few =
     (exactly _ _ refl) (length-number 7 (length proof) 10 (omega arith) (omega (arith, few)) (omega (arith, few)))
     (exactly _ _ (length-encode_with hex.lower_digits proof)) (exactly _ _ refl)
 
-pub short : (program : List ℕ) (inputs outputs : List F) (proof : List ℕ) → length program ≤ 65536 → length inputs ≤ 262144 → length outputs ≤ 65535 → length proof ≤ 231428 →
-    length (lower_case_text (record { program = program; inputs = inputs; outputs = Some outputs; proof = Some proof })) < 4194304
-short program inputs outputs proof u v w x =
-    whole (program_text program) (counted_text inputs) (outputs_text (Some outputs)) (proof_text (Some proof) (encode_lower proof))
-    (omega (arith, length-program program u, u)) (omega (arith, length-counted inputs v, v)) (omega (arith, length-outputs outputs (omega (arith, w)), w)) (omega (arith, length-proof proof (omega (arith, x)), x))
+pub short : (lang : Lang) (program : List ℕ) (inputs outputs : List F) (proof : List ℕ) → length program ≤ 65536 → length inputs ≤ 262144 → length outputs ≤ 65535 → length proof ≤ 1155076 →
+    length (lower_case_text (record { lang = lang; program = program; inputs = inputs; outputs = Some outputs; proof = Some proof })) < 8388608
+short lang program inputs outputs proof u v w x =
+    whole (language_text lang) (program_text program) (counted_text inputs) (outputs_text (Some outputs)) (proof_text (Some proof) (encode_lower proof))
+    (one_digit lang) (omega (arith, length-program program u, u)) (omega (arith, length-counted inputs v, v)) (omega (arith, length-outputs outputs (omega (arith, w)), w)) (omega (arith, length-proof proof (omega (arith, x)), x))
   where
-    whole : (a b c d : List ℕ) → length a ≤ 65551 → length b ≤ 2883591 → length c ≤ 720899 → length d ≤ 462871 → length (concat (header ∷ a ∷ codes "input " ∷ b ∷ c ∷ d ∷ last_line ∷ [])) < 4194304
-    whole a b c d h i j k =
-        let front : length header ≤ 11 = exactly _ _ refl in
+    one_digit : (lang : Lang) → length (language_text lang) ≤ 1
+    one_digit langs.One = omega arith
+    one_digit langs.Two = omega arith
+
+    whole : (l a b c d : List ℕ) → length l ≤ 1 → length a ≤ 65551 → length b ≤ 2883591 → length c ≤ 720899 → length d ≤ 2310167 →
+        length (concat (codes "gkr case " ∷ l ∷ (10 ∷ []) ∷ a ∷ codes "input " ∷ b ∷ c ∷ d ∷ last_line ∷ [])) < 8388608
+    whole l a b c d g h i j k =
+        let first : length (codes "gkr case ") ≤ 9 = exactly _ _ refl in
         let word : length (codes "input ") ≤ 6 = exactly _ _ refl in
-        let behind : length (concat (b ∷ c ∷ d ∷ last_line ∷ [])) ≤ 2883591 + 720899 + 462871 + 4 = length-four b c d last_line 2883591 720899 462871 4 i j k (exactly _ _ refl) in
-        total (length header) (length a) (length (codes "input ")) (length (concat (b ∷ c ∷ d ∷ last_line ∷ []))) _ front h word behind (length-seven header a (codes "input ") b c d last_line)
+        let after : length (concat (b ∷ c ∷ d ∷ last_line ∷ [])) ≤ 2883591 + 720899 + 2310167 + 4 = length-four b c d last_line 2883591 720899 2310167 4 i j k (exactly _ _ refl) in
+        total (length (codes "gkr case ")) (length l) (length a) (length (codes "input ")) (length (concat (b ∷ c ∷ d ∷ last_line ∷ []))) _ first g h word after
+        (length-nine (codes "gkr case ") l (10 ∷ []) a (codes "input ") b c d last_line)
       where
-        total : (a b c d n : ℕ) → a ≤ 11 → b ≤ 65551 → c ≤ 6 → d ≤ 4067365 → n ≡ a + (b + (c + d)) → n < 4194304
-        total a b c d n h i j k e = omega (arith, h, i, j, k, e)
+        total : (f l a b c n : ℕ) → f ≤ 9 → l ≤ 1 → a ≤ 65551 → b ≤ 6 → c ≤ 5914661 → n ≡ f + (l + (1 + (a + (b + c)))) → n < 8388608
+        total f l a b c n g h i j k e = omega (arith, g, h, i, j, k, e)

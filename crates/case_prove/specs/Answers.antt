@@ -15,9 +15,10 @@ use Rattle.case_prove.specs.Proved.{IsProved}
 
 -- when a reply is what `prove` says of a case, with a proof of this kind
 abbrev pub IsProveAnswer : ProofKind → Content → Reply → Type 0
-IsProveAnswer kind c (replies.Program why at) = IsRefusedAs c.program at why
-IsProveAnswer kind c (replies.Deep levels) = IsTooLarge c.program (layout.Deep levels)
-IsProveAnswer kind c (replies.Wide height width) = IsTooLarge c.program (layout.Wide height width)
+IsProveAnswer kind c (replies.Program why at) = IsRefusedAs c.lang c.program at why
+IsProveAnswer kind c (replies.Deep levels) = IsTooLarge c.lang c.program (layout.Deep levels)
+IsProveAnswer kind c (replies.Wide height width) =
+    IsTooLarge c.lang c.program (layout.Wide height width)
 IsProveAnswer kind c (replies.InputCount have need) = IsCircuitMiscounted c have need
 IsProveAnswer kind c (replies.Proved proved) = IsProved kind c proved
 IsProveAnswer kind c reply = ⊥

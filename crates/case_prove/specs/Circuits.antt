@@ -44,21 +44,21 @@ sizes_of p = record {
 -- The case's program has a circuit of these sizes, and it has as many inputs as the case.
 pub record IsLaidOut (c : Content) (sizes : Sizes) : Type 0 where
   pub parts : Parts
-  pub compiled : IsCompiled c.program parts
+  pub compiled : IsCompiled c.lang c.program parts
   pub counted : length c.inputs ≡ parts.inputs
   pub sizes_are : sizes ≡ sizes_of parts
 
 -- The case's program has a circuit, and another number of inputs than the case.
 pub record IsCircuitMiscounted (c : Content) (have need : ℕ) : Type 0 where
   pub parts : Parts
-  pub compiled : IsCompiled c.program parts
+  pub compiled : IsCompiled c.lang c.program parts
   pub case_has : have ≡ length c.inputs
   pub program_needs : need ≡ parts.inputs
   pub differ : have ≢ need
 
 -- A call refuses a case as the definitions do, or memory ran out.
 abbrev pub RefusesCircuit : Content → Refused → Type 0
-RefusesCircuit c (Program bad) = IsCircuitRefusal c.program bad
+RefusesCircuit c (Program bad) = IsCircuitRefusal c.lang c.program bad
 RefusesCircuit c (Input have need) = IsCircuitMiscounted c have need
 RefusesCircuit c (Output have need) = ⊥
 RefusesCircuit c (Proof bad) = ⊥

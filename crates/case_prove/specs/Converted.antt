@@ -35,6 +35,7 @@ pub record IsConverted (version : ProofVersion) (c written : Content) : Type 0 w
   pub proof : HasProof Line c parts outputs messages
   pub sums : version ≡ Two → first_failure (own_sums c parts outputs messages) ≡ Accepted
   pub written_is : written ≡ record {
+    lang = c.lang;
     program = c.program;
     inputs = c.inputs;
     outputs = c.outputs;

@@ -16,21 +16,21 @@ use Rattle.case_prove.specs.declared.refused.Refused.TheVariants.{Program, Input
 -- The case's program is accepted, it has as many inputs as the case, and these outputs are its meaning on them.
 pub record IsEvaluated (c : Content) (outputs : List F) : Type 0 where
   pub tree : ProgramTree
-  pub accepted : IsAccepted c.program tree
+  pub accepted : IsAccepted c.lang c.program tree
   pub counted : length c.inputs ≡ input_count tree.inputs
-  pub meaning_is : meaning tree c.inputs ≡ Some outputs
+  pub meaning_is : meaning c.lang tree c.inputs ≡ Some outputs
 
 -- The case's program is accepted, and it has another number of inputs than the case.
 pub record IsMiscounted (c : Content) (have need : ℕ) : Type 0 where
   pub tree : ProgramTree
-  pub accepted : IsAccepted c.program tree
+  pub accepted : IsAccepted c.lang c.program tree
   pub case_has : have ≡ length c.inputs
   pub program_needs : need ≡ input_count tree.inputs
   pub differ : have ≢ need
 
 -- A call refuses a case as the definitions do, or memory ran out.
 abbrev pub Refuses : Content → Refused → Type 0
-Refuses c (Program bad) = IsRefusal c.program bad
+Refuses c (Program bad) = IsRefusal c.lang c.program bad
 Refuses c (Input have need) = IsMiscounted c have need
 Refuses c (Output have need) = ⊥
 Refuses c (Proof bad) = ⊥

@@ -19,7 +19,7 @@ use Rattle.case_prove.specs.Started.{start_of}
 -- and outputs.
 pub record IsProved (kind : ProofKind) (c proved : Content) : Type 0 where
   pub parts : Parts
-  pub compiled : IsCompiled c.program parts
+  pub compiled : IsCompiled c.lang c.program parts
   pub outputs : List F
   pub evaluated : IsEvaluated c outputs
   pub messages : Messages
@@ -27,6 +27,7 @@ pub record IsProved (kind : ProofKind) (c proved : Content) : Type 0 where
   pub honest : AreHonestMessages (form_in kind) parts c.inputs transcript
       (start_of (form_in kind) c.program c.inputs outputs) (all_messages messages.layers)
   pub proved_is : proved ≡ record {
+    lang = c.lang;
     program = c.program;
     inputs = c.inputs;
     outputs = Some outputs;

@@ -28,7 +28,7 @@ use Rattle.case_prove.specs.declared.refused.Refused.TheVariants.{Program, Input
 
 -- The case's program has a circuit with as many inputs as the case, and the case has outputs.
 pub record IsClaim (c : Content) (parts : Parts) (outputs : List F) : Type 0 where
-  pub compiled : IsCompiled c.program parts
+  pub compiled : IsCompiled c.lang c.program parts
   pub counted : length c.inputs ≡ parts.inputs
   pub outputs_are : c.outputs ≡ Some outputs
 
@@ -123,7 +123,7 @@ pub record IsBadProof (form : ProofForm) (c : Content) (bad : BadProof) : Type 0
 
 -- A call that reads the case's proof as one of this form refuses it as the definitions do, or memory ran out.
 abbrev pub RefusesProof : ProofForm → Content → Refused → Type 0
-RefusesProof form c (Program bad) = IsCircuitRefusal c.program bad
+RefusesProof form c (Program bad) = IsCircuitRefusal c.lang c.program bad
 RefusesProof form c (Input have need) = IsCircuitMiscounted c have need
 RefusesProof form c (Output have need) = IsOutputMiscounted c have need
 RefusesProof form c (Proof bad) = IsBadProof form c bad

@@ -33,11 +33,12 @@ pub fn circuit_case(alloc: Global, case: &Case) -> Result<CircuitSizes, Refused>
 
 /// The circuit of the case's program, which has as many inputs as the case. It is refused as `circuit_case` refuses the case.
 pub fn circuit_of(alloc: Global, case: &Case) -> Result<Circuit, Refused>
-    ensures compiled { IfOk result (λ circuit. IsCompiled case.now.program circuit.parts) }
+    ensures compiled { IfOk result
+        (λ circuit. IsCompiled case.now.lang case.now.program circuit.parts) }
     ensures counted { IfOk result (λ circuit. length case.now.inputs ≡ circuit.parts.inputs) }
     ensures refused { IfErr result (λ refused. RefusesCircuit case.now refused) }
 {
-    let compiled = match compile(alloc, case.program()) {
+    let compiled = match compile(alloc, case.program(), case.lang()) {
         Ok(compiled) => compiled,
         Err(refused) => return Err(program_refused(refused)),
     };

@@ -16,6 +16,7 @@ ghost use Rattle.case_prove.specs.Verified.{HasProof, IsReadAs};
 
 use crate::read_proof::read_proof;
 use crate::refused::Refused;
+use arr_compile::laws::circuit_is_sound;
 use case_text::Case;
 use circuit_core::Circuit;
 use field_ext::Fp;
@@ -120,9 +121,10 @@ fn write_converted(
         (own_sums case.now circuit.now.parts outputs.now messages.now) ≡ Accepted }
     ensures { IfOk result (λ converted. IsConvertedTo version case.now converted) }
 {
+    circuit_is_sound();
     let proof = encode_kind(alloc, ProofKind::ByLines(version), messages)?;
     let program = Vec::from_slice(alloc, case.program())?;
     let inputs = Vec::from_slice(alloc, case.inputs())?;
     let outputs = Vec::from_slice(alloc, outputs)?;
-    Ok(Converted::Case(Case::new(program, inputs, Some(outputs), Some(proof))))
+    Ok(Converted::Case(Case::new(case.lang(), program, inputs, Some(outputs), Some(proof))))
 }

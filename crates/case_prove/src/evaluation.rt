@@ -16,7 +16,7 @@ pub fn eval_case(alloc: Global, case: &Case) -> Result<Vec<Fp>, Refused>
     ensures outputs { IfOk result (λ outputs. IsEvaluated case.now outputs.items) }
     ensures refused { IfErr result (λ refused. Refuses case.now refused) }
 {
-    let checked = match read_program(alloc, case.program()) {
+    let checked = match read_program(alloc, case.program(), case.lang()) {
         Ok(checked) => checked,
         Err(refused) => return Err(program_refused(refused)),
     };

@@ -58,6 +58,7 @@ pub fn proved_fits()
 {
     one_tree();
     circuit_computes();
+    circuit_is_sound();
 }
 
 /// The text of what the prover gives is one of a case with outputs and a proof, and of this case.
@@ -68,13 +69,14 @@ pub fn proved_is_full()
     proved_fits();
 }
 
-/// The text of what the prover gives is short enough to be read: it has fewer than 4,194,304 bytes.
+/// The text of what the prover gives is short enough to be read: it has fewer than 8,388,608 bytes.
 pub fn proved_is_short()
     ensures { (kind : ProofKind) (c proved : Content) → Fits c → IsProved kind c proved
-        → length (lower_case_text proved) < 4194304 }
+        → length (lower_case_text proved) < 8388608 }
 {
     one_tree();
     circuit_computes();
+    circuit_is_sound();
 }
 
 /// Where a case is accepted whose outputs aren't its program's meaning on its inputs, some challenge of its own transcript is
@@ -163,13 +165,17 @@ pub fn converted_keeps()
 pub fn converted_is_full()
     ensures { (version : ProofVersion) (c written : Content) → Fits c
         → IsConverted version c written → Spells Full (lower_case_text written) written }
-{}
+{
+    circuit_is_sound();
+}
 
-/// The text of what is converted is short enough to be read: it has fewer than 4,194,304 bytes.
+/// The text of what is converted is short enough to be read: it has fewer than 8,388,608 bytes.
 pub fn converted_is_short()
     ensures { (version : ProofVersion) (c written : Content) → Fits c
-        → IsConverted version c written → length (lower_case_text written) < 4194304 }
-{}
+        → IsConverted version c written → length (lower_case_text written) < 8388608 }
+{
+    circuit_is_sound();
+}
 
 /// A case whose proof is of version 1 is the same once it was converted to version 2 and back.
 pub fn converted_back()

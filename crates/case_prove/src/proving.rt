@@ -17,7 +17,7 @@ ghost use Rattle.case_prove.specs.Started.{start_of};
 use crate::circuit::circuit_of;
 use crate::refused::Refused;
 use crate::started::transcript_of;
-use arr_compile::laws::circuit_computes;
+use arr_compile::laws::{circuit_computes, circuit_is_sound};
 use case_text::Case;
 use circuit_core::Circuit;
 use circuit_eval::{Values, layer_values};
@@ -69,11 +69,12 @@ pub fn prove_laid_out<R: Threads + Wait + Sync, G: Gate>(
     workers: u32,
     gate: &G,
 ) -> Result<Case, AllocError>
-    requires compiled { IsCompiled case.now.program circuit.now.parts }
+    requires compiled { IsCompiled case.now.lang case.now.program circuit.now.parts }
     requires counted { length case.now.inputs ≡ circuit.now.parts.inputs }
     requires workers { IsWorkerCount workers }
     ensures { IfOk result (λ proved. IsProved kind case.now proved) }
 {
+    circuit_is_sound();
     let values = layer_values(rt, alloc, circuit, case.inputs())?;
     let outputs = meant_outputs(alloc, case, circuit, &values)?;
     let form = kind.form();
@@ -83,7 +84,7 @@ pub fn prove_laid_out<R: Threads + Wait + Sync, G: Gate>(
     let proof = encode_kind(alloc, kind, &messages)?;
     let program = Vec::from_slice(alloc, case.program())?;
     let inputs = Vec::from_slice(alloc, case.inputs())?;
-    Ok(Case::new(program, inputs, Some(outputs), Some(proof)))
+    Ok(Case::new(case.lang(), program, inputs, Some(outputs), Some(proof)))
 }
 
 /// The program's meaning on the case's inputs, where the program is laid out as this circuit and its layers have these values:
@@ -94,7 +95,7 @@ pub fn meant_outputs(
     circuit: &Circuit,
     values: &Values,
 ) -> Result<Vec<Fp>, AllocError>
-    requires compiled { IsCompiled case.now.program circuit.now.parts }
+    requires compiled { IsCompiled case.now.lang case.now.program circuit.now.parts }
     requires counted { length case.now.inputs ≡ circuit.now.parts.inputs }
     requires tables { AreTables circuit.now.parts case.now.inputs values.now }
     ensures meaning { IfOk result (λ outputs. IsEvaluated case.now outputs.items) }

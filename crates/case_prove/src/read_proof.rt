@@ -44,7 +44,7 @@ pub(crate) fn read_proof(alloc: Global, case: &Case, form: ProofForm) -> Result<
     ensures start { IfOk result (λ read. IsOwnStart form case.now read.start) }
     ensures refused { IfErr result (λ refused. RefusesProof form case.now refused) }
 {
-    let compiled = match compile(alloc, case.program()) {
+    let compiled = match compile(alloc, case.program(), case.lang()) {
         Ok(compiled) => compiled,
         Err(refused) => return Err(program_refused(refused)),
     };
@@ -69,7 +69,7 @@ pub(crate) fn read_messages(
     form: ProofForm,
     circuit: &Circuit,
 ) -> Result<(Messages, Transcript), Refused>
-    requires compiled { IsCompiled case.now.program circuit.now.parts }
+    requires compiled { IsCompiled case.now.lang case.now.program circuit.now.parts }
     requires counted { length case.now.inputs ≡ circuit.now.parts.inputs }
     requires outputs { IsSome case.now.outputs }
     requires proof { IsSome case.now.proof }

@@ -40,7 +40,7 @@ pub fn verify_case(alloc: Global, case: &Case) -> Result<Verdict, Refused>
 /// The verdict of `verify_case` where the case's program is laid out as this circuit, which isn't compiled again. It is refused
 /// as `verify_case` refuses such a case.
 pub fn verify_laid_out(alloc: Global, case: &Case, circuit: &Circuit) -> Result<Verdict, Refused>
-    requires compiled { IsCompiled case.now.program circuit.now.parts }
+    requires compiled { IsCompiled case.now.lang case.now.program circuit.now.parts }
     requires counted { length case.now.inputs ≡ circuit.now.parts.inputs }
     requires outputs { IsSome case.now.outputs }
     requires proof { IsSome case.now.proof }

@@ -1,8 +1,10 @@
 -- What a case contains.
 use Rattle.std.specs.Prelude.{ℕ, ◌≤◌, List, length, Option, IfSome}
 use Rattle.field_ext.specs.Field.{F}
+use Rattle.arr_ast.specs.declared.lang.Lang.{Lang}
 
 pub record Content : Type 0 where
+  pub lang : Lang
   pub program : List ℕ
   pub inputs : List F
   pub outputs : Option (List F)

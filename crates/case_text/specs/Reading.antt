@@ -1,6 +1,8 @@
 -- Reading a case: its parts in order, and the place of the first byte that isn't due.
 use Rattle.std.specs.Prelude.{◌≡◌, ℕ, ◌-◌, List, [], ◌∷◌, length, codes, Result, Ok, Err}
 use Rattle.field_ext.specs.Field.{F, of}
+use Rattle.arr_ast.specs.declared.lang.Lang.{Lang}
+use Rattle.arr_ast.specs.declared.lang.Lang.TheVariants.{One, Two}
 use Rattle.hex.specs.declared.error.FromHexError.{FromHexError}
 use Rattle.hex.specs.declared.error.FromHexError.TheVariants.{InvalidHexCharacter, OddLength, InvalidStringLength, OutOfMemory}
 use Rattle.text_parts.specs.declared.due.DueKind.TheVariants.{Header, Section, Hex}
@@ -8,15 +10,21 @@ use Rattle.text_parts.specs.declared.stop.Stop.{Stop}
 use Rattle.text_parts.specs.declared.stop.ReadError.{ReadError}
 use Rattle.text_parts.specs.declared.stop.ReadError.TheVariants as errors
 use Rattle.text_parts.specs.Bytes.{initial, newline}
-use Rattle.text_parts.specs.Parts.{Taking, ◌>>=◌, at_end, counted_bytes_at, decimal_at, each_at, in_order, word_at}
+use Rattle.text_parts.specs.Parts.{Taking, ◌>>=◌, at_end, choice_at, counted_bytes_at, decimal_at, each_at, given_at, in_order, word_at}
 use Rattle.case_text.specs.declared.case.refusal.BadCase.{BadCase}
 use Rattle.case_text.specs.declared.case.refusal.CaseRefused.{CaseRefused}
 use Rattle.case_text.specs.declared.case.refusal.CaseRefused.TheVariants as refusals
 use Rattle.case_text.specs.declared.case.form.Form.{Form}
 use Rattle.case_text.specs.Rules.{text_length, value_count, value_rule, proof_length}
 use Rattle.case_text.specs.Content.{Content}
-use Rattle.case_text.specs.Spelling.{header, last_line}
+use Rattle.case_text.specs.Spelling.{last_line}
 use Rattle.case_text.specs.Due.{digits_stop, hex_byte_at, line_at}
+
+-- the language of a header
+unfoldable pub language_at : List ℕ → Taking Lang
+language_at bytes = choice_at (initial (codes "1"))
+    (in_order (word_at Header (codes "1")) (λ u. given_at One))
+    (in_order (word_at Header (codes "2")) (λ u. given_at Two)) bytes
 
 unfoldable pub program_at : List ℕ → Taking (List ℕ)
 program_at bytes = do
@@ -53,8 +61,10 @@ proof_at bytes = do
 
 unfoldable pub case_at : Form → List ℕ → Taking Content
 case_at form bytes = do
-  first ← word_at Header header bytes
-  program ← program_at first.1
+  first ← word_at Header (codes "gkr case ") bytes
+  lang ← language_at first.1
+  line ← word_at Header (newline ∷ []) lang.1
+  program ← program_at line.1
   name ← word_at Section (codes "input ") program.1
   inputs ← counted_at name.1
   outputs ← line_at form (initial (codes "output ")) outputs_at inputs.1
@@ -62,6 +72,7 @@ case_at form bytes = do
   last ← word_at Section last_line proof.1
   Ok (
     record {
+      lang = lang.0;
       program = program.0;
       inputs = inputs.0;
       outputs = outputs.0;

@@ -2,6 +2,8 @@
 use Rattle.std.specs.Prelude.{◌≡◌, ℕ, List, [], ◌∷◌, ◌++◌, length, codes, decimal, Option, Some, None, IfSome}
 use Rattle.std.specs.List.{concat}
 use Rattle.field_ext.specs.Field.{F}
+use Rattle.arr_ast.specs.declared.lang.Lang.{Lang}
+use Rattle.arr_ast.specs.declared.lang.Lang.TheVariants.{One, Two}
 use Rattle.text_parts.specs.Bytes.{newline}
 use Rattle.case_text.specs.Rules.{after_value}
 use Rattle.case_text.specs.declared.case.form.Form.{Form}
@@ -9,8 +11,10 @@ use Rattle.case_text.specs.Hex.{IsHexOf, lower_digits}
 use Rattle.case_text.specs.Forms.{Allows}
 use Rattle.case_text.specs.Content.{Content, Fits}
 
-abbrev pub header : List ℕ
-header = codes "gkr case 1" ++ newline ∷ []
+-- the language of a case, in its header
+abbrev pub language_text : Lang → List ℕ
+language_text One = codes "1"
+language_text Two = codes "2"
 
 -- a decimal, and the byte after it
 abbrev pub number : ℕ → ℕ → List ℕ
@@ -49,8 +53,9 @@ lower_proof_text proof = proof_text proof (lower_digits proof)
 
 abbrev pub case_text : Content → List ℕ → List ℕ
 case_text c digits = concat
-    (header ∷ program_text c.program ∷ codes "input " ∷ counted_text c.inputs ∷ outputs_text
-    c.outputs ∷ proof_text c.proof digits ∷ last_line ∷ [])
+    (codes "gkr case " ∷ language_text c.lang ∷ (newline ∷ []) ∷ program_text c.program
+    ∷ codes "input " ∷ counted_text c.inputs ∷ outputs_text c.outputs ∷ proof_text c.proof digits
+    ∷ last_line ∷ [])
 
 -- the text whose hex digits are in lower case
 abbrev pub lower_case_text : Content → List ℕ

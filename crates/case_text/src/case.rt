@@ -6,12 +6,14 @@ pub(crate) mod refusal;
 mod rules;
 pub(crate) mod writing;
 
+use arr_ast::Lang;
 use field_ext::Fp;
 use std::marker::Model;
 
-/// A program's text and its inputs, and outputs and a proof where there are any.
+/// A program's text in its language and its inputs, and outputs and a proof where there are any.
 #[derive(Debug, Drop)]
 pub struct Case {
+    lang: Lang,
     program: Vec<u8>,
     inputs: Vec<Fp>,
     outputs: Option<Vec<Fp>>,
@@ -25,6 +27,7 @@ impl Model for Case {
     ghost Value = { Content };
 
     ghost view = { λ c. record {
+      lang = c.lang;
       program = c.program.items;
       inputs = c.inputs.items;
       outputs = option_map (λ v. v.items) c.outputs;
@@ -32,6 +35,7 @@ impl Model for Case {
     } };
 
     ghost invariant = { λ c. Fits (record {
+      lang = c.lang;
       program = c.program.items;
       inputs = c.inputs.items;
       outputs = option_map (λ v. v.items) c.outputs;
@@ -47,18 +51,21 @@ impl Case {
     /// A case of these parts: a program of at most 65,536 bytes, at most 262,144 values a line, and a proof of at most
     /// 2,000,000 bytes.
     pub fn new(
+        lang: Lang,
         program: Vec<u8>,
         inputs: Vec<Fp>,
         outputs: Option<Vec<Fp>>,
         proof: Option<Vec<u8>>,
     ) -> Case
         requires { Fits (record {
+          lang = lang;
           program = program.items;
           inputs = inputs.items;
           outputs = option_map (λ v. v.items) outputs;
           proof = option_map (λ v. v.items) proof;
         }) }
         ensures { result ≡ record {
+          lang = lang;
           program = program.items;
           inputs = inputs.items;
           outputs = option_map (λ v. v.items) outputs;
@@ -66,11 +73,19 @@ impl Case {
         } }
     {
         Case {
+            lang,
             program,
             inputs,
             outputs,
             proof,
         }
+    }
+
+    /// The language of the program.
+    pub fn lang(&self) -> Lang
+        ensures { result ≡ self.now.lang }
+    {
+        self.lang
     }
 
     /// The bytes of the program.

@@ -102,6 +102,7 @@ fn program_kind_name(kind: ProgramKind) -> &'static [u8]
         ProgramKind::Bounds => b"bounds",
         ProgramKind::Steps => b"steps",
         ProgramKind::Nodes => b"nodes",
+        ProgramKind::Defs => b"defs",
         ProgramKind::Dims => b"dims",
         ProgramKind::Outputs => b"outputs",
         ProgramKind::NoOutput => b"nooutput",

@@ -5,9 +5,9 @@ use Rattle.circuit_core.specs.declared.gate.Leaf.{Leaf}
 use Rattle.circuit_core.specs.Parts.{Limits, Parts, height, width_of}
 use Rattle.circuit_core.specs.Faults.{fault_of, exponent_of}
 
--- The limits that every circuit keeps: at most 256 layers above the input, and at most 2 ^ 16 = 65,536 positions in a layer.
+-- The limits that every circuit keeps: at most 1,024 layers above the input, and at most 2 ^ 20 = 1,048,576 positions in a layer.
 abbrev pub greatest : Limits
-greatest = record { height = 256; exponent = 16 }
+greatest = record { height = 1024; exponent = 20 }
 
 pub record SoundCircuit : Type 0 where
   pub parts : Parts

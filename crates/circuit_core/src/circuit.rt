@@ -146,11 +146,11 @@ impl Circuit {
         self.lists.width(layer)
     }
 
-    /// How many coordinates the positions of a layer have, at most 16: the layer has two to this power of them.
+    /// How many coordinates the positions of a layer have, at most 20: the layer has two to this power of them.
     pub fn coordinates(&self, layer: usize) -> usize
         requires { layer ≤ height self.now.parts }
         ensures value { result ≡ exponent_at self.now.parts layer }
-        ensures most { result ≤ 16 }
+        ensures most { result ≤ 20 }
     {
         self.shape().k(layer) as usize
     }

@@ -5,11 +5,11 @@ use std::alloc::AllocError;
 /// The first fault of a circuit.
 #[derive(Clone, Copy, Debug, PartialEq, Eq)]
 pub enum BadCircuit {
-    /// There is no layer of gates, or more than 256.
+    /// There is no layer of gates, or more than 1,024.
     Depth {
         layers: usize,
     },
-    /// A layer's size is no power of two from 2 to 65,536, or the layer can't hold position 0 and its outputs or leaves.
+    /// A layer's size is no power of two from 2 to 1,048,576, or the layer can't hold position 0 and its outputs or leaves.
     Width {
         layer: usize,
         width: usize,

@@ -23,7 +23,7 @@ pub use shape::Shape;
 pub use value::{gate_value, leaf_value};
 
 /// The most layers above the input.
-pub const GREATEST_HEIGHT: usize = 256;
+pub const GREATEST_HEIGHT: usize = 1024;
 
 /// A layer has two to the power of at most this many positions.
-pub const GREATEST_EXPONENT: u32 = 16;
+pub const GREATEST_EXPONENT: u32 = 20;

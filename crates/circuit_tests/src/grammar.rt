@@ -2,6 +2,7 @@
 
 ghost use Rattle.std.specs.Prelude.{◌≤◌, length};
 
+use arr_ast::Lang;
 use arr_lex::tokens;
 use arr_parse::{ParseRefused, parse};
 use std::alloc::{AllocError, Global};
@@ -11,7 +12,7 @@ fn refusal(alloc: Global, text: &[u8]) -> Option<ParseRefused>
     requires { length text.now ≤ 65536 }
 {
     match tokens(alloc, text) {
-        Ok(found) => parse(alloc, text, &found).err(),
+        Ok(found) => parse(alloc, text, &found, Lang::One).err(),
         Err(_) => Some(ParseRefused::Memory),
     }
 }

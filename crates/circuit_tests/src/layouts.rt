@@ -193,7 +193,7 @@ fn refuses_by_limits(rt: HostRuntime) -> Result<(), Fail> {
 
 /// A value doubled so many times.
 fn doubled(alloc: Global, times: u32) -> Result<NodeList, AllocError>
-    requires { times < 1000 }
+    requires { times < 2000 }
 {
     let mut list = NodeListBuilder::new(alloc, 1);
     let mut last = list.push(A)?;
@@ -204,13 +204,25 @@ fn doubled(alloc: Global, times: u32) -> Result<NodeList, AllocError>
     Ok(list.finish())
 }
 
-#[test]
-fn is_deep_past_256(rt: HostRuntime) -> Result<(), Fail> {
-    let Ok(circuit) = layer(rt.alloc(), &doubled(rt.alloc(), 255)?, Limits::greatest()) else {
+/// Sees that limits let so many levels through, and not one more.
+fn lets_through<R: Abort + AllocGlobal>(rt: &R, limits: Limits, levels: u32) -> Result<(), Fail>
+    requires some { 0 < levels }
+    requires few { levels < 2000 }
+{
+    let Ok(circuit) = layer(rt.alloc(), &doubled(rt.alloc(), levels - 1)?, limits) else {
         return Err(Fail::new("refused"));
     };
-    assert_eq!(rt; circuit.height(), 256);
-    let deep = LayerRefused::Deep { levels: 257 };
-    refuses(&rt, &doubled(rt.alloc(), 256)?, Limits::greatest(), deep);
+    let levels_of_circuit = levels as usize;
+    assert_eq!(rt; circuit.height(), levels_of_circuit);
+    let deep = LayerRefused::Deep {
+        levels: levels_of_circuit + 1,
+    };
+    refuses(rt, &doubled(rt.alloc(), levels)?, limits, deep);
     Ok(())
+}
+
+#[test]
+fn is_deep_past_the_height_of_its_limits(rt: HostRuntime) -> Result<(), Fail> {
+    lets_through(&rt, Limits::of(256, 16), 256)?;
+    lets_through(&rt, Limits::greatest(), 1024)
 }

@@ -13,6 +13,8 @@ mod gates;
 #[cfg(test)]
 mod grammar;
 #[cfg(test)]
+mod languages;
+#[cfg(test)]
 mod layouts;
 #[cfg(test)]
 mod limits;

@@ -3,6 +3,7 @@
 ghost use Rattle.std.specs.Prelude.{◌≤◌, length};
 
 use crate::programs::tree;
+use arr_ast::Lang;
 use arr_check::{CheckKind, CheckRefused, check};
 use std::process::Abort;
 use std::test::Fail;
@@ -11,7 +12,7 @@ use std::test::Fail;
 fn accepts<R: Abort + AllocGlobal>(rt: &R, text: &[u8]) -> Result<(), Fail>
     requires { length text.now ≤ 65536 }
 {
-    let refused = check(rt.alloc(), tree(rt.alloc(), text)?).err();
+    let refused = check(rt.alloc(), tree(rt.alloc(), text)?, Lang::One).err();
     assert_eq!(rt; refused, None);
     Ok(())
 }
@@ -25,7 +26,7 @@ fn refuses<R: Abort + AllocGlobal>(
 ) -> Result<(), Fail>
     requires { length text.now ≤ 65536 }
 {
-    let refused = check(rt.alloc(), tree(rt.alloc(), text)?).err();
+    let refused = check(rt.alloc(), tree(rt.alloc(), text)?, Lang::One).err();
     assert_eq!(rt; refused, Some(CheckRefused::Bad { at, kind }));
     Ok(())
 }

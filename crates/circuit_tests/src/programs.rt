@@ -3,7 +3,7 @@
 ghost use Rattle.std.specs.Prelude.{◌≤◌, length};
 
 use crate::gates::{add_node, mul_node};
-use arr_ast::{Factor, Program, Statement, TopStatement};
+use arr_ast::{Factor, Lang, Program, Statement, TopStatement};
 use arr_check::{CheckKind, CheckRefused, check};
 use arr_lex::tokens;
 use arr_lower::lower;
@@ -21,7 +21,7 @@ pub fn tree(alloc: Global, text: &[u8]) -> Result<Program, Fail>
     let Ok(found) = tokens(alloc, text) else {
         return Err(Fail::new("no tokens"));
     };
-    match parse(alloc, text, &found) {
+    match parse(alloc, text, &found, Lang::One) {
         Ok(program) => Ok(program),
         Err(_) => Err(Fail::new("no tree")),
     }
@@ -48,7 +48,11 @@ fn numbers_a_name_by_its_first_token(rt: HostRuntime) -> Result<(), Fail> {
 
 #[test]
 fn counts_inputs_outputs_and_nodes(rt: HostRuntime) -> Result<(), Fail> {
-    match check(rt.alloc(), tree(rt.alloc(), b"input v[2]; output v;")?) {
+    match check(
+        rt.alloc(),
+        tree(rt.alloc(), b"input v[2]; output v;")?,
+        Lang::One,
+    ) {
         Ok(checked) => {
             assert_eq!(rt; checked.inputs, 2);
             assert_eq!(rt; checked.outputs, 2);
@@ -67,7 +71,7 @@ fn refuses_a_dimension_of_none_and_a_run_without_outputs(rt: HostRuntime) -> Res
     ] {
         assert!(rt; text.len() <= 65536);
         assert_eq!(rt;
-            check(rt.alloc(), tree(rt.alloc(), text)?).err(),
+            check(rt.alloc(), tree(rt.alloc(), text)?, Lang::One).err(),
             Some(CheckRefused::Bad { at, kind })
         );
     }
@@ -83,7 +87,7 @@ fn lowers<R: Abort + AllocGlobal>(
 ) -> Result<(), Fail>
     requires { length text.now ≤ 65536 }
 {
-    match check(rt.alloc(), tree(rt.alloc(), text)?) {
+    match check(rt.alloc(), tree(rt.alloc(), text)?, Lang::One) {
         Ok(checked) => {
             let list = lower(rt.alloc(), &checked)?;
             assert_eq!(rt; *list.nodes(), *nodes);

@@ -3,7 +3,7 @@
 ghost use Rattle.std.specs.Prelude.{◌≤◌, length};
 
 use crate::layouts::show;
-use arr_ast::ProgramKind;
+use arr_ast::{Lang, ProgramKind};
 use arr_check::Checked;
 use arr_compile::{BadProgram, CompileRefused, compile, read_program};
 use arr_eval::{EvalRefused, eval};
@@ -18,7 +18,7 @@ const COPIES: &[u8] = b"input a; output a; output a;";
 const SUM: &[u8] = b"input v[3]; output sum(v);";
 
 /// The elements of these numbers.
-fn elements(alloc: Global, numbers: &[u64]) -> Result<Vec<Fp>, AllocError> {
+pub fn elements(alloc: Global, numbers: &[u64]) -> Result<Vec<Fp>, AllocError> {
     let mut found = Vec::new(alloc);
     for n in numbers {
         found.push(Fp::reduce(*n))?;
@@ -30,7 +30,7 @@ fn elements(alloc: Global, numbers: &[u64]) -> Result<Vec<Fp>, AllocError> {
 fn program(alloc: Global, text: &[u8]) -> Result<Checked, Fail>
     requires { length text.now ≤ 65536 }
 {
-    match read_program(alloc, text) {
+    match read_program(alloc, text, Lang::One) {
         Ok(checked) => Ok(checked),
         Err(_) => Err(Fail::new("no program")),
     }
@@ -71,7 +71,7 @@ fn compiles_texts(rt: HostRuntime) -> Result<(), Fail> {
         (SUM, "0+0 1+0 / 0+0 2+1 / 0+0 3+0 1+2 0+0 / 4: in0 in1 in2"),
     ] {
         assert!(rt; text.len() <= 65536);
-        let Ok(compiled) = compile(alloc, text) else {
+        let Ok(compiled) = compile(alloc, text, Lang::One) else {
             return Err(Fail::new("no circuit"));
         };
         assert_eq!(rt; show(alloc, &compiled.circuit)?.as_str(), want);
@@ -108,8 +108,8 @@ fn refuses_texts_by_the_first_pass_that_does(rt: HostRuntime) -> Result<(), Fail
     ] {
         assert!(rt; text.len() <= 65536);
         let refused = CompileRefused::Bad(bad);
-        assert!(rt; read_program(alloc, text).err() == Some(refused));
-        assert!(rt; compile(alloc, text).err() == Some(refused));
+        assert!(rt; read_program(alloc, text, Lang::One).err() == Some(refused));
+        assert!(rt; compile(alloc, text, Lang::One).err() == Some(refused));
     }
     for (text, bad) in [
         (
@@ -125,8 +125,8 @@ fn refuses_texts_by_the_first_pass_that_does(rt: HostRuntime) -> Result<(), Fail
         ),
     ] {
         assert!(rt; text.len() <= 65536);
-        assert!(rt; read_program(alloc, text).is_ok());
-        assert!(rt; compile(alloc, text).err() == Some(CompileRefused::Bad(bad)));
+        assert!(rt; read_program(alloc, text, Lang::One).is_ok());
+        assert!(rt; compile(alloc, text, Lang::One).err() == Some(CompileRefused::Bad(bad)));
     }
     Ok(())
 }

@@ -5,6 +5,7 @@ ghost use Rattle.std.specs.Prelude.{◌<◌};
 mod audits;
 mod converts;
 mod evaluates;
+mod languages;
 mod lays_out;
 mod proves;
 mod refuses;
@@ -115,10 +116,22 @@ fn sees<R: Threads + Wait + Sync + Abort + AllocGlobal>(
     Ok(())
 }
 
-/// The text of a case up to its last line.
+/// The text of a case of language 1 up to its last line.
 fn opened(alloc: Global, program: &[u8], inputs: &[u8]) -> Result<Vec<u8>, AllocError> {
+    opened_in(alloc, b'1', program, inputs)
+}
+
+/// The same in a language.
+fn opened_in(
+    alloc: Global,
+    language: u8,
+    program: &[u8],
+    inputs: &[u8],
+) -> Result<Vec<u8>, AllocError> {
     let mut text = Vec::new(alloc);
-    text.extend_from_slice(b"gkr case 1\nprogram ")?;
+    text.extend_from_slice(b"gkr case ")?;
+    text.push(language)?;
+    text.extend_from_slice(b"\nprogram ")?;
     text.extend_from_slice(format!(in alloc; "{}", program.len())?.as_bytes())?;
     text.push(b'\n')?;
     text.extend_from_slice(program)?;

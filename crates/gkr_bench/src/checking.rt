@@ -121,10 +121,10 @@ fn checking(rt: &HostRuntime, form: ProofForm, circuit: &Circuit) -> io::Result<
 }
 
 /// A point of as many coordinates as the widest layer may have.
-fn point() -> [Ext; 16] {
+fn point() -> [Ext; 20] {
     let mut random = Random { seed: 7 };
-    let mut coordinates = [Ext::zero(); 16];
-    for j in 0..16 {
+    let mut coordinates = [Ext::zero(); 20];
+    for j in 0..20 {
         coordinates[j] = random.element();
     }
     coordinates
@@ -308,7 +308,7 @@ fn input_leaves(alloc: Global, count: u32) -> Result<Vec<Leaf>, AllocError> {
 /// Layers of `2^k` random gates over `2^k` positions.
 pub(crate) fn tangled(alloc: Global, k: u32) -> Result<Option<Circuit>, AllocError> {
     let layers = random_layers(alloc, k)?;
-    let width = 1u32 << k.clamp(1, 16);
+    let width = 1u32 << k.clamp(1, 20);
     let leaves = input_leaves(alloc, width - 1)?;
     let outputs = (width - 1).max(1);
     Ok(Circuit::of(alloc, layers, width, leaves, width, outputs).ok())

@@ -1,6 +1,7 @@
 //! What laying a program out as a circuit takes, and what the values of the circuit's layers take.
 
 use crate::measure::{microseconds, numbers};
+use arr_ast::Lang;
 use arr_compile::compile;
 use circuit_core::Circuit;
 use circuit_eval::layer_values;
@@ -16,7 +17,7 @@ pub(crate) fn compiled(alloc: Global, text: &[u8]) -> Option<Circuit> {
     if text.len() > 65_536 {
         return None;
     }
-    match compile(alloc, text) {
+    match compile(alloc, text, Lang::Two) {
         Ok(compiled) => Some(compiled.circuit),
         Err(_) => None,
     }

@@ -167,7 +167,7 @@ fn time_layer(
 
 /// The least of twenty times of the loops.
 fn time_loops(rt: &HostRuntime, case: &LayerCase, k: u32) -> io::Result<Loops> {
-    let width = 1usize << k.min(16);
+    let width = 1usize << k.min(20);
     let mut buffers = Buffers::new(rt.alloc(), width, width)?;
     let mut least = Loops {
         sum: u64::MAX,
@@ -232,7 +232,7 @@ fn print_kernels(rt: &HostRuntime, loops: Loops, pairs: u32) -> io::Result<()> {
 /// gates, by the prover's loops and by the kernels. The kernels have the parts of an element in two slices.
 pub fn kernels(rt: &HostRuntime, k: u32) -> io::Result<()> {
     match case_of(rt.alloc(), k)? {
-        Some(case) => print_kernels(rt, time_loops(rt, &case, k)?, (1u32 << k.min(16)) / 4),
+        Some(case) => print_kernels(rt, time_loops(rt, &case, k)?, (1u32 << k.min(20)) / 4),
         None => println!(rt; "kernels: no layer of that size"),
     }
 }

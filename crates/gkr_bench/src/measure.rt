@@ -1,5 +1,6 @@
 //! What a program takes, and what plain loops take beside it.
 
+use arr_ast::Lang;
 use arr_check::Checked;
 use arr_compile::{CompileRefused, read_program};
 use arr_eval::eval;
@@ -22,7 +23,7 @@ fn read(alloc: Global, text: &[u8]) -> Option<Checked> {
     if text.len() > 65_536 {
         return None;
     }
-    read_program(alloc, text).ok()
+    read_program(alloc, text, Lang::Two).ok()
 }
 
 /// So many numbers, each another.

@@ -45,11 +45,11 @@ fn layer_of(
 /// A circuit of one layer of `2^k` random gates.
 fn circuit_of(alloc: Global, random: &mut Random, k: u32) -> Result<Option<Circuit>, AllocError> {
     let gates = random.gates(alloc, k)?;
-    layer_of(alloc, gates, 1u32 << k.clamp(1, 16))
+    layer_of(alloc, gates, 1u32 << k.clamp(1, 20))
 }
 
 fn table_of(alloc: Global, random: &mut Random, k: u32) -> Result<Table, AllocError> {
-    let mut values = vec![in alloc; Fp::zero(); 1usize << k.min(16)]?;
+    let mut values = vec![in alloc; Fp::zero(); 1usize << k.min(20)]?;
     for i in 0..values.len() {
         values[i] = Fp::reduce(random.next());
     }
@@ -182,7 +182,7 @@ fn time_proved<R: Threads + Sync>(
     case: &LayerCase,
     k: u32,
 ) -> io::Result<(u64, u32)> {
-    let width = 1usize << k.min(16);
+    let width = 1usize << k.min(20);
     let mut buffers = Buffers::new(rt.alloc(), width, width)?;
     let (mut best, mut seen) = (u64::MAX, 0);
     for _ in 0..20u32 {
@@ -298,7 +298,7 @@ fn time_wiring(rt: &HostRuntime, case: &LayerCase) -> io::Result<(u64, u32)> {
 /// The line between the operands' points, of which a digest is left.
 pub(crate) fn line(alloc: Global, case: &LayerCase) -> Result<u32, AllocError> {
     let k = case.values.k() as usize;
-    if k > 16 || case.left.len() != k || case.right.len() != k {
+    if k > 20 || case.left.len() != k || case.right.len() != k {
         return Ok(0);
     }
     let polynomial = line_poly(alloc, &case.values, &case.left, &case.right)?;
@@ -329,7 +329,7 @@ fn print_time(
     seen: u32,
 ) -> io::Result<()> {
     let time = time.min(1_000_000_000_000);
-    let hundredths = (time * 100) >> k.min(16);
+    let hundredths = (time * 100) >> k.min(20);
     let ratio = time * 100 / plain.clamp(1, 1_000_000_000_000);
     println!(rt;
         "{}: 2^{} gates, {}.{}{} ns a gate, {}.{}{} of the plain loops ({})",

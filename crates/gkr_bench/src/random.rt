@@ -38,7 +38,7 @@ impl Random {
         } else {
             Kind::Add
         };
-        let mask = (1u64 << k.min(16)) - 1;
+        let mask = (1u64 << k.min(20)) - 1;
         CircuitGate {
             kind,
             left: (self.next() & mask) as u32,
@@ -54,7 +54,7 @@ impl Random {
             right: 0,
         };
         let mut gates = vec![in alloc; zero]?;
-        for _ in 1..1u64 << k.min(16) {
+        for _ in 1..1u64 << k.min(20) {
             gates.push(self.gate(k))?;
         }
         Ok(gates)

@@ -118,7 +118,7 @@ fn lesser(one: StageTimes, other: StageTimes) -> StageTimes {
 
 /// The least of forty times of each stage. None where the layer isn't of that size.
 fn least_stages(rt: &HostRuntime, case: &LayerCase, k: u32) -> io::Result<Option<StageTimes>> {
-    let width = 1usize << k.min(16);
+    let width = 1usize << k.min(20);
     let mut buffers = Buffers::new(rt.alloc(), width, width)?;
     let mut least = StageTimes {
         times: [u64::MAX; 5],
@@ -136,7 +136,7 @@ fn least_stages(rt: &HostRuntime, case: &LayerCase, k: u32) -> io::Result<Option
 
 /// Prints the time of a stage as nanoseconds a gate with two digits.
 fn print_stage(rt: &HostRuntime, stage: &str, time: u64, k: u32, seen: u32) -> io::Result<()> {
-    let hundredths = (time.min(1_000_000_000_000) * 100) >> k.min(16);
+    let hundredths = (time.min(1_000_000_000_000) * 100) >> k.min(20);
     println!(rt;
         "{}: 2^{} gates, {}.{}{} ns a gate ({})",
         stage,

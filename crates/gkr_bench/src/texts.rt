@@ -1,6 +1,7 @@
 //! What texts of cases and bytes of proofs take.
 
 use crate::measure::{microseconds, numbers};
+use arr_ast::Lang;
 use case_text::{Case, Form, read_case, write_case};
 use circuit_core::Shape;
 use field_ext::{Ext, Fp};
@@ -32,7 +33,7 @@ fn case_with(program: Vec<u8>, inputs: Vec<Fp>, outputs: Vec<Fp>, proof: Vec<u8>
     if program.len() > 65_536 || proof.len() > 2_000_000 {
         return None;
     }
-    Some(Case::new(program, inputs, Some(outputs), Some(proof)))
+    Some(Case::new(Lang::One, program, inputs, Some(outputs), Some(proof)))
 }
 
 /// A case whose text has about so many kibibytes, half of them values and half of them the digits of a proof.
@@ -120,17 +121,17 @@ pub fn case(rt: &HostRuntime, kib: u32) -> io::Result<()> {
     }
 }
 
-/// The greatest shape: 256 layers of `2^16` positions above the input.
+/// The greatest shape: 1,024 layers of `2^20` positions above the input.
 fn greatest_shape(alloc: Global) -> io::Result<Shape> {
-    Ok(Shape::of(Vec::from_slice(alloc, &[16u32; 257])?))
+    Ok(Shape::of(Vec::from_slice(alloc, &[20u32; 1025])?))
 }
 
-/// Bytes that are a proof of the greatest shape: 256 layers of 32 messages of three elements, in version 2 of two, and of 17
+/// Bytes that are a proof of the greatest shape: 1,024 layers of 40 messages of three elements, in version 2 of two, and of 21
 /// elements.
 fn proof_bytes(alloc: Global, version: ProofVersion) -> io::Result<Vec<u8>> {
     let (magic, elements) = match version {
-        ProofVersion::One => (b"GKR1", 256 * 113u64),
-        ProofVersion::Two => (b"GKR2", 256 * 81u64),
+        ProofVersion::One => (b"GKR1", 1024 * 141u64),
+        ProofVersion::Two => (b"GKR2", 1024 * 101u64),
     };
     let mut bytes = Vec::from_slice(alloc, magic)?;
     for number in 0..elements {

@@ -3,6 +3,7 @@ use Rattle.std.proofs.Common.{◌≡◌, ℕ, List, ◌∷◌, length, subst, So
 use Rattle.field_ext.specs.Field.{F}
 use Rattle.sha2.specs.Sha256.{sha256}
 use Rattle.circuit_core.specs.Parts.{height}
+use Rattle.arr_ast.specs.declared.lang.Lang.TheVariants as langs
 use Rattle.case_text.specs.Content.{Content}
 use Rattle.case_text.specs.declared.reply.demo.DemoSummary.{DemoSummary}
 use Rattle.case_text.specs.declared.reply.Reply.{Reply}
@@ -29,7 +30,7 @@ same_summary one proofs number a b is is' =
     let outputs = same_some is'.proved.outputs (a.output ∷ is.output_is.others) (b.output ∷ is'.output_is.others)
     (subst (λ (p : Content). p.outputs ≡ Some (a.output ∷ is.output_is.others)) same is.output_is.outputs_are) is'.output_is.outputs_are in
     let proof = same_some is'.proved.proof is.proof is'.proof (subst (λ (p : Content). p.proof ≡ Some is.proof) same is.proof_is) is'.proof_is in
-    let parts = one.circuit (demo_case number).program is.parts is'.parts is.compiled is'.compiled in
+    let parts = one.circuit langs.One (demo_case number).program is.parts is'.parts is.compiled is'.compiled in
     let same_number : a.number ≡ b.number = is.number_is ∙ sym is'.number_is in
     let same_size : a.size ≡ b.size = is.size_is ∙ sym is'.size_is in
     let same_output : a.output ≡ b.output = head_is a.output b.output is.output_is.others is'.output_is.others outputs in

@@ -6,7 +6,6 @@ use Rattle.std.proofs.Math.Nat.{mul-le-mul}
 use Rattle.std.proofs.lemmas.List.FromFn.{length-range_with_len, length-map-range_with_len}
 use Rattle.std.proofs.lemmas.List.Filters.{length-filter_both}
 use Rattle.field_ext.specs.Field.{of}
-use Rattle.circuit_core.specs.Sound.{greatest}
 use Rattle.gkr_cmd.specs.Demo.{demo_case, demo_size}
 use Rattle.gkr_cmd.specs.Runs.{HasCircuit}
 use Rattle.circuit_core.proofs.api.Faultless.{unless_true}
@@ -15,9 +14,11 @@ use Rattle.layer_compile.specs.Circuits.{circuit_of, refusal_of, too_wide}
 use Rattle.layer_compile.specs.Levels.{height_of}
 use Rattle.layer_compile.specs.Rows.{row, is_at}
 use Rattle.layer_compile.proofs.api.Refusals.{accepted}
+use Rattle.arr_compile.specs.Circuits.{limits_of}
 use Rattle.arr_compile.proofs.api.SumLevels.{IsLow, length-adds, leaf-low, leaves-low, matmul-low, sum-low}
 use Rattle.arr_ast.specs.declared.expression.SingleFunction.TheVariants.{Sum}
 use Rattle.arr_ast.specs.declared.expression.PairFunction.TheVariants.{MatMul}
+use Rattle.arr_ast.specs.declared.lang.Lang.TheVariants as langs
 use Rattle.arr_ast.specs.declared.program.Dimensions.TheVariants as dimensions
 use Rattle.arr_ast.specs.declared.shape.ShapeOf.{ShapeOf}
 use Rattle.arr_ast.specs.declared.shape.ShapeOf.TheVariants.{Matrix}
@@ -29,11 +30,12 @@ use Rattle.arr_run.specs.declared.refused.CheckKind.TheVariants as kinds
 use Rattle.arr_run.specs.declared.refused.CheckRefused.TheVariants.{Bad}
 use Rattle.arr_run.specs.Agrees.{Answer, ◌>>=◌, each}
 use Rattle.arr_run.specs.Counting.{step_at, nodes_at}
+use Rattle.arr_run.specs.Definitions.{after_definitions}
 use Rattle.arr_run.specs.Expression.{Valued, value_of, added_value, times_value, single_value}
 use Rattle.arr_run.specs.Program.{after_input, after_top, if_any_output, input_shape, none_counted, outputs_at, run_of}
 use Rattle.arr_run.specs.Scope.{Names, binding_of}
 use Rattle.arr_run.specs.Shape.{size_of, pair_shape, single_shape}
-use Rattle.arr_run.specs.Statement.{State, state, if_free}
+use Rattle.arr_run.specs.State.{State, state, if_free}
 use Rattle.arr_run.proofs.api.Answered.{bind_ok, same_ok}
 use Rattle.arr_run.proofs.api.InputNodes.{input_shape-declared}
 use Rattle.node_core.specs.declared.node.Node.{Node}
@@ -98,21 +100,21 @@ abbrev both_names : ℕ → List ℕ → List ℕ → Names (List ℕ)
 both_names n a b = (1, Value (Matrix n n) a) ∷ (10, Value (Matrix n n) b) ∷ []
 
 product-is : (at at' at1 at2 n : ℕ) (a b : List ℕ) (counts : Counts) (kept : Kept) (found : Valued (List ℕ) Kept) →
-    value_of nodes (ExpressionOf (TermOf (Pair MatMul at at' (alone at1 1) (alone at2 10)) NoFactor) NoTerm) (both_names n a b) counts kept ≡ Ok found →
+    value_of nodes [] (ExpressionOf (TermOf (Pair MatMul at at' (alone at1 1) (alone at2 10)) NoFactor) NoTerm) (both_names n a b) counts kept ≡ Ok found →
     (found.1 ≡ (product_of n a b kept.nodes).items) × (found.3 ≡ record kept { nodes = (product_of n a b kept.nodes).nodes })
 product-is at at' at1 at2 n a b counts kept found e =
-    let last = bind_ok _ (added_value nodes NoTerm (both_names n a b)) found e in
-    let first = bind_ok _ (times_value nodes NoFactor (both_names n a b)) last.0 last.1 in
+    let last = bind_ok _ (added_value nodes [] NoTerm (both_names n a b)) found e in
+    let first = bind_ok _ (times_value nodes [] NoFactor (both_names n a b)) last.0 last.1 in
     let shaped = bind_ok (pair_shape MatMul at (Matrix n n) (Matrix n n) counts) _ first.0 first.1 in
     let same : first.0 ≡ found = same_ok first.0 last.0 first.2 ∙ same_ok last.0 found last.2 in
     let made = same_ok _ first.0 shaped.2 ∙ same in
     (sym (ap (λ (v : Valued (List ℕ) Kept). v.1) made), sym (ap (λ (v : Valued (List ℕ) Kept). v.3) made))
 
-total-is : (at n : ℕ) (a b : List ℕ) (counts : Counts) (kept : Kept) (found : Valued (List ℕ) Kept) → value_of nodes (total_at at) (both_names n a b) counts kept ≡ Ok found →
+total-is : (at n : ℕ) (a b : List ℕ) (counts : Counts) (kept : Kept) (found : Valued (List ℕ) Kept) → value_of nodes [] (total_at at) (both_names n a b) counts kept ≡ Ok found →
     (found.1 ≡ (total_of n a b kept.nodes).item ∷ []) × (found.3 ≡ record kept { nodes = (total_of n a b kept.nodes).nodes })
 total-is at n a b counts kept found e =
-    let last = bind_ok _ (added_value nodes NoTerm (both_names n a b)) found e in
-    let first = bind_ok _ (times_value nodes NoFactor (both_names n a b)) last.0 last.1 in
+    let last = bind_ok _ (added_value nodes [] NoTerm (both_names n a b)) found e in
+    let first = bind_ok _ (times_value nodes [] NoFactor (both_names n a b)) last.0 last.1 in
     let inner = bind_ok _ (single_value nodes Sum at) first.0 first.1 in
     let shaped = bind_ok (single_shape Sum at inner.0.0 inner.0.2) _ first.0 inner.2 in
     let same : first.0 ≡ found = same_ok first.0 last.0 first.2 ∙ same_ok last.0 found last.2 in
@@ -122,19 +124,19 @@ total-is at n a b counts kept found e =
       sym (ap (λ (v : Valued (List ℕ) Kept). v.3) made) ∙ (λ i. record (product.1 i) { nodes = (sum_node (product.0 i) (product.1 i).nodes).nodes }),
     )
 
-output-is : (at at' n : ℕ) (a b : List ℕ) (counts : Counts) (kept : Kept) (after : State (List ℕ) Kept) → after_top nodes (Output at (total_at at')) (state (both_names n a b) counts kept) ≡ Ok after →
+output-is : (at at' n : ℕ) (a b : List ℕ) (counts : Counts) (kept : Kept) (after : State (List ℕ) Kept) → after_top nodes [] (Output at (total_at at')) (state (both_names n a b) counts kept) ≡ Ok after →
     after.kept ≡ record { nodes = (total_of n a b kept.nodes).nodes; outputs = kept.outputs ++ (total_of n a b kept.nodes).item ∷ [] }
 output-is at at' n a b counts kept after e =
     let stepped = bind_ok (step_at at counts) _ after e in
-    let valued = bind_ok (value_of nodes (total_at at') (both_names n a b) stepped.0 kept) _ after stepped.2 in
+    let valued = bind_ok (value_of nodes [] (total_at at') (both_names n a b) stepped.0 kept) _ after stepped.2 in
     let counted = bind_ok (outputs_at at (size_of valued.0.0) valued.0.2) _ after valued.2 in
     let same = same_ok _ after counted.2 in
     let total = total-is at' n a b stepped.0 kept valued.0 valued.1 in
     sym (ap (λ (r : State (List ℕ) Kept). r.kept) same) ∙ (λ i. record (total.1 i) { outputs = (total.1 i).outputs ++ total.0 i })
 
-one_top : (top : TopTree) (before after : State (List ℕ) Kept) → each (after_top nodes) (top ∷ []) before ≡ Ok after → after_top nodes top before ≡ Ok after
+one_top : (top : TopTree) (before after : State (List ℕ) Kept) → each (after_top nodes []) (top ∷ []) before ≡ Ok after → after_top nodes [] top before ≡ Ok after
 one_top top before after e =
-    let first = bind_ok (after_top nodes top before) (each (after_top nodes) []) after e in
+    let first = bind_ok (after_top nodes [] top before) (each (after_top nodes []) []) after e in
     first.1 ∙ ap Ok (same_ok first.0 after first.2)
 
 any-kept : (end : ℕ) (before after : State (List ℕ) Kept) → if_any_output end before ≡ Ok after → before ≡ after
@@ -163,7 +165,7 @@ kept_of made = record { nodes = made; outputs = [] }
 abbrev kept_total : ℕ → Kept
 kept_total n = record { nodes = (total n).nodes; outputs = (total n).item ∷ [] }
 
-made-is : (n digits : ℕ) (after : State (List ℕ) Kept) → run_of nodes (tree_of n digits) none_made ≡ Ok after → after.kept ≡ kept_total n
+made-is : (n digits : ℕ) (after : State (List ℕ) Kept) → run_of nodes langs.One (tree_of n digits) none_made ≡ Ok after → after.kept ≡ kept_total n
 unfolding product total
 made-is n digits after e =
     let long : ℕ = 13 + 2 * digits in
@@ -171,14 +173,16 @@ made-is n digits after e =
     let two_input : InputTree = square_at long 10 n digits in
     let top : TopTree = Output (2 * long) (total_at (2 * long + 7)) in
     let end : ℕ = 2 * long + 24 in
-    let start : State (List ℕ) Kept = state [] none_counted none_made in
-    let whole = bind_ok (each (after_input nodes) (one_input ∷ two_input ∷ []) start >>= each (after_top nodes) (top ∷ [])) (if_any_output end) after e in
-    let begun = bind_ok (each (after_input nodes) (one_input ∷ two_input ∷ []) start) (each (after_top nodes) (top ∷ [])) whole.0 whole.1 in
-    let first = bind_ok (after_input nodes one_input start) (each (after_input nodes) (two_input ∷ [])) begun.0 begun.1 in
-    let second = bind_ok (after_input nodes two_input first.0) (each (after_input nodes) []) begun.0 first.2 in
+    let start : State (List ℕ) Kept = state [] (none_counted langs.One) none_made in
+    let inputs = each (after_input nodes) (one_input ∷ two_input ∷ []) start in
+    let whole = bind_ok (inputs >>= after_definitions [] [] >>= each (after_top nodes []) (top ∷ [])) (if_any_output end) after e in
+    let begun = bind_ok (inputs >>= after_definitions [] []) (each (after_top nodes []) (top ∷ [])) whole.0 whole.1 in
+    let read = bind_ok inputs (after_definitions [] []) begun.0 begun.1 in
+    let first = bind_ok (after_input nodes one_input start) (each (after_input nodes) (two_input ∷ [])) read.0 read.1 in
+    let second = bind_ok (after_input nodes two_input first.0) (each (after_input nodes) []) read.0 first.2 in
     let one = input-is 0 1 (0 + 6) (0 + 8) (0 + 10 + digits) n start first.0 first.1 in
     let two = input-is long 10 (long + 6) (long + 8) (long + 10 + digits) n first.0 second.0 second.1 in
-    let ended : second.0 ≡ begun.0 = same_ok second.0 begun.0 second.2 in
+    let ended : second.0 ≡ begun.0 = same_ok second.0 read.0 second.2 ∙ same_ok read.0 begun.0 read.2 in
     let leaf : List Node = map Input (range_with_len 0 (n * n)) in
     let many : length leaf ≡ 0 + n * n = length-map-range_with_len Input 0 (n * n) ∙ omega arith in
     let names : begun.0.names ≡ both_names n (lefts n) (rights n) =
@@ -192,8 +196,8 @@ made-is n digits after e =
     ∙ ap (λ (k : ℕ). kept_of (leaf ++ map Input (range_with_len k (n * n)))) many
     ∙ ap kept_of all in
     let same : begun.0 ≡ state (both_names n (lefts n) (rights n)) begun.0.counts (kept_of (leaves n)) = λ i. state (names i) begun.0.counts (kept i) in
-    let put : after_top nodes top (state (both_names n (lefts n) (rights n)) begun.0.counts (kept_of (leaves n))) ≡ Ok whole.0 =
-    ap (after_top nodes top) (sym same) ∙ one_top top begun.0 whole.0 begun.2 in
+    let put : after_top nodes [] top (state (both_names n (lefts n) (rights n)) begun.0.counts (kept_of (leaves n))) ≡ Ok whole.0 =
+    ap (after_top nodes [] top) (sym same) ∙ one_top top begun.0 whole.0 begun.2 in
     sym (ap (λ (r : State (List ℕ) Kept). r.kept) (any-kept end whole.0 after whole.2))
     ∙ output-is (2 * long) (2 * long + 7) n (lefts n) (rights n) begun.0.counts (kept_of (leaves n)) whole.0 put
 
@@ -206,11 +210,11 @@ left : (inputs : ℕ) (wanted : Kept) (x : Answer (State (List ℕ) Kept)) → (
 left inputs wanted (Ok after) is some = ap (λ (kept : Kept). Some (list_of inputs kept)) (is after refl)
 left inputs wanted (Err refused) is some = cc
 
-pub nodes_are : (n : ℕ) → 2 ≤ n → n ≤ 16 → nodes_of (demo_tree n) ≡ Some (demo_nodes n)
+pub nodes_are : (n : ℕ) → 2 ≤ n → n ≤ 16 → nodes_of langs.One (demo_tree n) ≡ Some (demo_nodes n)
 unfolding demo_nodes demo_tree
 nodes_are n least most =
-    left (count n) (kept_total n) (run_of nodes (demo_tree n) none_made) (λ after is. made-is n (length (digits_of n)) after is)
-    (has_nodes (demo_tree n) (text_accepted n least most).checked)
+    left (count n) (kept_total n) (run_of nodes langs.One (demo_tree n) none_made) (λ after is. made-is n (length (digits_of n)) after is)
+    (has_nodes langs.One (demo_tree n) (text_accepted n least most).checked)
 
 -- ---- they are laid out
 
@@ -258,12 +262,12 @@ height_small : (n : ℕ) → IsSmall n → height_of (demo_nodes n) ≤ 14
 unfolding demo_nodes
 height_small n is = omega (arith, is.low.low)
 
-pub fits : (n : ℕ) → 2 ≤ n → n ≤ 16 → refusal_of greatest (demo_nodes n) ≡ None
+pub fits : (n : ℕ) → 2 ≤ n → n ≤ 16 → refusal_of (limits_of langs.One) (demo_nodes n) ≡ None
 fits n least most =
     let is = small n least most in
     let low = height_small n is in
-    accepted greatest (demo_nodes n) (omega (arith, low))
-    (none_from_each (too_wide greatest (demo_nodes n)) (height_of (demo_nodes n) + 1) (λ h l.
+    accepted (limits_of langs.One) (demo_nodes n) (omega (arith, low))
+    (none_from_each (too_wide (limits_of langs.One) (demo_nodes n)) (height_of (demo_nodes n) + 1) (λ h l.
     unless_true _ _ (le-leb (1 + length (row (demo_nodes n) h)) (2 ^ 16) (omega (arith, row_short n h is)))))
 
 -- ---- the case has a circuit

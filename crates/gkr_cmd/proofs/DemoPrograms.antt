@@ -18,6 +18,7 @@ use Rattle.arr_parse.specs.Reading.{refusal}
 use Rattle.arr_check.specs.Program.{run_program}
 use Rattle.arr_compile.specs.Programs.{IsAccepted}
 use Rattle.gkr_cmd.specs.Demo.{square_text, demo_program}
+use Rattle.arr_ast.specs.declared.lang.Lang.TheVariants as langs
 
 -- the program of a size, by the digits of the size
 square_of : List ℕ → List ℕ → List ℕ
@@ -56,6 +57,7 @@ tree_of n digits =
     let long = 13 + 2 * digits in
     record {
       inputs = square_at 0 1 n digits ∷ square_at long 10 n digits ∷ [];
+      definitions = [];
       statements = Output (2 * long) (total_at (2 * long + 7)) ∷ [];
       end = 2 * long + 24;
     }
@@ -75,9 +77,9 @@ digits_of n = if nat_lt n 10 then (48 + n) ∷ [] else 49 ∷ (38 + n) ∷ []
 
 record IsFine (n : ℕ) : Type 0 where
   lexed : tokens_from 0 0 (program_of (digits_of n)) ≡ Ok (tokens_of (digits_of n))
-  read : refusal (length (program_of (digits_of n))) (Inputs ∷ []) (tokens_of (digits_of n)) ≡ None
-  tree : IsTreeOf (program_of (digits_of n)) (tokens_of (digits_of n)) (tree_of n (length (digits_of n)))
-  checked : IsTrue (is_ok (run_program (tree_of n (length (digits_of n)))))
+  read : refusal langs.One (length (program_of (digits_of n))) (Inputs ∷ []) (tokens_of (digits_of n)) ≡ None
+  tree : IsTreeOf langs.One (program_of (digits_of n)) (tokens_of (digits_of n)) (tree_of n (length (digits_of n)))
+  checked : IsTrue (is_ok (run_program langs.One (tree_of n (length (digits_of n)))))
 
 -- so many from one number on
 abbrev Each : (ℕ → Type 0) → ℕ → ℕ → Type 0
@@ -158,12 +160,12 @@ digits_are n most =
 unfoldable pub demo_tree : ℕ → ProgramTree
 demo_tree n = tree_of n (length (digits_of n))
 
-pub accepted : (n : ℕ) → 2 ≤ n → n ≤ 16 → IsAccepted (demo_program n) (demo_tree n)
+pub accepted : (n : ℕ) → 2 ≤ n → n ≤ 16 → IsAccepted langs.One (demo_program n) (demo_tree n)
 unfolding square_of program_of square_text demo_tree
 accepted n least most =
     let fine = one_of IsFine 2 15 each_fine n least (omega (arith, most)) in
-    let found : IsAccepted (program_of (digits_of n)) (demo_tree n) = record {
+    let found : IsAccepted langs.One (program_of (digits_of n)) (demo_tree n) = record {
       read = record { tokens = tokens_of (digits_of n); lexed = fine.lexed; read = fine.read; tree_of = fine.tree };
       checked = fine.checked;
     } in
-    subst (λ (digits : List ℕ). IsAccepted (program_of digits) (demo_tree n)) (sym (digits_are n most)) found
+    subst (λ (digits : List ℕ). IsAccepted langs.One (program_of digits) (demo_tree n)) (sym (digits_are n most)) found

@@ -8,6 +8,8 @@ use Rattle.std.specs.Prelude.{codes}
 use Rattle.field_ext.specs.Field.{F, of}
 use Rattle.sha2.specs.Sha256.{sha256}
 use Rattle.circuit_core.specs.Parts.{Parts, height}
+use Rattle.arr_ast.specs.declared.lang.Lang.{Lang}
+use Rattle.arr_ast.specs.declared.lang.Lang.TheVariants as langs
 use Rattle.arr_ast.specs.ProgramTree.{ProgramTree}
 use Rattle.arr_run.specs.Program.{input_count}
 use Rattle.arr_compile.specs.Programs.{IsRead}
@@ -16,10 +18,7 @@ use Rattle.arr_eval.specs.Meaning.{meaning}
 use Rattle.arr_lower.proofs.api.Counted.{is-list}
 use Rattle.gkr_layers.specs.declared.verdict.Verdict.TheVariants.{Accepted}
 use Rattle.case_text.specs.Content.{Content, Fits}
-use Rattle.case_text.specs.Sizes.{Sizes}
-use Rattle.case_text.specs.declared.reply.sizes.LayerSize.{LayerSize}
 use Rattle.case_text.specs.declared.reply.demo.DemoSummary.{DemoSummary}
-use Rattle.case_prove.specs.Circuits.{IsLaidOut, layer_size, sizes_of}
 use Rattle.proof_two.specs.declared.kind.ProofKind.TheVariants.{ByLines}
 use Rattle.proof_two.specs.declared.kind.ProofVersion.TheVariants.{One}
 use Rattle.case_prove.specs.Proved.{IsProved}
@@ -53,7 +52,7 @@ demo_fits number =
     record { program = omega (arith, first, second, whole, back); inputs = omega (arith, square, values); outputs = tt; proof = tt }
 
 abbrev case_of : List ℕ → List F → Content
-case_of program inputs = record { program = program; inputs = inputs; outputs = None; proof = None }
+case_of program inputs = record { lang = langs.One; program = program; inputs = inputs; outputs = None; proof = None }
 
 pub fits_as : (number n : ℕ) (program : List ℕ) (inputs : List F) → n ≡ demo_size number → program ≡ demo_program n → inputs ≡ demo_inputs number (2 * (n * n)) → Fits (case_of program inputs)
 fits_as number n program inputs size program_is inputs_are =
@@ -74,20 +73,20 @@ one_more number j x old new was put is =
 
 -- a text has one tree, and its circuit computes what the program means
 pub record IsComputed : Type 0 where
-  pub tree : (text : List ℕ) (a b : ProgramTree) → IsRead text a → IsRead text b → a ≡ b
-  pub inputs : (text : List ℕ) (parts : Parts) (is : IsCompiled text parts) → parts.inputs ≡ input_count is.tree.inputs
-  pub computes : (text : List ℕ) (parts : Parts) (is : IsCompiled text parts) (inputs : List F) → length inputs ≡ parts.inputs → Computes is.tree parts inputs
+  pub tree : (lang : Lang) (text : List ℕ) (a b : ProgramTree) → IsRead lang text a → IsRead lang text b → a ≡ b
+  pub inputs : (lang : Lang) (text : List ℕ) (parts : Parts) (is : IsCompiled lang text parts) → parts.inputs ≡ input_count is.tree.inputs
+  pub computes : (lang : Lang) (text : List ℕ) (parts : Parts) (is : IsCompiled lang text parts) (inputs : List F) → length inputs ≡ parts.inputs → Computes lang is.tree parts inputs
 
 -- a case that is proved has an output
 pub some_output : IsComputed → (c p : Content) (is : IsProved (ByLines One) c p) → 1 ≤ length is.outputs
 some_output laws c p is =
     let accepted = is.evaluated in
-    let same = laws.tree c.program is.compiled.tree accepted.tree is.compiled.lowered.accepted.read accepted.accepted.read in
+    let same = laws.tree c.lang c.program is.compiled.tree accepted.tree is.compiled.lowered.accepted.read accepted.accepted.read in
     let counted : length c.inputs ≡ is.parts.inputs =
-    accepted.counted ∙ ap (λ (t : ProgramTree). input_count t.inputs) (sym same) ∙ sym (laws.inputs c.program is.parts is.compiled) in
-    let computed = laws.computes c.program is.parts is.compiled c.inputs counted in
-    let outputs = same_some (meaning is.compiled.tree c.inputs) computed.outputs is.outputs computed.meaning_is (ap (λ (t : ProgramTree). meaning t c.inputs) same ∙ accepted.meaning_is) in
-    let has_one = (is-list is.compiled.tree is.compiled.nodes is.compiled.lowered.nodes_are).has_output in
+    accepted.counted ∙ ap (λ (t : ProgramTree). input_count t.inputs) (sym same) ∙ sym (laws.inputs c.lang c.program is.parts is.compiled) in
+    let computed = laws.computes c.lang c.program is.parts is.compiled c.inputs counted in
+    let outputs = same_some (meaning c.lang is.compiled.tree c.inputs) computed.outputs is.outputs computed.meaning_is (ap (λ (t : ProgramTree). meaning c.lang t c.inputs) same ∙ accepted.meaning_is) in
+    let has_one = (is-list c.lang is.compiled.tree is.compiled.nodes is.compiled.lowered.nodes_are).has_output in
     let as_many : length is.outputs ≡ length is.compiled.nodes.outputs =
     ap length (sym outputs) ∙ computed.as_many ∙ ap (λ (q : Parts). q.outputs) is.compiled.laid_out in
     omega (arith, has_one, as_many)
@@ -104,13 +103,13 @@ first_is outputs (y ∷ ys) x d is some read = record { others = ys; outputs_are
 
 -- ---- what is reported
 
-pub reported : (number : ℕ) (s : DemoSummary) (c p : Content) (parts : Parts) (proof : List ℕ) → c ≡ demo_case number → IsCompiled c.program parts → IsProved (ByLines One) c p → IsVerdictOn p Accepted → HasFirst p.outputs s.output → p.proof ≡ Some proof
+pub reported : (number : ℕ) (s : DemoSummary) (c p : Content) (parts : Parts) (proof : List ℕ) → c ≡ demo_case number → IsCompiled c.lang c.program parts → IsProved (ByLines One) c p → IsVerdictOn p Accepted → HasFirst p.outputs s.output → p.proof ≡ Some proof
     → s.number ≡ number → s.size ≡ demo_size number → s.layers ≡ height parts → s.proof ≡ length proof → s.digest ≡ sha256 proof → IsDemo number s
 reported number s c p parts proof case compiled proved accepted first proof_is number_is size_is layers_are length_is digest_is = record {
   number_is = number_is;
   size_is = size_is;
   parts = parts;
-  compiled = subst (λ (d : Content). IsCompiled d.program parts) case compiled;
+  compiled = subst (λ (d : Content). IsCompiled d.lang d.program parts) case compiled;
   layers_are = layers_are;
   proved = p;
   is_proved = subst (λ (d : Content). IsProved (ByLines One) d p) case proved;

@@ -32,7 +32,7 @@ pub record IsOneProof : Type 0 where
 
 -- why a case is refused
 pub data Refusal (form : ProofForm) (c : Content) : Reply → Type 0 where
-  refused : (bad : BadProgram) → IsCircuitRefusal c.program bad → Refusal form c (reply_to bad)
+  refused : (bad : BadProgram) → IsCircuitRefusal c.lang c.program bad → Refusal form c (reply_to bad)
   miscounted : (have need : ℕ) → IsCircuitMiscounted c have need → Refusal form c (replies.InputCount have need)
   outputs_miscounted : (have need : ℕ) → IsOutputMiscounted c have need → Refusal form c (replies.OutputCount have need)
   bad_proof : (bad : BadProof) → IsBadProof form c bad → Refusal form c (replies.Proof bad)
@@ -59,7 +59,7 @@ refusal form c (replies.WordCount have need) is = absurd is
 refusal form c (replies.Session sizes) is = absurd is
 
 pub same_parts : IsOne → (c : Content) (p p' : Parts) (o o' : List F) → IsClaim c p o → IsClaim c p' o' → p ≡ p'
-same_parts one c p p' o o' is is' = one.circuit c.program p p' is.compiled is'.compiled
+same_parts one c p p' o o' is is' = one.circuit c.lang c.program p p' is.compiled is'.compiled
 
 pub same_outputs : (c : Content) (p p' : Parts) (o o' : List F) → IsClaim c p o → IsClaim c p' o' → o ≡ o'
 same_outputs c p p' o o' is is' = one_value c.outputs o o' is.outputs_are is'.outputs_are
@@ -68,8 +68,8 @@ same_outputs c p p' o o' is is' = one_value c.outputs o o' is.outputs_are is'.ou
 no_claim : IsOne → (c : Content) (have need : ℕ) (p : Parts) (o : List F) → IsCircuitMiscounted c have need → IsClaim c p o → ⊥
 no_claim one c have need p o is claim = counted_or_not one c have need p claim.compiled claim.counted is
 
-not_refused : IsOne → (c : Content) (bad : BadProgram) (p : Parts) (o : List F) → IsCircuitRefusal c.program bad → IsClaim c p o → ⊥
-not_refused one c bad p o is claim = one.either c.program p bad claim.compiled is
+not_refused : IsOne → (c : Content) (bad : BadProgram) (p : Parts) (o : List F) → IsCircuitRefusal c.lang c.program bad → IsClaim c p o → ⊥
+not_refused one c bad p o is claim = one.either c.lang c.program p bad claim.compiled is
 
 as_many_or_not : IsOne → (c : Content) (have need : ℕ) (p : Parts) (o : List F) → IsOutputMiscounted c have need → IsClaim c p o → length o ≡ p.outputs → ⊥
 as_many_or_not one c have need p o is claim many =
@@ -99,11 +99,11 @@ spelled_or_not one proofs form c bad p o messages is has =
 
 -- a case has one refusal
 pub one_refusal : IsOne → IsOneProof → (form : ProofForm) (c : Content) {a b : Reply} → Refusal form c a → Refusal form c b → a ≡ b
-one_refusal one proofs form c (refused bad is) (refused bad' is') = ap reply_to (one.refusal c.program bad bad' is is')
-one_refusal one proofs form c (refused bad is) (miscounted have need is') = absurd (one.either c.program is'.parts bad is'.compiled is)
+one_refusal one proofs form c (refused bad is) (refused bad' is') = ap reply_to (one.refusal c.lang c.program bad bad' is is')
+one_refusal one proofs form c (refused bad is) (miscounted have need is') = absurd (one.either c.lang c.program is'.parts bad is'.compiled is)
 one_refusal one proofs form c (refused bad is) (outputs_miscounted have need is') = absurd (not_refused one c bad is'.parts is'.outputs is is'.claim)
 one_refusal one proofs form c (refused bad is) (bad_proof bad' is') = absurd (not_refused one c bad is'.parts is'.outputs is is'.claim)
-one_refusal one proofs form c (miscounted have need is) (refused bad is') = absurd (one.either c.program is.parts bad is.compiled is')
+one_refusal one proofs form c (miscounted have need is) (refused bad is') = absurd (one.either c.lang c.program is.parts bad is.compiled is')
 one_refusal one proofs form c (miscounted have need is) (miscounted have' need' is') = same_counts one c have have' need need' is is'
 one_refusal one proofs form c (miscounted have need is) (outputs_miscounted have' need' is') = absurd (no_claim one c have need is'.parts is'.outputs is is'.claim)
 one_refusal one proofs form c (miscounted have need is) (bad_proof bad is') = absurd (no_claim one c have need is'.parts is'.outputs is is'.claim)

@@ -56,7 +56,7 @@ proved_of workers kind command input content reply is replied done read =
 
 -- by the laws of proved cases the text is one of an accepted case
 pub accepted_text : (kind : ProofKind) → ((c p : Content) → IsProved kind c p → IsVerdictOn p verdicts.Accepted) → ((c p : Content) → Fits c → IsProved kind c p → Spells Full (lower_case_text p) p)
-    → ((c p : Content) → Fits c → IsProved kind c p → length (lower_case_text p) < 4194304) → ((form : Form) (bytes : List ℕ) (c : Content) → (reading form bytes ≡ Ok c) ↔ Spells form bytes c)
+    → ((c p : Content) → Fits c → IsProved kind c p → length (lower_case_text p) < 8388608) → ((form : Form) (bytes : List ℕ) (c : Content) → (reading form bytes ≡ Ok c) ↔ Spells form bytes c)
     → (input : List ℕ) (c p : Content) → reading Plain input ≡ Ok c → IsProved kind c p → IsOfCase Full (lower_case_text p) HasAcceptedProof
 accepted_text kind accepted full short exactly input c p read is =
     let spelled = (exactly Plain input c).0 read in

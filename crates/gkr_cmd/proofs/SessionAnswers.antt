@@ -29,7 +29,7 @@ OneSession = (c : Content) (words : List F) (some others : SessionSizes) → IsS
 
 -- what is said of a case and its words
 data Answer (s : SessionContent) : Reply → Type 0 where
-  refused : (bad : BadProgram) → IsCircuitRefusal s.case.program bad → Answer s (reply_to bad)
+  refused : (bad : BadProgram) → IsCircuitRefusal s.case.lang s.case.program bad → Answer s (reply_to bad)
   miscounted : (have need : ℕ) → IsCircuitMiscounted s.case have need → Answer s (replies.InputCount have need)
   unpaired : (have need : ℕ) → IsWordMiscounted s.case s.words have need → Answer s (replies.WordCount have need)
   ended : (sizes : SessionSizes) → IsSession s.case s.words sizes → Answer s (replies.Session sizes)
@@ -63,30 +63,30 @@ found input (replies.Audit lines) is = absurd is.holds
 
 same_words : IsOne → (c : Content) (words : List F) (have have' need need' : ℕ) → IsWordMiscounted c words have need → IsWordMiscounted c words have' need' → replies.WordCount have need ≡ replies.WordCount have' need'
 same_words one c words have have' need need' is is' =
-    let same = one.circuit c.program is.parts is'.parts is.compiled is'.compiled in
+    let same = one.circuit c.lang c.program is.parts is'.parts is.compiled is'.compiled in
     let same_have : have ≡ have' = is.session_has ∙ sym is'.session_has in
     let same_need : need ≡ need' = is.circuit_needs ∙ ap (λ (p : Parts). 2 * challenges_of p) same ∙ sym is'.circuit_needs in
     rw (same_have, same_need) refl
 
 paired_or_not : IsOne → (c : Content) (words : List F) (have need : ℕ) (p : Parts) → IsPaired c words p → IsWordMiscounted c words have need → ⊥
 paired_or_not one c words have need p paired is =
-    let same = one.circuit c.program p is.parts paired.compiled is.compiled in
+    let same = one.circuit c.lang c.program p is.parts paired.compiled is.compiled in
     is.differ (is.session_has ∙ paired.paired ∙ ap (λ (q : Parts). 2 * challenges_of q) same ∙ sym is.circuit_needs)
 
 one_answer : IsOne → OneSession → (s : SessionContent) {a b : Reply} → Answer s a → Answer s b → a ≡ b
-one_answer one sizes s (refused bad is) (refused bad' is') = ap reply_to (one.refusal s.case.program bad bad' is is')
-one_answer one sizes s (refused bad is) (miscounted have need is') = absurd (one.either s.case.program is'.parts bad is'.compiled is)
-one_answer one sizes s (refused bad is) (unpaired have need is') = absurd (one.either s.case.program is'.parts bad is'.compiled is)
-one_answer one sizes s (refused bad is) (ended size is') = absurd (one.either s.case.program is'.parts bad is'.paired.compiled is)
-one_answer one sizes s (miscounted have need is) (refused bad is') = absurd (one.either s.case.program is.parts bad is.compiled is')
+one_answer one sizes s (refused bad is) (refused bad' is') = ap reply_to (one.refusal s.case.lang s.case.program bad bad' is is')
+one_answer one sizes s (refused bad is) (miscounted have need is') = absurd (one.either s.case.lang s.case.program is'.parts bad is'.compiled is)
+one_answer one sizes s (refused bad is) (unpaired have need is') = absurd (one.either s.case.lang s.case.program is'.parts bad is'.compiled is)
+one_answer one sizes s (refused bad is) (ended size is') = absurd (one.either s.case.lang s.case.program is'.parts bad is'.paired.compiled is)
+one_answer one sizes s (miscounted have need is) (refused bad is') = absurd (one.either s.case.lang s.case.program is.parts bad is.compiled is')
 one_answer one sizes s (miscounted have need is) (miscounted have' need' is') = same_counts one s.case have have' need need' is is'
 one_answer one sizes s (miscounted have need is) (unpaired have' need' is') = absurd (counted_or_not one s.case have need is'.parts is'.compiled is'.counted is)
 one_answer one sizes s (miscounted have need is) (ended size is') = absurd (counted_or_not one s.case have need is'.parts is'.paired.compiled is'.paired.counted is)
-one_answer one sizes s (unpaired have need is) (refused bad is') = absurd (one.either s.case.program is.parts bad is.compiled is')
+one_answer one sizes s (unpaired have need is) (refused bad is') = absurd (one.either s.case.lang s.case.program is.parts bad is.compiled is')
 one_answer one sizes s (unpaired have need is) (miscounted have' need' is') = absurd (counted_or_not one s.case have' need' is.parts is.compiled is.counted is')
 one_answer one sizes s (unpaired have need is) (unpaired have' need' is') = same_words one s.case s.words have have' need need' is is'
 one_answer one sizes s (unpaired have need is) (ended size is') = absurd (paired_or_not one s.case s.words have need is'.parts is'.paired is)
-one_answer one sizes s (ended size is) (refused bad is') = absurd (one.either s.case.program is.parts bad is.paired.compiled is')
+one_answer one sizes s (ended size is) (refused bad is') = absurd (one.either s.case.lang s.case.program is.parts bad is.paired.compiled is')
 one_answer one sizes s (ended size is) (miscounted have need is') = absurd (counted_or_not one s.case have need is.parts is.paired.compiled is.paired.counted is')
 one_answer one sizes s (ended size is) (unpaired have need is') = absurd (paired_or_not one s.case s.words have need is.parts is.paired is')
 one_answer one sizes s (ended size is) (ended size' is') = ap replies.Session (sizes s.case s.words size size' is is')
@@ -119,7 +119,7 @@ one_session one sizes input a b is is' = one_found one sizes input (found input 
 -- ---- the reply to a case that has a circuit, with two words for each challenge
 
 answer_done : IsOne → (s : SessionContent) {reply : Reply} → HasWords s → Answer s reply → status_of reply ≡ Done
-answer_done one s has (refused bad is) = absurd (one.either s.case.program has.parts bad has.paired.compiled is)
+answer_done one s has (refused bad is) = absurd (one.either s.case.lang s.case.program has.parts bad has.paired.compiled is)
 answer_done one s has (miscounted have need is) = absurd (counted_or_not one s.case have need has.parts has.paired.compiled has.paired.counted is)
 answer_done one s has (unpaired have need is) = absurd (paired_or_not one s.case s.words have need has.parts has.paired is)
 answer_done one s has (ended sizes is) = refl

@@ -4,6 +4,7 @@ use Rattle.std.specs.List.{concat, range_with_len}
 use Rattle.sha2.specs.Sha256.{sha256}
 use Rattle.field_ext.specs.Field.{F, of}
 use Rattle.circuit_core.specs.Parts.{Parts, height}
+use Rattle.arr_ast.specs.declared.lang.Lang.TheVariants as langs
 use Rattle.arr_compile.specs.Circuits.{IsCompiled}
 use Rattle.gkr_layers.specs.declared.verdict.Verdict.TheVariants.{Accepted}
 use Rattle.proof_two.specs.declared.kind.ProofKind.TheVariants.{ByLines}
@@ -35,6 +36,7 @@ abbrev pub demo_case : ℕ → Content
 demo_case number =
     let n = demo_size number in
     record {
+      lang = langs.One;
       program = demo_program n;
       inputs = demo_inputs number (2 * (n * n));
       outputs = None;
@@ -52,7 +54,7 @@ pub record IsDemo (number : ℕ) (summary : DemoSummary) : Type 0 where
   pub number_is : summary.number ≡ number
   pub size_is : summary.size ≡ demo_size number
   pub parts : Parts
-  pub compiled : IsCompiled (demo_program (demo_size number)) parts
+  pub compiled : IsCompiled langs.One (demo_program (demo_size number)) parts
   pub layers_are : summary.layers ≡ height parts
   pub proved : Content
   pub is_proved : IsProved (ByLines One) (demo_case number) proved

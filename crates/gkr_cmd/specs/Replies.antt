@@ -67,25 +67,27 @@ pub record IsTooLong (most : ℕ) (input : List ℕ) (limit : ℕ) : Type 0 wher
 
 -- when a reply is what `eval` says of a case
 abbrev pub IsEvalAnswer : Content → Reply → Type 0
-IsEvalAnswer c (replies.Program kind at) = IsRefusedAs c.program at kind
+IsEvalAnswer c (replies.Program kind at) = IsRefusedAs c.lang c.program at kind
 IsEvalAnswer c (replies.InputCount have need) = IsMiscounted c have need
 IsEvalAnswer c (replies.Outputs outputs) = IsEvaluated c outputs
 IsEvalAnswer c reply = ⊥
 
 -- when a reply is what `circuit` says of a case
 abbrev pub IsCircuitAnswer : Content → Reply → Type 0
-IsCircuitAnswer c (replies.Program kind at) = IsRefusedAs c.program at kind
-IsCircuitAnswer c (replies.Deep levels) = IsTooLarge c.program (layout.Deep levels)
-IsCircuitAnswer c (replies.Wide height width) = IsTooLarge c.program (layout.Wide height width)
+IsCircuitAnswer c (replies.Program kind at) = IsRefusedAs c.lang c.program at kind
+IsCircuitAnswer c (replies.Deep levels) = IsTooLarge c.lang c.program (layout.Deep levels)
+IsCircuitAnswer c (replies.Wide height width) =
+    IsTooLarge c.lang c.program (layout.Wide height width)
 IsCircuitAnswer c (replies.InputCount have need) = IsCircuitMiscounted c have need
 IsCircuitAnswer c (replies.Circuit sizes) = IsLaidOut c sizes
 IsCircuitAnswer c reply = ⊥
 
 -- when a reply is the refusal of a case whose proof is read as one of this form
 abbrev pub IsProofRefusal : ProofForm → Content → Reply → Type 0
-IsProofRefusal form c (replies.Program kind at) = IsRefusedAs c.program at kind
-IsProofRefusal form c (replies.Deep levels) = IsTooLarge c.program (layout.Deep levels)
-IsProofRefusal form c (replies.Wide height width) = IsTooLarge c.program (layout.Wide height width)
+IsProofRefusal form c (replies.Program kind at) = IsRefusedAs c.lang c.program at kind
+IsProofRefusal form c (replies.Deep levels) = IsTooLarge c.lang c.program (layout.Deep levels)
+IsProofRefusal form c (replies.Wide height width) =
+    IsTooLarge c.lang c.program (layout.Wide height width)
 IsProofRefusal form c (replies.InputCount have need) = IsCircuitMiscounted c have need
 IsProofRefusal form c (replies.OutputCount have need) = IsOutputMiscounted c have need
 IsProofRefusal form c (replies.Proof bad) = IsBadProof form c bad
@@ -164,10 +166,10 @@ pub record IsNoSession (input : List ℕ) (bad : BadCase) : Type 0 where
 
 -- when a reply is what `session` says of a case and its words
 abbrev pub IsSessionAnswer : SessionContent → Reply → Type 0
-IsSessionAnswer s (replies.Program kind at) = IsRefusedAs s.case.program at kind
-IsSessionAnswer s (replies.Deep levels) = IsTooLarge s.case.program (layout.Deep levels)
+IsSessionAnswer s (replies.Program kind at) = IsRefusedAs s.case.lang s.case.program at kind
+IsSessionAnswer s (replies.Deep levels) = IsTooLarge s.case.lang s.case.program (layout.Deep levels)
 IsSessionAnswer s (replies.Wide height width) =
-    IsTooLarge s.case.program (layout.Wide height width)
+    IsTooLarge s.case.lang s.case.program (layout.Wide height width)
 IsSessionAnswer s (replies.InputCount have need) = IsCircuitMiscounted s.case have need
 IsSessionAnswer s (replies.WordCount have need) = IsWordMiscounted s.case s.words have need
 IsSessionAnswer s (replies.Session sizes) = IsSession s.case s.words sizes

@@ -58,7 +58,7 @@ pub record RunLaws : Type 0 where
   pub proved_full : (kind : ProofKind) (c p : Content) → Fits c → IsProved kind c p
       → Spells Full (lower_case_text p) p
   pub proved_short : (kind : ProofKind) (c p : Content) → Fits c → IsProved kind c p
-      → length (lower_case_text p) < 4194304
+      → length (lower_case_text p) < 8388608
   pub convertible : (version : ProofVersion) (input : List ℕ) (reply : Reply)
       → IsCaseReply Full (IsConvertAnswer version) input reply
       → IsOfCase Full input (IsConvertible version) → status_of reply ≡ statuses.Done
@@ -68,6 +68,6 @@ pub record RunLaws : Type 0 where
   pub converted_full : (version : ProofVersion) (c written : Content) → Fits c
       → IsConverted version c written → Spells Full (lower_case_text written) written
   pub converted_short : (version : ProofVersion) (c written : Content) → Fits c
-      → IsConverted version c written → length (lower_case_text written) < 4194304
+      → IsConverted version c written → length (lower_case_text written) < 8388608
   pub exactly : (form : Form) (bytes : List ℕ) (c : Content)
       → (reading form bytes ≡ Ok c) ↔ Spells form bytes c

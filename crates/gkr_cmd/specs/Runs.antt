@@ -84,13 +84,13 @@ WritesNoMore status words input before after = WritesReplyPrefix words input bef
 -- A case whose program is accepted and which has as many inputs.
 pub record IsEvaluable (c : Content) : Type 0 where
   pub tree : ProgramTree
-  pub accepted : IsAccepted c.program tree
+  pub accepted : IsAccepted c.lang c.program tree
   pub counted : length c.inputs ≡ input_count tree.inputs
 
 -- A case whose program has a circuit with as many inputs.
 pub record HasCircuit (c : Content) : Type 0 where
   pub parts : Parts
-  pub compiled : IsCompiled c.program parts
+  pub compiled : IsCompiled c.lang c.program parts
   pub counted : length c.inputs ≡ parts.inputs
 
 -- A case with as many inputs and outputs as its program's circuit, and with a proof by lines, in either version, of the circuit's

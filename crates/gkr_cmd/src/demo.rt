@@ -13,6 +13,7 @@ ghost use Rattle.gkr_cmd.specs.Replies.{IsDemoAnswer};
 
 use crate::laws::demo_has_circuit;
 use crate::reply_error::ReplyError;
+use arr_ast::Lang;
 use arr_compile::laws::{
     circuit_computes, compiled_or_refused, one_circuit, one_circuit_refusal, one_tree,
 };
@@ -83,7 +84,7 @@ fn demo_case(alloc: Global, number: u32) -> Result<Case, AllocError>
     let size = demo_size(number);
     let program = demo_program(alloc, size)?;
     let inputs = demo_inputs(alloc, number, 2 * (size * size))?;
-    Ok(Case::new(program, inputs, None, None))
+    Ok(Case::new(Lang::One, program, inputs, None, None))
 }
 
 /// The program that sums the elements of the product of two matrices of a size.
@@ -124,7 +125,7 @@ fn demo_inputs(alloc: Global, number: u32, count: u32) -> Result<Vec<Fp>, AllocE
 
 /// Verifies a case that was proved for its circuit, which is always accepted.
 fn accept(alloc: Global, case: &Case, circuit: &Circuit, proved: &Case) -> Result<(), ReplyError>
-    requires compiled { IsCompiled case.now.program circuit.now.parts }
+    requires compiled { IsCompiled case.now.lang case.now.program circuit.now.parts }
     requires counted { length case.now.inputs ≡ circuit.now.parts.inputs }
     requires proved { IsProved (ProofKind.ByLines ProofVersion.One) case.now proved.now }
     ensures accepted { OnOk result (IsVerdictOn proved.now Accepted) }
@@ -174,7 +175,7 @@ fn proof_of(proved: &Case) -> &[u8]
 /// The summary of the case of a number that was proved and accepted, where its program is laid out as this circuit.
 fn summary(number: u32, circuit: &Circuit, case: &Case, proved: &Case) -> DemoSummary
     requires case { case.now ≡ demo_case number }
-    requires compiled { IsCompiled case.now.program circuit.now.parts }
+    requires compiled { IsCompiled case.now.lang case.now.program circuit.now.parts }
     requires proved { IsProved (ProofKind.ByLines ProofVersion.One) case.now proved.now }
     requires accepted { IsVerdictOn proved.now Accepted }
     ensures { IsDemo number result }

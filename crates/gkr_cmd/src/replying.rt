@@ -24,7 +24,7 @@ use std::sync::Wait;
 use std::thread::Threads;
 
 /// The most bytes of a case.
-pub(crate) const CASE_LIMIT: u32 = 4_194_304;
+pub(crate) const CASE_LIMIT: u32 = 8_388_608;
 
 /// Whether these are more bytes than those of a case.
 fn is_too_long(input: &[u8]) -> bool

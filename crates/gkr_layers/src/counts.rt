@@ -39,7 +39,7 @@ pub fn bound_sum_pair(circuit: &Circuit) -> usize
 /// The coordinates of the layers below the outputs, together.
 pub fn width_below(circuit: &Circuit) -> usize
     ensures sum { result ≡ total_exponent (layers_of circuit.now.parts) }
-    ensures most { result ≤ 16 * height circuit.now.parts }
+    ensures most { result ≤ 20 * height circuit.now.parts }
 {
     let mut width = 0;
     for layer in 0..circuit.height() {

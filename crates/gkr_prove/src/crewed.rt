@@ -15,9 +15,9 @@ use std::thread::Threads;
 use sumcheck_prove::{Job, Jobs, Summed, bind_by, round_by};
 use transcript_fs::Challenges;
 
-/// The most rounds of a crew in a layer: in each phase a layer of `2^16` values has five rounds wide enough, and each of them is
+/// The most rounds of a crew in a layer: in each phase a layer of `2^20` values has nine rounds wide enough, and each of them is
 /// two of a crew.
-const ROUNDS: u32 = 20;
+const ROUNDS: u32 = 36;
 
 /// What the lead of a layer's crew has.
 #[derive(Drop)]
@@ -110,7 +110,7 @@ pub(crate) fn run_crew<'a, 'c, R: Threads + Wait + Sync, C: Challenges + Send, G
     gate: &G,
     lead: LayerLead<'a, 'c, C>,
 ) -> LedRounds<'c, C>
-    requires parts { (1 ≤ parts) × (parts ≤ 32) }
+    requires parts { (1 ≤ parts) × (parts ≤ 512) }
     requires workers { IsCrewCount workers }
     requires begun { lead.tables.bound ≡ [] }
     requires here { lead.tables.lent ≡ [] }

@@ -22,7 +22,7 @@ pub fn last_message(
     left: &[Ext],
     right: &[Ext],
 ) -> Result<Vec<Ext>, AllocError>
-    requires most { values.now.k ≤ 16 }
+    requires most { values.now.k ≤ 20 }
     requires left { length left.now ≡ values.now.k }
     requires right { length right.now ≡ values.now.k }
     ensures { IfOk result (λ last. last.items ≡ coefficients k_ops

@@ -34,7 +34,7 @@ pub(crate) struct ProvedLayer {
     pub(crate) buffers: Buffers,
 }
 
-/// Proves a layer of at most 65,536 gates over the values of the layer below, at the place of the claim on it.
+/// Proves a layer of at most 1,048,576 gates over the values of the layer below, at the place of the claim on it.
 pub(crate) fn prove_layer<R: Threads + Wait + Sync, C: Challenges + Send, G: Gate>(
     rt: &R,
     alloc: Global,
@@ -49,7 +49,7 @@ pub(crate) fn prove_layer<R: Threads + Wait + Sync, C: Challenges + Send, G: Gat
 ) -> Result<ProvedLayer, AllocError>
     requires workers { IsWorkerCount workers }
     requires layer { IsLayer K values.now.k gates.now values.now.items (place_of place.now) }
-    requires few { length gates.now ≤ 65536 }
+    requires few { length gates.now ≤ 1048576 }
     requires has { IsTrue
         (C.source.has (C.state challenges.old) (values.now.k + values.now.k + 1)) }
     ensures honest { IfOk result (λ proved. let qs = messages_of proved.messages in

@@ -21,7 +21,7 @@ use transcript_fs::Challenges;
 const PAIRS_FOR_A_CREW: usize = 2048;
 
 /// The most parts that the tables of a layer have.
-const PARTS: usize = 32;
+const PARTS: usize = 512;
 
 /// The messages of all rounds of a layer, the challenge after each, and the buffers that the layer used.
 #[derive(Drop)]

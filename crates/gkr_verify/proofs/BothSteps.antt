@@ -1,16 +1,21 @@
 -- Sums with weights at two points, one more position at a time
-use Rattle.std.proofs.Common.{◌≡◌, ℕ, zero, suc, ◌+◌, ◌<◌, List, [], ◌∷◌, length, drop, get_or, refl, sym, ◌∙◌, ap, ap₂, subst, ◌≤◌}
+use Rattle.std.proofs.Common.{◌≡◌, ℕ, zero, suc, ◌+◌, ◌*◌, ◌^◌, ◌<◌, List, [], ◌∷◌, length, drop, get_or, refl, sym, ◌∙◌, ap, ap₂, subst, arith, ◌≤◌}
 use Rattle.field_ext.specs.Ring.{Ops, Laws}
 use Rattle.field_ext.specs.Field.{K, k_ops, add_k, mul_k, zero_k}
 use Rattle.field_ext.specs.Sums.{sum_below}
 use Rattle.field_ext.specs.Multilinear.{eq_poly}
 use Rattle.field_ext.proofs.api.Solve.{var, nil, ◌⊕◌, ◌⊗◌, solve}
+use Rattle.mle_table.proofs.api.EqualitySteps.{pow_up}
 use Rattle.circuit_core.specs.declared.gate.Kind.{Kind}
 use Rattle.circuit_core.specs.declared.gate.Kind.TheVariants.{Add, Mul}
 use Rattle.circuit_core.specs.declared.gate.CircuitGate.{CircuitGate}
 use Rattle.wiring_poly.specs.Wiring.{by_kind, sum_gates}
 use Rattle.wiring_poly.proofs.api.GateSteps.{summed_none, summed_more, summed_all}
 use Rattle.field_ext.proofs.api.KLaws.{k_laws}
+
+-- positions that fit in 20 coordinates have few blocks
+pub few_blocks : (block blocks size n : ℕ) → block < blocks → blocks * 1024 < size + 1024 → size ≤ 2 ^ n → n ≤ 20 → block < 1024
+few_blocks block blocks size n u bound fits few = let most : 2 ^ n ≤ 1048576 = pow_up n 20 few in omega (arith, u, bound, fits, most)
 
 module _ {A : Type 0} (o : Ops A) (l : Laws A o) where
   -- the factors h and k of a block at both points, with the weight a of the second, at shares of 0

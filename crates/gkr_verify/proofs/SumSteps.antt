@@ -96,7 +96,7 @@ rounds_at (k ∷ ks) [] h i d u = absurd h
 rounds_at (k ∷ ks) (m ∷ ms) h zero d u = h.0.rounds
 rounds_at (k ∷ ks) (m ∷ ms) h (suc i) d u = rounds_at ks ms h.1 i d (omega (arith, u))
 
-widths_few : (c : SoundCircuit) (j : ℕ) (layers : List (List CircuitGate)) (i : ℕ) → j + length layers ≤ height c.parts → get_or (lower_exponents (layers_from c.parts j layers)) i 0 ≤ 16
+widths_few : (c : SoundCircuit) (j : ℕ) (layers : List (List CircuitGate)) (i : ℕ) → j + length layers ≤ height c.parts → get_or (lower_exponents (layers_from c.parts j layers)) i 0 ≤ 20
 widths_few c j [] i u = omega arith
 widths_few c j (gates ∷ layers) zero u = (size_of c (j + 1) (omega (arith, u))).2
 widths_few c j (gates ∷ layers) (suc i) u = widths_few c (j + 1) layers i (omega (arith, u))
@@ -105,7 +105,7 @@ module _ (c : SoundCircuit) (messages : Messages) (shape : HaveShape Line (drop 
   below : HaveShape Line (lower_exponents (layers_of c.parts)) messages.layers
   below = have_shape Line c.parts messages shape
 
-  pub few_rounds : All (λ (layer : LayerMessages). length layer.rounds ≤ 32) messages.layers
+  pub few_rounds : All (λ (layer : LayerMessages). length layer.rounds ≤ 40) messages.layers
   few_rounds i d u =
       let many = rounds_at (lower_exponents (layers_of c.parts)) messages.layers below i d u in
       let few = widths_few c 0 c.parts.layers i (omega arith) in

@@ -1,4 +1,4 @@
--- Weights at two points, in blocks of 256 positions
+-- Weights at two points, in blocks of 1,024 positions
 use Rattle.std.specs.Prelude.{◌≡◌, ℕ, List, slice_index_or}
 use Rattle.field_ext.specs.Field.{K, zero_k, add_k, mul_k}
 use Rattle.mle_table.specs.SplitEquality.{IsSplitAt}

@@ -1,4 +1,4 @@
-//! The equality polynomial where a claim is at two points, for a walk over positions in blocks of 256.
+//! The equality polynomial where a claim is at two points, for a walk over positions in blocks of 1,024.
 
 ghost use Rattle.std.specs.Prelude.{◌≡◌, ◌≤◌, ◌<◌, ◌^◌, ◌/◌, ℕ, List, length};
 ghost use Rattle.field_ext.specs.Field.{K, k_ops, add_k, mul_k, zero_k};
@@ -11,7 +11,7 @@ ghost use Rattle.gkr_verify.specs.declared.blocks.BothEquality.{BothEquality};
 use crate::tables::Tables;
 use field_ext::Ext;
 
-/// The equality polynomial at two points of at most 16 coordinates, and the weight of the second.
+/// The equality polynomial at two points of at most 20 coordinates, and the weight of the second.
 #[derive(Drop)]
 pub(crate) struct BothEquality {
     first: Tables,
@@ -29,8 +29,8 @@ pub(crate) struct Shares {
 impl BothEquality {
     /// The tables at both points.
     pub(crate) fn at(first: &[Ext], second: &[Ext], weight: Ext) -> BothEquality
-        requires first { length first.now ≤ 16 }
-        requires second { length second.now ≤ 16 }
+        requires first { length first.now ≤ 20 }
+        requires second { length second.now ≤ 20 }
         ensures { AreAt first.now second.now weight result }
     {
         BothEquality {
@@ -43,21 +43,21 @@ impl BothEquality {
     /// What a value at position `g` adds.
     #[inline]
     pub(crate) fn shares(&self, g: usize, value: Ext) -> Shares
-        requires { g < 65536 }
+        requires { g < 1048576 }
         ensures { (first second : List K) (a : K) → AreAt first second a self.now
             → g < 2 ^ length first → g < 2 ^ length second →
-            with_factors self.now (g / 256) result
+            with_factors self.now (g / 1024) result
             ≡ mul_k (weighted k_ops (AtBoth first second a) (λ z. eq_poly k_ops z g)) value }
     {
         Shares {
-            first: self.first.within(g % 256) * value,
-            second: self.second.within(g % 256) * value,
+            first: self.first.within(g % 1024) * value,
+            second: self.second.within(g % 1024) * value,
         }
     }
 
     /// The shares of a block with its factors.
     pub(crate) fn with_factors(&self, block: usize, shares: Shares) -> Ext
-        requires { block < 256 }
+        requires { block < 1024 }
         ensures { result ≡ with_factors self.now block shares }
     {
         let second = self.second.of_block(block) * shares.second;

@@ -75,8 +75,8 @@ pub(crate) fn gates_at_both(
     requires second { length second.now ≡ length first.now }
     requires operands { All (IsOver (2 ^ length left.now)) gates.now }
     requires right { length right.now ≡ length left.now }
-    requires few_positions { length first.now ≤ 16 }
-    requires few_operands { length left.now ≤ 16 }
+    requires few_positions { length first.now ≤ 20 }
+    requires few_operands { length left.now ≤ 20 }
     ensures add { result.add ≡ weighted k_ops (AtBoth first.now second.now weight)
         (λ z. wiring_add k_ops gates.now z left.now right.now) }
     ensures mul { result.mul ≡ weighted k_ops (AtBoth first.now second.now weight)
@@ -89,9 +89,9 @@ pub(crate) fn gates_at_both(
         add: Ext::zero(),
         mul: Ext::zero(),
     };
-    for block in 0..gates.len().div_ceil(256) {
+    for block in 0..gates.len().div_ceil(1024) {
         let mut shares = GateShares::none();
-        for g in 256 * block..gates.len().min(256 * block + 256) {
+        for g in 1024 * block..gates.len().min(1024 * block + 1024) {
             let gate = gates[g];
             let operands = left.value(gate.left as usize) * right.value(gate.right as usize);
             shares = shares.with(gate.kind, both.shares(g, operands));
@@ -113,7 +113,7 @@ pub(crate) fn leaves_at_both(
     second: &[Ext],
     weight: Ext,
 ) -> Ext
-    requires few { length first.now ≤ 16 }
+    requires few { length first.now ≤ 20 }
     requires second { length second.now ≡ length first.now }
     requires fits { length leaves.now < 2 ^ length first.now }
     requires within { All (IsLeafWithin (length inputs.now)) leaves.now }
@@ -123,9 +123,9 @@ pub(crate) fn leaves_at_both(
 {
     let both = BothEquality::at(first, second, weight);
     let mut sum = Ext::zero();
-    for block in 0..(leaves.len() + 1).div_ceil(256) {
+    for block in 0..(leaves.len() + 1).div_ceil(1024) {
         let mut shares = Shares::none();
-        for i in (256 * block).saturating_sub(1)..leaves.len().min(256 * block + 255) {
+        for i in (1024 * block).saturating_sub(1)..leaves.len().min(1024 * block + 1023) {
             let value = Ext::embed(leaf_value(inputs, leaves[i]));
             shares = shares.with(both.shares(i + 1, value));
         }

@@ -97,7 +97,7 @@ fn wiring_at_both(
 
 /// The extension of 0, the leaves and zeros, `2^k` values in all, at the place of the claim.
 pub(crate) fn leaves_there(leaves: &[Leaf], inputs: &[Fp], k: usize, place: &ClaimPlace<'_>) -> Ext
-    requires few { k ≤ 16 }
+    requires few { k ≤ 20 }
     requires place { IsOver k (place_of place.now) }
     requires fits { length leaves.now < 2 ^ k }
     requires within { All (IsLeafWithin (length inputs.now)) leaves.now }

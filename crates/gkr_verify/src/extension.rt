@@ -12,7 +12,7 @@ use mle_table::SplitEquality;
 
 /// The value at `point` of the multilinear extension of the table 0, `values`, zeros. No memory is taken.
 pub(crate) fn values_extension(values: &[Fp], point: &[Ext]) -> Ext
-    requires few { length point.now ≤ 16 }
+    requires few { length point.now ≤ 20 }
     requires fits { length values.now < 2 ^ length point.now }
     ensures { result ≡ extension_at k_ops k_ops
         (λ x. x) (map embed_k (padded_values (2 ^ length point.now) values.now)) point.now }
@@ -27,7 +27,7 @@ pub(crate) fn values_extension(values: &[Fp], point: &[Ext]) -> Ext
 
 /// The value at `point` of the multilinear extension of the table 0, the leaves' values, zeros. No memory is taken.
 pub(crate) fn leaves_extension(leaves: &[Leaf], inputs: &[Fp], point: &[Ext]) -> Ext
-    requires few { length point.now ≤ 16 }
+    requires few { length point.now ≤ 20 }
     requires fits { length leaves.now < 2 ^ length point.now }
     requires within { All (IsLeafWithin (length inputs.now)) leaves.now }
     ensures { result ≡ extension_at k_ops k_ops

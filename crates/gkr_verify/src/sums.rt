@@ -70,7 +70,7 @@ pub fn first_sum<C: Challenges>(
         (exponent_at circuit.now.parts 0)) (all_messages messages.now.layers))) }
 {
     let start = start(alloc, circuit, outputs, challenges)?;
-    let mut buffers = vec![in alloc; Ext::zero(); 32]?;
+    let mut buffers = vec![in alloc; Ext::zero(); 40]?;
     let layers = messages.layers.as_slice();
     Ok(first_of_layers(layers, start.claim, &mut buffers, challenges))
 }
@@ -82,8 +82,8 @@ fn first_of_layers<C: Challenges>(
     buffers: &mut [Ext],
     challenges: &mut C,
 ) -> Option<LayerSum>
-    requires few { All (λ layer. length layer.rounds ≤ 32) layers.now }
-    requires buffers { length buffers.old ≡ 32 }
+    requires few { All (λ layer. length layer.rounds ≤ 40) layers.now }
+    requires buffers { length buffers.old ≡ 40 }
     requires has { IsTrue
         (C.source.has (C.state challenges.old) (length (all_messages layers.now))) }
     ensures first { let sums = sums_from C.source 0 (C.state challenges.old) first layers.now in
@@ -109,8 +109,8 @@ fn sums_of_layer<C: Challenges>(
     buffers: &mut [Ext],
     challenges: &mut C,
 ) -> Result<Ext, SumFault>
-    requires few { length messages.now.rounds ≤ 32 }
-    requires buffers { length buffers.old ≡ 32 }
+    requires few { length messages.now.rounds ≤ 40 }
+    requires buffers { length buffers.old ≡ 40 }
     requires has { IsTrue
         (C.source.has (C.state challenges.old) (length (messages_of messages.now))) }
     ensures holds { IfOk result (λ next. (number : ℕ) →

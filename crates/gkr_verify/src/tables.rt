@@ -1,4 +1,4 @@
-//! The equality polynomial at a point, for a walk over positions in blocks of 256.
+//! The equality polynomial at a point, for a walk over positions in blocks of 1,024.
 
 ghost use Rattle.std.specs.Prelude.{◌≡◌, ◌≤◌, ◌<◌, length, slice_index_or};
 ghost use Rattle.field_ext.specs.Field.{zero_k};
@@ -9,13 +9,13 @@ use mle_table::fill_equality;
 use std::marker::Model;
 
 /// The tables of `SplitEquality`, whose two values a walk takes apart: the first at each position, the second once for all
-/// 256 positions of a block.
+/// 1,024 positions of a block.
 #[derive(Drop)]
 pub(crate) struct Tables {
-    low: [Ext; 256],
-    high: [Ext; 256],
-    ghost low_size: { length low ≡ 256 },
-    ghost high_size: { length high ≡ 256 },
+    low: [Ext; 1024],
+    high: [Ext; 1024],
+    ghost low_size: { length low ≡ 1024 },
+    ghost high_size: { length high ≡ 1024 },
 }
 
 impl Model for Tables {
@@ -32,14 +32,14 @@ impl Model for Tables {
 }
 
 impl Tables {
-    /// The tables at a point of at most 16 coordinates: one for the first eight, one for the others.
+    /// The tables at a point of at most 20 coordinates: one for the first ten, one for the others.
     pub(crate) fn at(point: &[Ext]) -> Tables
-        requires { length point.now ≤ 16 }
+        requires { length point.now ≤ 20 }
         ensures { IsSplitAt point.now result }
     {
-        let (first, rest) = point.split_at(if point.len() < 8 { point.len() } else { 8 });
-        let mut low = [Ext::zero(); 256];
-        let mut high = [Ext::zero(); 256];
+        let (first, rest) = point.split_at(if point.len() < 10 { point.len() } else { 10 });
+        let mut low = [Ext::zero(); 1024];
+        let mut high = [Ext::zero(); 1024];
         fill_equality(&mut low, first);
         fill_equality(&mut high, rest);
         Tables { low, high }
@@ -48,7 +48,7 @@ impl Tables {
     /// What a position's value has besides the factor of its block.
     #[inline]
     pub(crate) fn within(&self, place: usize) -> Ext
-        requires { place < 256 }
+        requires { place < 1024 }
         ensures { result ≡ slice_index_or self.now.low place zero_k }
     {
         self.low[place]
@@ -57,7 +57,7 @@ impl Tables {
     /// The factor of a block.
     #[inline]
     pub(crate) fn of_block(&self, block: usize) -> Ext
-        requires { block < 256 }
+        requires { block < 1024 }
         ensures { result ≡ slice_index_or self.now.high block zero_k }
     {
         self.high[block]

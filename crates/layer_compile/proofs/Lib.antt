@@ -10,3 +10,4 @@ mod InRows
 mod Next
 mod Merging
 mod PlacesOf
+mod WiderLimits

@@ -2,13 +2,13 @@
 
 ghost use Rattle.std.specs.Prelude.{◌≡◌, ℕ, ◌+◌, ◌<◌, ◌≤◌, ◌↔◌, List, Contains, length, slice_index_or, None};
 ghost use Rattle.field_ext.specs.Field.{F};
-ghost use Rattle.circuit_core.specs.Parts.{layer_values, padded_values, zero_f};
+ghost use Rattle.circuit_core.specs.Parts.{Limits, layer_values, padded_values, zero_f};
 ghost use Rattle.circuit_core.specs.Faults.{fault_of};
 ghost use Rattle.circuit_core.specs.Sound.{greatest};
 ghost use Rattle.node_core.specs.Nodes.{Nodes, IsNodeList, values};
 ghost use Rattle.layer_compile.specs.Levels.{height_of};
 ghost use Rattle.layer_compile.specs.Rows.{row};
-ghost use Rattle.layer_compile.specs.Circuits.{circuit_of, output_values, refusal_of, size_for};
+ghost use Rattle.layer_compile.specs.Circuits.{AreKept, circuit_of, output_values, refusal_of, size_for};
 ghost use Rattle.layer_compile.specs.Needed.{IsAt};
 
 /// Between the leaves and the outputs, a height has the needed nodes of its level, and the lower ones that are used above it.
@@ -43,8 +43,15 @@ pub fn zeros_after_the_outputs()
         → slice_index_or (layer_values (circuit_of n) inputs 0) g zero_f ≡ zero_f }
 {}
 
-/// A list of nodes whose layout isn't refused is laid out without fault.
+/// A list of nodes whose layout isn't refused is laid out without fault, whatever the limits are.
 pub fn no_fault()
-    ensures { (n : Nodes) → IsNodeList n → refusal_of greatest n ≡ None
-        → fault_of greatest (circuit_of n) ≡ None }
+    ensures { (limits : Limits) (n : Nodes) → AreKept limits → IsNodeList n
+        → refusal_of limits n ≡ None → fault_of greatest (circuit_of n) ≡ None }
+{}
+
+/// A list of nodes whose layout isn't refused by limits isn't refused by larger ones.
+pub fn wider_fits()
+    ensures { (limits larger : Limits) (n : Nodes) → limits.height ≤ larger.height
+        → limits.exponent ≤ larger.exponent → refusal_of limits n ≡ None
+        → refusal_of larger n ≡ None }
 {}

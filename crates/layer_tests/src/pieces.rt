@@ -38,7 +38,7 @@ fn leaves(alloc: Global, count: u32) -> Result<Vec<Leaf>, AllocError> {
 
 /// A layer that copies so many inputs, one less than a power of two.
 fn copies(alloc: Global, count: u32) -> Result<Circuit, CircuitRefused>
-    requires { (1 ≤ count) × (count < 65536) }
+    requires { (1 ≤ count) × (count < 1048576) }
 {
     let gates = gates(alloc, count + 1)?;
     let layers = vec![in alloc; Layer::of(gates)].map_err(|_| CircuitRefused::Memory)?;
@@ -54,7 +54,7 @@ fn copies(alloc: Global, count: u32) -> Result<Circuit, CircuitRefused>
 
 /// So many bits of a position, as coordinates.
 fn bits(alloc: Global, count: u32, position: u32) -> Result<Vec<i32>, AllocError>
-    requires { count ≤ 16 }
+    requires { count ≤ 20 }
 {
     let mut bits = Vec::new(alloc);
     for j in 0..count {
@@ -65,7 +65,7 @@ fn bits(alloc: Global, count: u32, position: u32) -> Result<Vec<i32>, AllocError
 
 /// A position as a point of so many coordinates.
 fn point_of(alloc: Global, count: u32, position: u32) -> Result<Vec<Ext>, AllocError>
-    requires { count ≤ 16 }
+    requires { count ≤ 20 }
 {
     let bits = bits(alloc, count, position)?;
     numbers(alloc, &bits)
@@ -190,7 +190,7 @@ fn lends_and_binds<R: Threads + Sync + Abort, G: Gate>(
 
 /// Whether a round of a layer of `2^k` values, counted from 0, is one of the last of its phase: its parts are then in one.
 fn is_merged(k: usize, round: usize) -> bool
-    requires { (11 ≤ k) × (k ≤ 16) }
+    requires { (11 ≤ k) × (k ≤ 20) }
 {
     round % k >= 11
 }
@@ -207,7 +207,7 @@ fn goes_on<R: Threads + Sync + Abort, G: Gate>(
     gate: &G,
 ) -> Result<(), Fail>
     requires here { sum.old.lent ≡ [] }
-    requires coordinates { (11 ≤ k) × (k ≤ 16) }
+    requires coordinates { (11 ≤ k) × (k ≤ 20) }
     ensures here { IfOk result (λ _. sum.new.lent ≡ []) }
 {
     if sum.rounds_left() == 0 {
@@ -231,7 +231,7 @@ fn goes_to_the_end<R: Threads + Sync + Abort, G: Gate>(
     gate: &G,
 ) -> Result<(), Fail>
     requires here { sum.old.lent ≡ [] }
-    requires coordinates { (11 ≤ k) × (k ≤ 16) }
+    requires coordinates { (11 ≤ k) × (k ≤ 20) }
 {
     assert_eq!(rt; sum.rounds_left(), 2 * k);
     for number_of_round in 0..2 * k {
@@ -252,7 +252,7 @@ fn goes_from<R: Threads + Sync + Abort + AllocGlobal, G: Gate>(
     gate: &G,
 ) -> Result<(), Fail>
     requires values { FitLayers circuit.now.parts values.now }
-    requires coordinates { (11 ≤ k) × (k ≤ 16) }
+    requires coordinates { (11 ≤ k) × (k ≤ 20) }
 {
     let mut sum = started(rt.alloc(), circuit, values, point)?;
     goes_to_the_end(rt, rt.alloc(), &mut sum, k, parts, gate)
@@ -269,8 +269,8 @@ fn goes_through<R: Threads + Sync + Abort + AllocGlobal, G: Gate>(
     parts: usize,
     gate: &G,
 ) -> Result<(), Fail>
-    requires coordinates { (11 ≤ k) × (k ≤ 16) }
-    requires inputs { (1 ≤ count) × (count < 65536) }
+    requires coordinates { (11 ≤ k) × (k ≤ 20) }
+    requires inputs { (1 ≤ count) × (count < 1048576) }
 {
     let Ok(circuit) = copies(rt.alloc(), count) else {
         return Err(Fail::new("no circuit"));
@@ -290,11 +290,11 @@ fn has_one_part_of_2048_values(rt: HostRuntime) -> Result<(), Fail> {
     goes_through(&rt, 11, 2047, 1, &OpenGate)
 }
 
-/// The widest layer has 32 parts, which two workers fold side by side.
+/// The widest layer has 512 parts, which two workers fold side by side.
 #[test]
 fn folds_the_widest_layer_by_two_workers(rt: HostRuntime) -> Result<(), Fail> {
     let gate = MeetingGate::new(0);
-    goes_through(&rt, 16, 65535, 32, &gate)?;
+    goes_through(&rt, 20, 1_048_575, 512, &gate)?;
     assert!(&rt; gate.entries() > 1);
     assert!(&rt; !gate.is_raised());
     Ok(())

@@ -154,7 +154,7 @@ pub block_fits : (q p n : ℕ) → q < p → q * n + n ≤ p * n
 block_fits q p n u = let h : n * (q + 1) ≤ n * p = mul-le-mul_left n (let v : q + 1 ≤ p = omega arith in v) in omega (arith, h)
 
 -- a table folded by all coordinates to one row is the line's polynomial
-pub line_of_row : (t row b c : List K) → length c ≡ length b → length b ≤ 16 → length row ≡ length b + 1 →
+pub line_of_row : (t row b c : List K) → length c ≡ length b → length b ≤ 20 → length row ≡ length b + 1 →
     ((e : K) → HaveFolds k_ops (length b) 1 row t b c e) → row ≡ coefficients k_ops (length b + 1) (line_polynomial k_ops t b c)
 line_of_row t row b c v most size folds =
     let small : length b + 1 < prime = omega arith in

@@ -14,10 +14,13 @@ use mle_table::Table;
 use poly_roots::Poly;
 use std::alloc::{AllocError, Global};
 
+/// How many coordinates are bound in a block at once at most.
+const MOST_KNOWN: usize = 6;
+
 /// The restriction of a table's extension to the line from `b`, at 0, to `c`, at 1: one coefficient more than the table
 /// has coordinates, constant first. Err only where no memory is found.
 pub fn line_poly(alloc: Global, table: &Table, b: &[Ext], c: &[Ext]) -> Result<Poly, AllocError>
-    requires most { table.now.k ≤ 16 }
+    requires most { table.now.k ≤ 20 }
     requires start { length b.now ≡ table.now.k }
     requires end { length c.now ≡ table.now.k }
     ensures { IfOk result (λ line. line ≡ coefficients k_ops (table.now.k + 1)
@@ -25,7 +28,7 @@ pub fn line_poly(alloc: Global, table: &Table, b: &[Ext], c: &[Ext]) -> Result<P
 {
     let values = table.values();
     if table.is_base() && b.len() >= 8 {
-        let known = b.len() / 2 - 2;
+        let known = (b.len() / 2 - 2).min(MOST_KNOWN);
         Ok(Poly::of_coeffs(by_blocks(alloc, values, known, b, c)?))
     } else {
         let rows = Vec::from_slice(alloc, values)?;
@@ -42,7 +45,7 @@ pub fn claim_at(line: &Poly, t: Ext) -> Ext
 
 /// A table as rows of one coefficient, folded by the line's polynomials one after another to one row.
 fn by_rows(alloc: Global, rows: Vec<Ext>, b: &[Ext], c: &[Ext]) -> Result<Vec<Ext>, AllocError>
-    requires most { length b.now ≤ 16 }
+    requires most { length b.now ≤ 20 }
     requires end { length c.now ≡ length b.now }
     requires size { length rows.items ≡ 2 ^ length b.now }
     ensures { IfOk result (λ line. line.items ≡ coefficients k_ops (length b.now + 1)
@@ -60,7 +63,7 @@ fn by_blocks(
     b: &[Ext],
     c: &[Ext],
 ) -> Result<Vec<Ext>, AllocError>
-    requires most { length b.now ≤ 16 }
+    requires most { length b.now ≤ 20 }
     requires end { length c.now ≡ length b.now }
     requires size { length values.now ≡ 2 ^ length b.now }
     requires base { AreBase values.now }
@@ -89,7 +92,7 @@ fn folded_rows(
     b: &[Ext],
     c: &[Ext],
 ) -> Result<Vec<Ext>, AllocError>
-    requires most { length b.now ≤ 16 }
+    requires most { length b.now ≤ 20 }
     requires end { length c.now ≡ length b.now }
     requires from { from ≤ to }
     requires to { to ≤ length b.now }

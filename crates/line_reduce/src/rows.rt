@@ -37,7 +37,7 @@ pub(crate) fn fold_rows(
     step: Ext,
 ) -> Result<Vec<Ext>, AllocError>
     requires some { 1 ≤ n }
-    requires few { n ≤ 16 }
+    requires few { n ≤ 20 }
     requires size { length old.now ≡ 2 * count * n }
     ensures size { IfOk result (λ new. vec_len new ≡ count * (n + 1)) }
     ensures folded { IfOk result (λ new. AreFolded k_ops count n start step old.now new.items) }

@@ -253,7 +253,7 @@ fn send<R: Threads + Sync, G: Gate>(
     gate: &G,
 ) -> Result<(), AllocError>
     requires workers { IsWorkerCount workers }
-    requires most { values.now.k ≤ 16 }
+    requires most { values.now.k ≤ 20 }
     requires here { tables.now.lent ≡ [] }
     requires k { tables.now.k ≡ values.now.k }
     requires values { tables.now.values ≡ values.now.items }

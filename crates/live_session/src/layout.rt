@@ -57,7 +57,7 @@ pub(crate) fn message_buffers(
 
 /// Buffers for the messages of a layer, where the layer below has `k` coordinates.
 fn layer_buffers(alloc: Global, k: usize) -> Result<LayerMessages, AllocError>
-    requires { k ≤ 16 }
+    requires { k ≤ 20 }
     ensures { IfOk result (λ layer. HasShape Line k layer) }
 {
     let zero = Round::of([Ext::zero(), Ext::zero(), Ext::zero()]);

@@ -9,14 +9,14 @@ use crate::equality::fill_equality;
 use field_ext::Ext;
 use std::marker::Model;
 
-/// The equality polynomial's values at a point of at most 16 coordinates, each a product of one value of each of two
-/// tables, so that all `2^16` of them need only 512 values of memory.
+/// The equality polynomial's values at a point of at most 20 coordinates, each a product of one value of each of two
+/// tables, so that all `2^20` of them need only 2,048 values of memory.
 #[derive(Drop)]
 pub struct SplitEquality {
-    low: [Ext; 256],
-    high: [Ext; 256],
-    ghost low_size: { length low ≡ 256 },
-    ghost high_size: { length high ≡ 256 },
+    low: [Ext; 1024],
+    high: [Ext; 1024],
+    ghost low_size: { length low ≡ 1024 },
+    ghost high_size: { length high ≡ 1024 },
 }
 
 impl Model for SplitEquality {
@@ -33,14 +33,14 @@ impl Model for SplitEquality {
 }
 
 impl SplitEquality {
-    /// The tables at a point of at most 16 coordinates: one for the first eight, one for the others.
+    /// The tables at a point of at most 20 coordinates: one for the first ten, one for the others.
     pub fn at(point: &[Ext]) -> SplitEquality
-        requires { length point.now ≤ 16 }
+        requires { length point.now ≤ 20 }
         ensures { IsSplitAt point.now result }
     {
-        let (first, rest) = point.split_at(if point.len() < 8 { point.len() } else { 8 });
-        let mut low = [Ext::zero(); 256];
-        let mut high = [Ext::zero(); 256];
+        let (first, rest) = point.split_at(if point.len() < 10 { point.len() } else { 10 });
+        let mut low = [Ext::zero(); 1024];
+        let mut high = [Ext::zero(); 1024];
         fill_equality(&mut low, first);
         fill_equality(&mut high, rest);
         SplitEquality { low, high }
@@ -49,10 +49,10 @@ impl SplitEquality {
     /// The equality polynomial's value at the point and the bits of `g`.
     #[inline]
     pub fn value(&self, g: usize) -> Ext
-        requires { g < 65536 }
+        requires { g < 1048576 }
         ensures { (point : List K) → IsSplitAt point self.now → g < 2 ^ length point
             → result ≡ eq_poly k_ops point g }
     {
-        self.low[g % 256] * self.high[g / 256]
+        self.low[g % 1024] * self.high[g / 1024]
     }
 }

@@ -15,7 +15,7 @@ pub fn proof_len_two(shape: &Shape) -> u64
 /// How many coefficients a proof of version 2 has, for a circuit of this shape.
 pub fn elements(shape: &Shape) -> u64
     ensures count { result ≡ element_count (drop 1 shape.now.ks) }
-    ensures small { result ≤ 256 * (6 * 2 ^ 32) }
+    ensures small { result ≤ 1024 * (6 * 2 ^ 32) }
 {
     let mut count = 0;
     for layer in 0..shape.layers() - 1 {

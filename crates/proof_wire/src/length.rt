@@ -23,7 +23,7 @@ pub fn proof_len_as(form: ProofForm, shape: &Shape) -> u64
 /// How many coefficients a proof of this form has, for a circuit of this shape.
 pub fn coefficients(form: ProofForm, shape: &Shape) -> u64
     ensures count { result ≡ coefficient_count form (drop 1 shape.now.ks) }
-    ensures small { result ≤ 256 * (7 * 2 ^ 32) }
+    ensures small { result ≤ 1024 * (7 * 2 ^ 32) }
 {
     let mut count = 0;
     for layer in 0..shape.layers() - 1 {

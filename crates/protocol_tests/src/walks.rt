@@ -1,4 +1,4 @@
-//! Verdicts by pairs on layers of gates in no order, less than a block of 256 positions wide and two blocks wide, beside the
+//! Verdicts by pairs on layers of gates in no order, less than a block of 1,024 positions wide and two blocks wide, beside the
 //! sums over gates and leaves that define the wiring polynomials and the input's extension.
 
 ghost use Rattle.std.specs.Prelude.{◌<◌};
@@ -17,7 +17,7 @@ use transcript_fs::Given;
 
 /// Gates of both kinds in no order that runs follow, over `2^k` positions.
 fn tangled(alloc: Global, k: u32) -> Result<Vec<CircuitGate>, AllocError> {
-    let width = 1u32 << k.min(9);
+    let width = 1u32 << k.min(11);
     let mut gates = vec![in alloc; gate(Kind::Add, 0, 0)]?;
     for g in 1..width {
         let kind = if g * g % 7 < 3 { Kind::Add } else { Kind::Mul };
@@ -28,7 +28,7 @@ fn tangled(alloc: Global, k: u32) -> Result<Vec<CircuitGate>, AllocError> {
 
 /// Two layers of these gates over as many positions, each but the first an input.
 fn made(alloc: Global, k: u32) -> Result<Circuit, CircuitRefused> {
-    let width = 1u32 << k.clamp(1, 9);
+    let width = 1u32 << k.clamp(1, 11);
     let gates = tangled(alloc, k).map_err(|_| CircuitRefused::Memory)?;
     let again = tangled(alloc, k).map_err(|_| CircuitRefused::Memory)?;
     let layers = vec![in alloc; Layer::of(gates), Layer::of(again)].map_err(
@@ -76,7 +76,7 @@ fn at_both(first: &[Ext], second: &[Ext], weight: Ext, number: usize) -> Ext {
 
 /// Zeros but for the second layer's pair.
 fn elements(alloc: Global, k: usize, pair: [i32; 2]) -> Result<Vec<i32>, AllocError> {
-    let mut elements = vec![in alloc; 0i32; 2 * (6 * k.min(9) + 2)]?;
+    let mut elements = vec![in alloc; 0i32; 2 * (6 * k.min(11) + 2)]?;
     let behind = elements.len();
     if 2 <= behind {
         elements[behind - 2] = pair[0];
@@ -141,14 +141,14 @@ fn verdict_on<R: Abort + AllocGlobal>(
     pair: [i32; 2],
 ) -> Result<Verdict, Fail> {
     let bytes = pair_bytes(rt.alloc(), k, pair)?;
-    let mut given = Given::of(drawn(rt.alloc(), 5 * k.min(9) + 2)?);
+    let mut given = Given::of(drawn(rt.alloc(), 5 * k.min(11) + 2)?);
     verdict_on_bytes(rt, circuit, &bytes, &mut given)
 }
 
 /// The sum over the gates of a kind at the place of the second layer's claim, for the challenges after the output's point.
 fn gates_sum(gates: &[CircuitGate], kind: Kind, drawn: &[Ext], k: usize) -> Ext {
     let mut sum = Ext::zero();
-    if k > 9 || drawn.len() < 4 * k + 2 {
+    if k > 11 || drawn.len() < 4 * k + 2 {
         return sum;
     }
     for (g, gate) in gates.iter().enumerate() {
@@ -165,10 +165,10 @@ fn gates_sum(gates: &[CircuitGate], kind: Kind, drawn: &[Ext], k: usize) -> Ext 
 /// The sum over the inputs 1, 2, 3 .. at the place of their claim.
 fn inputs_sum(inputs: usize, drawn: &[Ext], k: usize) -> Ext {
     let mut sum = Ext::zero();
-    if k > 9 || drawn.len() < 4 * k + 2 {
+    if k > 11 || drawn.len() < 4 * k + 2 {
         return sum;
     }
-    for j in 0..inputs.min(511) {
+    for j in 0..inputs.min(2047) {
         let (left, right) = (&drawn[2 * k + 1..3 * k + 1], &drawn[3 * k + 1..4 * k + 1]);
         let value = Ext::embed(Fp::reduce(j as u64 + 1));
         sum = sum + value * at_both(left, right, drawn[4 * k + 1], j + 1);
@@ -206,7 +206,7 @@ fn sees_sums<R: Abort + AllocGlobal>(
 
 /// Sees the verdicts on a circuit over `2^k` positions.
 fn sums_over<R: Abort + AllocGlobal>(rt: &R, circuit: &Circuit, k: usize) -> Result<(), Fail>
-    requires { k < 10 }
+    requires { k < 12 }
 {
     let gates = tangled(rt.alloc(), k as u32)?;
     let all = drawn(rt.alloc(), 5 * k + 2)?;
@@ -223,8 +223,8 @@ fn sums_in_blocks_at_both_points(rt: HostRuntime) -> Result<(), Fail> {
 
 #[test]
 fn sums_in_two_blocks_at_both_points(rt: HostRuntime) -> Result<(), Fail> {
-    let Ok(circuit) = made(rt.alloc(), 9) else {
+    let Ok(circuit) = made(rt.alloc(), 11) else {
         return Err(Fail::new("no circuit"));
     };
-    sums_over(&rt, &circuit, 9)
+    sums_over(&rt, &circuit, 11)
 }

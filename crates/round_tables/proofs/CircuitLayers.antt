@@ -14,7 +14,7 @@ module _ (c : SoundCircuit) (i : ℕ) (u : i < height c.parts) where
   table_exponent values fit table e =
       same_exponent table.k (exponent_at c.parts (i + 1)) (sym table.whole ∙ ap length e ∙ fit.each (i + 1) (omega (arith, u)) ∙ (size_of c (i + 1) (omega (arith, u))).0)
 
-  pub few_coordinates : (n : ℕ) → n ≡ exponent_at c.parts i → n ≤ 16
+  pub few_coordinates : (n : ℕ) → n ≡ exponent_at c.parts i → n ≤ 20
   few_coordinates n h = let s = (size_of c i (omega (arith, u))).2 in omega (arith, s, h)
 
   pub as_many : (gates : List CircuitGate) (n : ℕ) → gates ≡ get_or c.parts.layers i [] → n ≡ exponent_at c.parts i → length gates ≡ 2 ^ n
@@ -24,7 +24,7 @@ module _ (c : SoundCircuit) (i : ℕ) (u : i < height c.parts) where
     pub least : 1 ≤ k
     least = let s = (size_of c (i + 1) (omega (arith, u))).1 in omega (arith, s, e)
 
-    pub most : k ≤ 16
+    pub most : k ≤ 20
     most = let s = (size_of c (i + 1) (omega (arith, u))).2 in omega (arith, s, e)
 
     pub operands_over : (gates : List CircuitGate) → gates ≡ get_or c.parts.layers i [] → All (IsOver (2 ^ k)) gates

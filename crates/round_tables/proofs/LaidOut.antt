@@ -65,14 +65,14 @@ pow-most : (x n : ℕ) → x ≤ n → 2 ^ x ≤ 2 ^ n
 pow-most x n u = let e : x + (n - x) ≡ n = omega arith in let p = pow-add 2 x (n - x) in let q : 2 ^ (x + (n - x)) ≡ 2 ^ n = ap (λ (y : ℕ). 2 ^ y) e in let r = at_least (2 ^ x) (2 ^ (n - x)) (pow_pos (n - x)) in omega arith
 
 -- there are few parts
-pub parts-few : (k m : ℕ) → k ≤ 16 → 2 ^ cuts_left k m ≤ 32
-parts-few k m v = pow-most (cuts_left k m) 5 (by_cuts (cases_lt (cuts k) m)) where
-  by_cuts : (cuts k < m) ⊎ (m ≤ cuts k) → cuts_left k m ≤ 5
+pub parts-few : (k m : ℕ) → k ≤ 20 → 2 ^ cuts_left k m ≤ 512
+parts-few k m v = pow-most (cuts_left k m) 9 (by_cuts (cases_lt (cuts k) m)) where
+  by_cuts : (cuts k < m) ⊎ (m ≤ cuts k) → cuts_left k m ≤ 9
   by_cuts (inl w) = omega (arith, in_many k m w)
   by_cuts (inr w) = omega (arith, in_one k m w)
 
 -- a part has few pairs
-pub half-few : (k m : ℕ) → 0 < m → m ≤ k → k ≤ 16 → 2 ^ (m - 1 - cuts_left k m) ≤ 1024
+pub half-few : (k m : ℕ) → 0 < m → m ≤ k → k ≤ 20 → 2 ^ (m - 1 - cuts_left k m) ≤ 1024
 half-few k m some u v = pow-most (m - 1 - cuts_left k m) 10 (by_cuts (cases_lt (cuts k) m)) where
   by_cuts : (cuts k < m) ⊎ (m ≤ cuts k) → m - 1 - cuts_left k m ≤ 10
   by_cuts (inl w) = omega (arith, in_many k m w)

@@ -3,9 +3,9 @@ use Rattle.std.proofs.Common.{◌≡◌, ℕ, ◌^◌, ◌<◌, ◌≤◌, inl, 
 use Rattle.std.proofs.lemmas.Bool.{cases_lt}
 use Rattle.std.proofs.lemmas.Nat.{pow_below}
 
-pub few_coordinates : (e n : ℕ) → n ≡ 2 ^ e → n ≤ 65536 → e ≤ 16
+pub few_coordinates : (e n : ℕ) → n ≡ 2 ^ e → n ≤ 1048576 → e ≤ 20
 few_coordinates e n width few =
-    elim (cases_lt 16 e) [
-      | inl u ↦ absurd (let big : 65536 < 2 ^ e = pow_below 16 e u in omega (arith, big, width, few))
+    elim (cases_lt 20 e) [
+      | inl u ↦ absurd (let big : 1048576 < 2 ^ e = pow_below 20 e u in omega (arith, big, width, few))
       | inr v ↦ v
     ]

@@ -14,7 +14,7 @@ use Rattle.round_tables.specs.LayerSum.{left_in_phase, after_phase}
 pub record IsLayer (A : Type 0) (k : ℕ) (gates : List CircuitGate) (values : List A)
     (place : Place A) : Type 0 where
   pub least : 1 ≤ k
-  pub most : k ≤ 16
+  pub most : k ≤ 20
   pub size : length values ≡ 2 ^ k
   pub exponent : ℕ
   pub coordinates : places.IsOver exponent place

@@ -31,8 +31,8 @@ impl From<TooSmallBuffers> for AllocError {
 impl Buffers {
     /// Buffers for layers of up to so many gates over up to so many values. Err only where no memory is found.
     pub fn new(alloc: Global, gates: usize, values: usize) -> Result<Buffers, AllocError> {
-        let first = Vec::with_capacity(alloc, 16)?;
-        let second = Vec::with_capacity(alloc, 16)?;
+        let first = Vec::with_capacity(alloc, 20)?;
+        let second = Vec::with_capacity(alloc, 20)?;
         let point_equality = Vec::with_capacity(alloc, gates)?;
         let working = Working::empty(alloc, values)?;
         Ok(Buffers {
@@ -51,7 +51,7 @@ impl Buffers {
         first: &[Ext],
         second: &[Ext],
     ) -> Result<Buffers, TooSmallBuffers>
-        requires { k ≤ 16 }
+        requires { k ≤ 20 }
         ensures first { IfOk result (λ buffers. buffers.first.items ≡ first.now) }
         ensures second { IfOk result (λ buffers. buffers.second.items ≡ second.now) }
         ensures equality { IfOk result (λ buffers. vec_len buffers.point_equality ≡ gates) }
@@ -71,7 +71,7 @@ impl Buffers {
         first: &[Ext],
         second: &[Ext],
     ) -> Result<(), AllocError>
-        requires { k ≤ 16 }
+        requires { k ≤ 20 }
         ensures first { IfOk result (λ _. self.new.first.items ≡ first.now) }
         ensures second { IfOk result (λ _. self.new.second.items ≡ second.now) }
         ensures equality { IfOk result (λ _. vec_len self.new.point_equality ≡ gates) }

@@ -85,7 +85,7 @@ impl<'a> GateTables<'a> {
         point: &[Ext],
     ) -> Result<GateTables<'a>, TooSmallBuffers>
         requires least { 1 ≤ values.now.k }
-        requires most { values.now.k ≤ 16 }
+        requires most { values.now.k ≤ 20 }
         requires width { length gates.now ≡ 2 ^ length point.now }
         requires operands { All (IsOver (2 ^ values.now.k)) gates.now }
         ensures k { IfOk result (λ sum. sum.k ≡ values.now.k) }
@@ -144,8 +144,8 @@ impl<'a> GateTables<'a> {
         weight: Ext,
     ) -> Result<GateTables<'a>, TooSmallBuffers>
         requires least { 1 ≤ values.now.k }
-        requires most { values.now.k ≤ 16 }
-        requires few { length second.now ≤ 16 }
+        requires most { values.now.k ≤ 20 }
+        requires few { length second.now ≤ 20 }
         requires same { length first.now ≡ length second.now }
         requires width { length gates.now ≡ 2 ^ length second.now }
         requires operands { All (IsOver (2 ^ values.now.k)) gates.now }
@@ -170,7 +170,7 @@ impl<'a> GateTables<'a> {
         })
     }
 
-    /// The sumcheck of a layer of at most 65,536 gates in buffers that are there, wherever the claim is. Err only where they
+    /// The sumcheck of a layer of at most 1,048,576 gates in buffers that are there, wherever the claim is. Err only where they
     /// aren't enough and no memory is found.
     pub fn start_at(
         buffers: Buffers,
@@ -180,7 +180,7 @@ impl<'a> GateTables<'a> {
     ) -> Result<GateTables<'a>, TooSmallBuffers>
         requires layer { IsLayer K values.now.k gates.now values.now.items
             (claim_place.place_of place.now) }
-        requires few { length gates.now ≤ 65536 }
+        requires few { length gates.now ≤ 1048576 }
         ensures k { IfOk result (λ sum. sum.k ≡ values.now.k) }
         ensures gates { IfOk result (λ sum. sum.gates ≡ gates.now) }
         ensures values { IfOk result (λ sum. sum.values ≡ values.now.items) }
@@ -321,13 +321,13 @@ impl<'a> GateTables<'a> {
         self.lent.is_some()
     }
 
-    /// Lends the parts of the tables, which are as many as the next round has pieces, at most 32. Each sums to its piece.
+    /// Lends the parts of the tables, which are as many as the next round has pieces, at most 512. Each sums to its piece.
     pub fn parts_out(&mut self) -> Vec<Part>
         requires here { self.old.lent ≡ [] }
         requires left { length self.old.bound < self.old.k + self.old.k }
         ensures lent { self.new ≡ record self.old { lent = result.items } }
         ensures number { length result.items ≡ pieces_of self.old }
-        ensures few { length result.items ≤ 32 }
+        ensures few { length result.items ≤ 512 }
         ensures sums { (i : ℕ) (part : PartTables) → i < pieces_of self.old
             → part_sum (slice_index_or result.items i part) ≡ coefficients k_ops 3
             (piece_poly self.old i) }

@@ -67,7 +67,7 @@ impl<'a> LayerGates<'a> {
         }
     }
 
-    /// The same for a claim at both points, the second of at most 16 coordinates.
+    /// The same for a claim at both points, the second of at most 20 coordinates.
     pub(crate) fn new_two(
         mut point_equality: Vec<Ext>,
         gates: &'a [CircuitGate],
@@ -76,7 +76,7 @@ impl<'a> LayerGates<'a> {
         second: Vec<Ext>,
         weight: Ext,
     ) -> LayerGates<'a>
-        requires few { vec_len second ≤ 16 }
+        requires few { vec_len second ≤ 20 }
         requires layer { IsLayer K values.now.k gates.now values.now.items
             (AtBoth first.items second.items weight) }
         requires capacity { vec_len point_equality ≡ length gates.now }
@@ -111,7 +111,7 @@ impl<'a> LayerGates<'a> {
 
 /// Fills a table with the weights of the positions of a layer whose claim is at two points.
 fn fill_weights(table: &mut [Ext], first: &[Ext], second: &[Ext], weight: Ext)
-    requires few { length second.now ≤ 16 }
+    requires few { length second.now ≤ 20 }
     requires same { length first.now ≡ length second.now }
     requires size { length table.old ≡ 2 ^ length second.now }
     ensures { HasWeights K k_ops (AtBoth first.now second.now weight) (length table.old) table.new }

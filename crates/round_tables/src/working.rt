@@ -41,7 +41,7 @@ pub(crate) struct Working {
 
 /// How many pairs a table has once `count` of the `2k` challenges are bound.
 pub(crate) fn pair_count(k: usize, count: usize) -> usize
-    requires small { k ≤ 16 }
+    requires small { k ≤ 20 }
     requires left { count < k + k }
     ensures { result ≡ 2 ^ (left_in_phase k count - 1) }
 {
@@ -77,7 +77,7 @@ impl Working {
         one.push(Part::new(alloc, count)?)?;
         Ok(Working {
             alloc,
-            challenges: Vec::with_capacity(alloc, 32)?,
+            challenges: Vec::with_capacity(alloc, 40)?,
             count: 0,
             left_equality: Vec::with_capacity(alloc, values)?,
             scales: Vec::with_capacity(alloc, values)?,
@@ -91,7 +91,7 @@ impl Working {
 
     /// Gives the buffers the sizes of both phases over `2^k` values.
     pub(crate) fn fit(&mut self, k: usize) -> Result<(), AllocError>
-        requires { k ≤ 16 }
+        requires { k ≤ 20 }
         ensures { IfOk result (λ _. HasCapacities k self.new) }
     {
         let size = power(k);
@@ -231,7 +231,7 @@ impl Working {
 
     /// Fills the table of the equality polynomial at the left operand's challenges.
     fn fill_left(&mut self, k: usize)
-        requires most { k ≤ 16 }
+        requires most { k ≤ 20 }
         requires capacities { HasCapacities k self.old }
         requires left { self.old.count ≡ k }
         ensures equality { IsEqTable k_ops (bound_of self.old) self.new.left_equality.items }

@@ -10,14 +10,14 @@ use crate::run::Run;
 use circuit_core::{CircuitGate, Kind};
 use std::alloc::{AllocError, Global};
 
-/// The runs of a list of at most 65,536 gates, where they are at most so many: each takes as many gates as it can. Err only
+/// The runs of a list of at most 1,048,576 gates, where they are at most so many: each takes as many gates as it can. Err only
 /// where no memory is found.
 pub(crate) fn greedy_runs(
     alloc: Global,
     gates: &[CircuitGate],
     most: usize,
 ) -> Result<Option<Vec<Run>>, AllocError>
-    requires { length gates.now ≤ 65536 }
+    requires { length gates.now ≤ 1048576 }
     ensures runs { IfOk result
         (λ found. IfSome found (λ runs. AreGreedy runs.items gates.now)) }
     ensures few { IfOk result (λ found. IfSome found (λ runs. length runs.items ≤ most)) }
@@ -41,7 +41,7 @@ pub(crate) fn greedy_runs(
 /// The longest run from a position.
 fn longest_at(gates: &[CircuitGate], first: usize) -> Run
     requires inside { first < length gates.now }
-    requires few { length gates.now ≤ 65536 }
+    requires few { length gates.now ≤ 1048576 }
     ensures first { result.first ≡ first }
     ensures longest { IsLongest gates.now result }
 {
@@ -76,7 +76,7 @@ fn longest_at(gates: &[CircuitGate], first: usize) -> Run
 
 /// A run of two gates with those that follow.
 fn extended(gates: &[CircuitGate], run: Run) -> Run
-    requires few { length gates.now ≤ 65536 }
+    requires few { length gates.now ≤ 1048576 }
     requires two { run.count ≡ 2 }
     requires run { IsRunOf gates.now run }
     ensures first { result.first ≡ run.first }
@@ -108,7 +108,7 @@ fn of_count(run: &Run, count: u32) -> Run
 
 /// Whether a gate is the run's at place t.
 fn goes_on(run: &Run, t: u32, gate: CircuitGate) -> bool
-    requires few { t ≤ 65536 }
+    requires few { t ≤ 1048576 }
     requires small { HasSmallSteps run.now }
     ensures { IsTrue result ↔ (gate ≡ gate_in run.now t) }
 {

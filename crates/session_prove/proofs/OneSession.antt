@@ -24,7 +24,7 @@ use Rattle.session_prove.specs.Sessions.{IsSession, session_on}
 
 pub one_session : OneTree → OneCircuit → (c : Content) (words : List F) (some others : SessionSizes) → IsSession c words some → IsSession c words others → some ≡ others
 one_session tree circuit c words some others is is' =
-    let parts : is.parts ≡ is'.parts = circuit c.program is.parts is'.parts is.paired.compiled is'.paired.compiled in
+    let parts : is.parts ≡ is'.parts = circuit c.lang c.program is.parts is'.parts is.paired.compiled is'.paired.compiled in
     let outputs : is.outputs ≡ is'.outputs = one_meaning tree c is.outputs is'.outputs is.evaluated is'.evaluated in
     is.sizes_are ∙ (λ i. sizes_of (whole_session (session_on (parts i) c.inputs (outputs i) words))) ∙ sym is'.sizes_are
 

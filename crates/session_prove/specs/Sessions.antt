@@ -26,7 +26,7 @@ session_on p inputs outputs words = record {
 
 -- The case's program has a circuit with as many inputs as the case, and there are two words for each challenge.
 pub record IsPaired (c : Content) (words : List F) (parts : Parts) : Type 0 where
-  pub compiled : IsCompiled c.program parts
+  pub compiled : IsCompiled c.lang c.program parts
   pub counted : length c.inputs ≡ parts.inputs
   pub paired : length words ≡ 2 * challenges_of parts
 
@@ -43,7 +43,7 @@ pub record IsSession (c : Content) (words : List F) (sizes : SessionSizes) : Typ
 -- The case's program has a circuit with as many inputs as the case, and another number of words than two for each challenge.
 pub record IsWordMiscounted (c : Content) (words : List F) (have need : ℕ) : Type 0 where
   pub parts : Parts
-  pub compiled : IsCompiled c.program parts
+  pub compiled : IsCompiled c.lang c.program parts
   pub counted : length c.inputs ≡ parts.inputs
   pub session_has : have ≡ length words
   pub circuit_needs : need ≡ 2 * challenges_of parts

@@ -75,7 +75,7 @@ fn run_session<R: Threads + Sync, G: Gate>(
     workers: u32,
     gate: &G,
 ) -> Result<SessionSizes, AllocError>
-    requires compiled { IsCompiled case.now.program circuit.now.parts }
+    requires compiled { IsCompiled case.now.lang case.now.program circuit.now.parts }
     requires counted { length case.now.inputs ≡ circuit.now.parts.inputs }
     requires paired { length words.now ≡ 2 * challenges_of circuit.now.parts }
     requires piece { 1 ≤ piece }

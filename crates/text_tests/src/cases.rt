@@ -46,7 +46,7 @@ fn tells_where_a_case_is_refused(rt: HostRuntime) {
         b"gkr case 1\nprogram 18\ninput a; output a;\ninput 1 5\noutput 1 5\nproof 2\nabcde\nend\n";
     refused(&rt, Form::Full, digit, DueKind::Hex, 72);
     refused(&rt, Form::Full, digits, DueKind::Hex, 74);
-    let header = b"gkr case 2\n";
+    let header = b"gkr case 3\n";
     refused(&rt, Form::Any, header, DueKind::Header, 9);
     for len in 0..FULL.len() {
         refused(&rt, Form::Full, &FULL[..len], DueKind::End, len);
@@ -130,6 +130,7 @@ fn tells_refusals_of_the_program(rt: HostRuntime) -> Result<(), Fail> {
         (ProgramKind::Bounds, 9, "refused program bounds 9\n"),
         (ProgramKind::Steps, 0, "refused program steps 0\n"),
         (ProgramKind::Nodes, 28, "refused program nodes 28\n"),
+        (ProgramKind::Defs, 1015, "refused program defs 1015\n"),
         (ProgramKind::Dims, 8, "refused program dims 8\n"),
         (ProgramKind::Outputs, 19, "refused program outputs 19\n"),
         (ProgramKind::NoOutput, 8, "refused program nooutput 8\n"),

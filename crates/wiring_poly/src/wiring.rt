@@ -27,13 +27,13 @@ pub fn wiring_at(circuit: &Circuit, layer: u32, z: &[Ext], b: &[Ext], c: &[Ext])
     (sums.add, sums.mul)
 }
 
-/// The wiring polynomials of a list of gates, by position, at points of at most 16 coordinates.
+/// The wiring polynomials of a list of gates, by position, at points of at most 20 coordinates.
 fn gate_sums(gates: &[CircuitGate], z: &[Ext], b: &[Ext], c: &[Ext]) -> WiringSums
     requires positions { length gates.now ≡ 2 ^ length z.now }
     requires operands { All (IsOver (2 ^ length b.now)) gates.now }
     requires right { length c.now ≡ length b.now }
-    requires few_positions { length z.now ≤ 16 }
-    requires few_operands { length b.now ≤ 16 }
+    requires few_positions { length z.now ≤ 20 }
+    requires few_operands { length b.now ≤ 20 }
     ensures add { result.add ≡ wiring_add k_ops gates.now z.now b.now c.now }
     ensures mul { result.mul ≡ wiring_mul k_ops gates.now z.now b.now c.now }
 {

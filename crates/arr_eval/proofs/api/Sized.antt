@@ -21,11 +21,13 @@ use Rattle.arr_run.specs.declared.counts.Counts.{Counts}
 use Rattle.arr_run.specs.declared.refused.CheckKind.TheVariants as kinds
 use Rattle.arr_run.specs.declared.refused.CheckRefused.TheVariants.{Bad}
 use Rattle.arr_run.specs.Agrees.{Answer}
+use Rattle.arr_run.specs.Definitions.{callables}
 use Rattle.arr_run.specs.Expression.{Valued, value_of}
+use Rattle.arr_ast.specs.ProgramTree.{DefinitionTree}
 use Rattle.arr_run.specs.Scope.{Names}
 use Rattle.arr_run.specs.Shape.{size_of, for_nodes, single_shape, pair_shape}
 use Rattle.arr_run.proofs.api.Answered.{if_ok, pair_ok}
-use Rattle.arr_run.proofs.api.Related.{GoTogether, Both, BothNames, expression_both}
+use Rattle.arr_run.proofs.api.Related.{GoTogether, Both, BothNames, expression_both, calls_both}
 use Rattle.arr_run.proofs.api.Shapes.{same_shape-size, for_nodes-shape, for_minus_one-shape, sum_shape-shape, product_shape-shape}
 use Rattle.arr_check.specs.declared.shapes.Shapes.{Shapes}
 use Rattle.arr_check.specs.Shapes.{shapes}
@@ -85,6 +87,7 @@ go = record {
       (tt, length-map b neg_f ∙ stands ∙ sym (ap size_of (for_minus_one-shape at (size_of of) of shape before counts e)), tt);
   single = λ function at of shape before counts a b s t e alike stands. (tt, single-size function at of shape before counts b e, tt);
   pair = λ function at left right shape before counts a a' b b' s t e alike first second. (tt, pair-size function at left right shape before counts b b' e second, tt);
+  stepped = λ at before counts s t e alike. tt;
   element = λ shape place a b s t within stands. refl;
 }
 
@@ -116,7 +119,10 @@ sized_of kept (Err refused) (Err other) found both e = cc
 sized_of kept (Ok x) (Err other) found both e = absurd both
 sized_of kept (Err refused) (Ok y) found both e = absurd both
 
-pub value-sized : (expression : ExpressionTree) (names : Names (List F)) (counts : Counts) (kept : Kept) (found : Valued (List F) Kept) → AllSized names → value_of numbers expression names counts kept ≡ Ok found → length found.1 ≡ size_of found.0
-value-sized expression names counts kept found sized e =
-    sized_of kept (value_of shapes expression (forgotten names) counts (record {})) (value_of numbers expression names counts kept) found
-    (expression_both shapes numbers Alike Stands Later go expression (forgotten names) names counts (record {}) kept (both_names kept names sized) tt) e
+pub value-sized : (definitions : List DefinitionTree) (expression : ExpressionTree) (names : Names (List F)) (counts : Counts) (kept : Kept) (found : Valued (List F) Kept) → AllSized names →
+    value_of numbers (callables numbers definitions) expression names counts kept ≡ Ok found → length found.1 ≡ size_of found.0
+value-sized definitions expression names counts kept found sized e =
+    let calls = callables shapes definitions in
+    let calls' = callables numbers definitions in
+    sized_of kept (value_of shapes calls expression (forgotten names) counts (record {})) (value_of numbers calls' expression names counts kept) found
+    (expression_both shapes numbers Alike Stands Later go calls calls' (calls_both shapes numbers Alike Stands Later go definitions) expression (forgotten names) names counts (record {}) kept (both_names kept names sized) tt) e

@@ -20,6 +20,8 @@ use Rattle.arr_ast.specs.declared.program.Dimensions.{Dimensions}
 use Rattle.arr_ast.specs.declared.program.Dimensions.TheVariants as dimensions
 use Rattle.arr_ast.specs.declared.shape.ShapeOf.{ShapeOf}
 use Rattle.arr_ast.specs.declared.shape.ShapeOf.TheVariants.{Scalar, Vector, Matrix}
+use Rattle.arr_ast.specs.declared.lang.Lang.{Lang}
+use Rattle.arr_ast.specs.declared.lang.Lang.TheVariants.{One, Two}
 use Rattle.arr_ast.specs.ProgramTree.{ProgramTree}
 use Rattle.arr_run.specs.declared.counts.Counts.{Counts}
 use Rattle.arr_run.specs.declared.refused.CheckKind.TheVariants as kinds
@@ -29,10 +31,11 @@ use Rattle.arr_run.specs.Agrees.{Answer, ◌>>=◌}
 use Rattle.arr_run.specs.Counting.{nodes_at, constant_at, element_number, with_constant}
 use Rattle.arr_run.specs.Program.{end_of, run_of, dimension_of, input_shape, none_counted, input_count}
 use Rattle.arr_run.specs.Shape.{size_of, same_shape, for_nodes, for_minus_one, sum_shape, single_shape, pair_shape}
-use Rattle.arr_run.specs.Statement.{State}
+use Rattle.arr_run.specs.State.{State}
 use Rattle.arr_run.proofs.api.Answered.{bind_ok, if_ok, pair_ok, same_ok}
 use Rattle.arr_run.proofs.api.Counted.{some-output, step_at-is, nodes_at-is, outputs_at-is, for_nodes-counts, for_minus_one-counts, sum-counts, difference-counts, product-counts}
 use Rattle.arr_run.proofs.api.InputNodes.{few-inputs}
+use Rattle.arr_run.proofs.api.Wider.{Kept as IsKept, state_in_two, run_kept}
 use Rattle.arr_run.proofs.api.Related.{Gives, GoTogether, GoOn, Begin, BothStates, programs}
 use Rattle.arr_run.proofs.api.Shapes.{same_shape-size, for_nodes-shape, for_minus_one-shape, sum_shape-shape, product_shape-shape}
 use Rattle.arr_check.specs.declared.shapes.Shapes.{Shapes}
@@ -56,7 +59,7 @@ use Rattle.arr_lower.proofs.Means.{same_some}
 record IsCounted (counts : Counts) (kept : Kept) : Type 0 where
   nodes_are : length kept.nodes ≡ counts.nodes
   outputs_are : length kept.outputs ≡ counts.outputs
-  few_nodes : counts.nodes ≤ 262144
+  few_nodes : counts.nodes ≤ 1048576
   few_outputs : counts.outputs ≤ 65535
   constants_are : (x : F) → set.contains counts.constants x.value ≡ has x kept.nodes
 
@@ -234,14 +237,14 @@ go = record {
   opposite = λ at of shape before counts a items s t e alike stand. opposite-given at of shape before counts s t items e alike stand;
   single = λ function at of shape before counts a items s t e alike stand. single-given function at of shape before counts s t items e alike stand;
   pair = λ function at left right shape before counts a a' b b' s t e alike first second. pair-given function at left right shape before counts s t b b' e alike first second;
+  stepped = λ at before counts s t e alike.
+      subst (λ (c : Counts). IsCounted c t) (sym (step_at-is at before counts e))
+      (record { nodes_are = alike.nodes_are; outputs_are = alike.outputs_are; few_nodes = alike.few_nodes; few_outputs = alike.few_outputs; constants_are = alike.constants_are });
   element = λ shape place a items s t within stand. (refl, omega arith);
 }
 
 more : GoOn shapes nodes Alike Stand Later
 more = record {
-  stepped = λ at before counts s t e alike.
-      subst (λ (c : Counts). IsCounted c t) (sym (step_at-is at before counts e))
-      (record { nodes_are = alike.nodes_are; outputs_are = alike.outputs_are; few_nodes = alike.few_nodes; few_outputs = alike.few_outputs; constants_are = alike.constants_are });
   with_element = λ shape place a a' items item s t stand one. (length-set items place (get_or item 0 0) ∙ stand.0, stand.1);
   output = λ at shape before counts a items s t e alike stand.
       let found = outputs_at-is at (size_of shape) before counts e in (
@@ -284,13 +287,13 @@ begin = record {
 abbrev pub none_made : Kept
 none_made = record { nodes = []; outputs = [] }
 
-none-known : (x : F) → set.contains none_counted.constants x.value ≡ has x []
-none-known x = set.contains-empty nat_cmp x.value
+none-known : (lang : Lang) (x : F) → set.contains (none_counted lang).constants x.value ≡ has x []
+none-known lang x = set.contains-empty nat_cmp x.value
 
-both : (program : ProgramTree) → BothStates shapes nodes Alike Stand Later go more (run_of shapes program (record {})) (run_of nodes program none_made)
-both program =
-    programs shapes nodes Alike Stand Later go more (λ trees s t. Unit {0}) begin program (record {}) none_made tt
-    (record { nodes_are = refl; outputs_are = refl; few_nodes = omega arith; few_outputs = omega arith; constants_are = none-known })
+both : (lang : Lang) (program : ProgramTree) → BothStates shapes nodes Alike Stand Later go more (run_of shapes lang program (record {})) (run_of nodes lang program none_made)
+both lang program =
+    programs shapes nodes Alike Stand Later go more (λ trees s t. Unit {0}) begin lang program (record {}) none_made tt
+    (record { nodes_are = refl; outputs_are = refl; few_nodes = omega arith; few_outputs = omega arith; constants_are = none-known lang })
 
 abbrev ShapesAnswer : Type 0
 ShapesAnswer = Answer (State (Unit {0}) Shapes)
@@ -310,70 +313,83 @@ there (Ok x) (Ok y) both accepted = ((y.counts, y.kept), refl)
 there (Err e) y both accepted = cc
 there (Ok x) (Err f) both accepted = absurd both
 
-is_there : (program : ProgramTree) → IsTrue (is_ok (run_program program)) → (end : Counts × Kept) × (end_of nodes program none_made ≡ Ok end)
-is_there program accepted = there (run_of shapes program (record {})) (run_of nodes program none_made) (both program) accepted
+is_there : (lang : Lang) (program : ProgramTree) → IsTrue (is_ok (run_program lang program)) → (end : Counts × Kept) × (end_of nodes lang program none_made ≡ Ok end)
+is_there lang program accepted = there (run_of shapes lang program (record {})) (run_of nodes lang program none_made) (both lang program) accepted
 
-pub has_nodes : (program : ProgramTree) → IsTrue (is_ok (run_program program)) → IsSome (nodes_of program)
-has_nodes program accepted = let found = is_there program accepted in rw found.1 refl
+pub has_nodes : (lang : Lang) (program : ProgramTree) → IsTrue (is_ok (run_program lang program)) → IsSome (nodes_of lang program)
+has_nodes lang program accepted = let found = is_there lang program accepted in rw found.1 refl
 
-pub never_refused : (program : ProgramTree) (refused : CheckRefused) → IsTrue (is_ok (run_program program)) → end_of nodes program none_made ≡ Err refused → ⊥
-never_refused program refused accepted e =
-    let found = is_there program accepted in let back = sym e in cc (found.1)
+pub never_refused : (lang : Lang) (program : ProgramTree) (refused : CheckRefused) → IsTrue (is_ok (run_program lang program)) → end_of nodes lang program none_made ≡ Err refused → ⊥
+never_refused lang program refused accepted e =
+    let found = is_there lang program accepted in let back = sym e in cc (found.1)
 
 -- what the run over shapes counts is there
-record IsEnd (answer : Answer Counts) (found : Nodes) : Type 0 where
+record IsEnd (lang : Lang) (answer : Answer Counts) (found : Nodes) : Type 0 where
   accepted : IsTrue (is_ok answer)
-  counted : IsCounted (or_none answer) (record { nodes = found.nodes; outputs = found.outputs })
-  some : 1 ≤ (or_none answer).outputs
+  counted : IsCounted (or_none lang answer) (record { nodes = found.nodes; outputs = found.outputs })
+  some : 1 ≤ (or_none lang answer).outputs
 
-ended : (count : ℕ) (x : ShapesAnswer) (y : NodesAnswer) (found : Nodes) → BothStates shapes nodes Alike Stand Later go more x y → ((after : State (Unit {0}) Shapes) → x ≡ Ok after → 1 ≤ after.counts.outputs) →
-    nodes_at_end count (end_with y) ≡ Some found → IsEnd (counts_of x) found
-ended count (Ok x) (Ok y) found both some e =
+ended : (lang : Lang) (count : ℕ) (x : ShapesAnswer) (y : NodesAnswer) (found : Nodes) → BothStates shapes nodes Alike Stand Later go more x y → ((after : State (Unit {0}) Shapes) → x ≡ Ok after → 1 ≤ after.counts.outputs) →
+    nodes_at_end count (end_with y) ≡ Some found → IsEnd lang (counts_of x) found
+ended lang count (Ok x) (Ok y) found both some e =
     let made : Nodes = record { inputs = count; nodes = y.kept.nodes; outputs = y.kept.outputs } in
-    subst (IsEnd (Ok x.counts)) (same_some made found e) (record { accepted = refl; counted = both.1; some = some x refl })
-ended count (Err refused) (Err other) found both some e = cc
-ended count (Ok x) (Err refused) found both some e = absurd both
-ended count (Err refused) (Ok y) found both some e = absurd both
+    subst (IsEnd lang (Ok x.counts)) (same_some made found e) (record { accepted = refl; counted = both.1; some = some x refl })
+ended lang count (Err refused) (Err other) found both some e = cc
+ended lang count (Ok x) (Err refused) found both some e = absurd both
+ended lang count (Err refused) (Ok y) found both some e = absurd both
 
-is-end : (program : ProgramTree) (found : Nodes) → nodes_of program ≡ Some found → IsEnd (run_program program) found
-is-end program found e =
-    ended (input_count program.inputs) (run_of shapes program (record {})) (run_of nodes program none_made) found (both program) (λ after is. some-output shapes program (record {}) after is) e
+is-end : (lang : Lang) (program : ProgramTree) (found : Nodes) → nodes_of lang program ≡ Some found → IsEnd lang (run_program lang program) found
+is-end lang program found e =
+    ended lang (input_count program.inputs) (run_of shapes lang program (record {})) (run_of nodes lang program none_made) found (both lang program) (λ after is. some-output shapes lang program (record {}) after is) e
 
-pub accepted : (program : ProgramTree) (found : Nodes) → nodes_of program ≡ Some found → IsTrue (is_ok (run_program program))
-accepted program found e = (is-end program found e).accepted
+pub accepted : (lang : Lang) (program : ProgramTree) (found : Nodes) → nodes_of lang program ≡ Some found → IsTrue (is_ok (run_program lang program))
+accepted lang program found e = (is-end lang program found e).accepted
 
-pub nodes_counted : (program : ProgramTree) (found : Nodes) → nodes_of program ≡ Some found → length found.nodes ≡ (run_end program).nodes
-nodes_counted program found e = (is-end program found e).counted.nodes_are
+pub nodes_counted : (lang : Lang) (program : ProgramTree) (found : Nodes) → nodes_of lang program ≡ Some found → length found.nodes ≡ (run_end lang program).nodes
+nodes_counted lang program found e = (is-end lang program found e).counted.nodes_are
 
-pub has_outputs : (program : ProgramTree) (found : Nodes) → IsTrue (is_ok (run_program program)) → nodes_of program ≡ Some found → (length found.outputs ≡ (run_end program).outputs) × (1 ≤ length found.outputs)
-has_outputs program found accepted e =
-    let end = is-end program found e in
+pub has_outputs : (lang : Lang) (program : ProgramTree) (found : Nodes) → IsTrue (is_ok (run_program lang program)) → nodes_of lang program ≡ Some found → (length found.outputs ≡ (run_end lang program).outputs) × (1 ≤ length found.outputs)
+has_outputs lang program found accepted e =
+    let end = is-end lang program found e in
     (end.counted.outputs_are, omega (arith, end.counted.outputs_are, end.some))
 
-pub is-list : (program : ProgramTree) (found : Nodes) → nodes_of program ≡ Some found → IsNodeList found
-is-list program found e =
-    let end = is-end program found e in
+pub outputs-few : (lang : Lang) (program : ProgramTree) (found : Nodes) → nodes_of lang program ≡ Some found → length found.outputs ≤ 65535
+outputs-few lang program found e = let end = is-end lang program found e in omega (arith, end.counted.outputs_are, end.counted.few_outputs)
+
+pub is-list : (lang : Lang) (program : ProgramTree) (found : Nodes) → nodes_of lang program ≡ Some found → IsNodeList found
+is-list lang program found e =
+    let end = is-end lang program found e in
     record {
-      fine = nodes-fine program found e;
-      outputs_there = outputs-there program found e;
+      fine = nodes-fine lang program found e;
+      outputs_there = outputs-there lang program found e;
       has_output = omega (arith, end.counted.outputs_are, end.some);
       few_nodes = omega (arith, end.counted.nodes_are, end.counted.few_nodes);
       few_outputs = omega (arith, end.counted.outputs_are, end.counted.few_outputs);
     }
 
+-- ---- in both languages
+
+same_end : (count : ℕ) (x y : NodesAnswer) → IsKept (state_in_two nodes) x y → IsSome (nodes_at_end count (end_with x)) → nodes_at_end count (end_with y) ≡ nodes_at_end count (end_with x)
+same_end count (Ok x) y kept some = ap (λ (answer : NodesAnswer). nodes_at_end count (end_with answer)) kept
+same_end count (Err refused) y kept some = cc
+
+pub same_nodes : (program : ProgramTree) → IsTrue (is_ok (run_program One program)) → nodes_of Two program ≡ nodes_of One program
+same_nodes program accepted =
+    same_end (input_count program.inputs) (run_of nodes One program none_made) (run_of nodes Two program none_made) (run_kept nodes program none_made) (has_nodes One program accepted)
+
 -- ---- as the call makes it
 
-pub nodes-at_end : (program : ProgramTree) (count : ℕ) (start end : Kept) (counts : Counts) → start ≡ none_made → count ≡ input_count program.inputs → end_of nodes program start ≡ Ok (counts, end) →
-    nodes_of program ≡ Some (record { inputs = count; nodes = end.nodes; outputs = end.outputs })
-nodes-at_end program count start end counts is_start is_count e =
-    ap (λ (kept : Kept). nodes_at_end (input_count program.inputs) (end_of nodes program kept)) (sym is_start)
+pub nodes-at_end : (lang : Lang) (program : ProgramTree) (count : ℕ) (start end : Kept) (counts : Counts) → start ≡ none_made → count ≡ input_count program.inputs → end_of nodes lang program start ≡ Ok (counts, end) →
+    nodes_of lang program ≡ Some (record { inputs = count; nodes = end.nodes; outputs = end.outputs })
+nodes-at_end lang program count start end counts is_start is_count e =
+    ap (λ (kept : Kept). nodes_at_end (input_count program.inputs) (end_of nodes lang program kept)) (sym is_start)
     ∙ ap (nodes_at_end (input_count program.inputs)) e
     ∙ ap (λ (n : ℕ). Some (record { inputs = n; nodes = end.nodes; outputs = end.outputs })) (sym is_count)
 
-few_if : (program : ProgramTree) (count : ℕ) (x : NodesAnswer) (found : Nodes) → run_of nodes program none_made ≡ x → nodes_at_end count (end_with x) ≡ Some found → input_count program.inputs ≤ 262144
-few_if program count (Ok after) found is e = few-inputs nodes program none_made after is
-few_if program count (Err refused) found is e = cc
+few_if : (lang : Lang) (program : ProgramTree) (count : ℕ) (x : NodesAnswer) (found : Nodes) → run_of nodes lang program none_made ≡ x → nodes_at_end count (end_with x) ≡ Some found → input_count program.inputs ≤ 1048576
+few_if lang program count (Ok after) found is e = few-inputs nodes lang program none_made after is
+few_if lang program count (Err refused) found is e = cc
 
 -- a program with nodes has few enough inputs for their numbers
-pub inputs_few : (program : ProgramTree) (found : Nodes) → nodes_of program ≡ Some found → input_count program.inputs ≤ 262144
-inputs_few program found e = few_if program (input_count program.inputs) (run_of nodes program none_made) found refl e
+pub inputs_few : (lang : Lang) (program : ProgramTree) (found : Nodes) → nodes_of lang program ≡ Some found → input_count program.inputs ≤ 1048576
+inputs_few lang program found e = few_if lang program (input_count program.inputs) (run_of nodes lang program none_made) found refl e

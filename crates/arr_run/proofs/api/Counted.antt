@@ -1,5 +1,5 @@
 -- What is counted where shapes aren't refused.
-use Rattle.std.proofs.Common.{◌≡◌, ℕ, ◌+◌, ◌*◌, ◌≤◌, ◌==◌, Bool, true, false, [], Ok, Err, refl, sym, subst, arith}
+use Rattle.std.proofs.Common.{◌≡◌, ℕ, ◌+◌, ◌*◌, ◌≤◌, ◌==◌, Bool, true, false, [], reverse, Ok, Err, refl, sym, subst, arith}
 use Rattle.std.specs.Prelude.{nat_le, nat_lt, if◌then◌else◌}
 use Rattle.std.proofs.lemmas.Bool.Decides.{nat_tests}
 use Rattle.arr_ast.specs.declared.expression.Sign.TheVariants.{Plus, Minus}
@@ -7,23 +7,32 @@ use Rattle.arr_ast.specs.declared.shape.ShapeOf.{ShapeOf}
 use Rattle.arr_run.specs.declared.counts.Counts.{Counts}
 use Rattle.arr_run.specs.declared.refused.CheckKind.TheVariants as kinds
 use Rattle.arr_run.specs.declared.refused.CheckRefused.TheVariants.{Bad}
+use Rattle.arr_ast.specs.declared.lang.Lang.{Lang}
+use Rattle.arr_ast.specs.declared.lang.Lang.TheVariants.{One, Two}
 use Rattle.arr_ast.specs.ProgramTree.{ProgramTree}
 use Rattle.arr_run.specs.Agrees.{◌>>=◌, each}
 use Rattle.arr_run.specs.Counting.{step_at, nodes_at, constant_at}
 use Rattle.arr_run.specs.Operations.{Operations}
 use Rattle.arr_run.specs.Program.{outputs_at, after_input, after_top, if_any_output, none_counted, run_of}
 use Rattle.arr_run.specs.Shape.{size_of, same_shape, for_nodes, for_minus_one, sum_shape, product_shape}
-use Rattle.arr_run.specs.Statement.{State, state}
+use Rattle.arr_run.specs.Definitions.{after_definitions}
+use Rattle.arr_run.specs.Limits.{most_nodes}
+use Rattle.arr_run.specs.State.{State, state}
 use Rattle.arr_run.proofs.api.Answered.{bind_ok, if_ok, pair_ok, same_ok}
 
 pub step_at-is : (at : ℕ) (before counts : Counts) → step_at at before ≡ Ok counts → counts ≡ record before { steps = before.steps + 1 }
 step_at-is at before counts e =
     sym (same_ok (record before { steps = before.steps + 1 }) counts (if_ok (nat_lt before.steps 1048576) (Ok (record before { steps = before.steps + 1 })) (Bad at kinds.Steps) counts e).1)
 
-pub nodes_at-is : (at more : ℕ) (before counts : Counts) → nodes_at at more before ≡ Ok counts → (counts ≡ record before { nodes = more + before.nodes }) × (more + before.nodes ≤ 262144)
+pub most_nodes-bounded : (lang : Lang) → most_nodes lang ≤ 1048576
+most_nodes-bounded One = omega arith
+most_nodes-bounded Two = omega arith
+
+pub nodes_at-is : (at more : ℕ) (before counts : Counts) → nodes_at at more before ≡ Ok counts → (counts ≡ record before { nodes = more + before.nodes }) × (more + before.nodes ≤ 1048576)
 nodes_at-is at more before counts e =
-    let found = if_ok (nat_le (more + before.nodes) 262144) (Ok (record before { nodes = more + before.nodes })) (Bad at kinds.Nodes) counts e in
-    (sym (same_ok (record before { nodes = more + before.nodes }) counts found.1), grind (arith, nat_tests, found.0))
+    let found = if_ok (nat_le (more + before.nodes) (most_nodes before.lang)) (Ok (record before { nodes = more + before.nodes })) (Bad at kinds.Nodes) counts e in
+    let within : more + before.nodes ≤ most_nodes before.lang = grind (arith, nat_tests, found.0) in
+    (sym (same_ok (record before { nodes = more + before.nodes }) counts found.1), omega (arith, within, most_nodes-bounded before.lang))
 
 pub outputs_at-is : (at more : ℕ) (before counts : Counts) → outputs_at at more before ≡ Ok counts → (counts ≡ record before { outputs = more + before.outputs }) × (more + before.outputs ≤ 65535)
 outputs_at-is at more before counts e =
@@ -64,7 +73,9 @@ any-output {A} {S} end before after e = by (before.counts.outputs == 0) refl e
         subst (λ (last : State A S). 1 ≤ last.counts.outputs) (same_ok before after e) some
 
 -- a program that isn't refused has an output
-pub some-output : {A S : Type 0} (operations : Operations A S) (program : ProgramTree) (kept : S) (after : State A S) → run_of operations program kept ≡ Ok after → 1 ≤ after.counts.outputs
-some-output operations program kept after e =
-    let whole = bind_ok (each (after_input operations) program.inputs (state [] none_counted kept) >>= each (after_top operations) program.statements) (if_any_output program.end) after e in
+pub some-output : {A S : Type 0} (operations : Operations A S) (lang : Lang) (program : ProgramTree) (kept : S) (after : State A S) → run_of operations lang program kept ≡ Ok after → 1 ≤ after.counts.outputs
+some-output operations lang program kept after e =
+    let inputs = each (after_input operations) program.inputs (state [] (none_counted lang) kept) in
+    let tops = each (after_top operations (reverse program.definitions)) program.statements in
+    let whole = bind_ok (inputs >>= after_definitions [] program.definitions >>= tops) (if_any_output program.end) after e in
     any-output program.end whole.0 after whole.2

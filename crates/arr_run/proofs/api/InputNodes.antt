@@ -1,8 +1,9 @@
 -- The nodes after the inputs are as many as the inputs have numbers.
-use Rattle.std.proofs.Common.{◌≡◌, ℕ, ◌+◌, ◌&&◌, ◌≤◌, List, [], ◌∷◌, Ok, ap, sym, ◌∙◌, subst, arith}
+use Rattle.std.proofs.Common.{◌≡◌, ℕ, ◌+◌, ◌&&◌, ◌≤◌, List, [], ◌∷◌, reverse, Ok, ap, sym, ◌∙◌, subst, arith}
 use Rattle.std.specs.Prelude.{nat_lt, nat_le}
 use Rattle.std.proofs.lemmas.Bool.Decides.{nat_tests}
 use Rattle.std.proofs.lemmas.List.Sums.{sum_by-cons}
+use Rattle.arr_ast.specs.declared.lang.Lang.{Lang}
 use Rattle.arr_ast.specs.declared.program.Dimension.{Dimension}
 use Rattle.arr_ast.specs.declared.program.Dimensions.{Dimensions}
 use Rattle.arr_ast.specs.declared.program.Dimensions.TheVariants.{Scalar, Vector, Matrix}
@@ -15,8 +16,11 @@ use Rattle.arr_run.specs.Counting.{step_at, nodes_at}
 use Rattle.arr_run.specs.Operations.{Operations}
 use Rattle.arr_run.specs.Program.{after_input, after_top, run_of, if_any_output, dimension_of, input_shape, declared_shape, numbers_of_input, input_count, none_counted}
 use Rattle.arr_run.specs.Shape.{size_of}
-use Rattle.arr_run.specs.Statement.{State, state, bound, if_free}
+use Rattle.arr_run.specs.Limits.{most_nodes}
+use Rattle.arr_run.specs.Definitions.{after_definitions}
+use Rattle.arr_run.specs.State.{State, state, bound, if_free}
 use Rattle.arr_run.proofs.api.Answered.{bind_ok, if_ok, same_ok}
+use Rattle.arr_run.proofs.api.Counted.{most_nodes-bounded}
 
 -- a step leaves the nodes as they were
 pub step_at-keeps : (at : ℕ) (counts after : Counts) → step_at at counts ≡ Ok after → after.nodes ≡ counts.nodes
@@ -26,14 +30,15 @@ step_at-keeps at counts after e =
 
 nodes_at-adds : (at more : ℕ) (counts after : Counts) → nodes_at at more counts ≡ Ok after → after.nodes ≡ more + counts.nodes
 nodes_at-adds at more counts after e =
-    let found = if_ok (nat_le (more + counts.nodes) 262144) (Ok (record counts { nodes = more + counts.nodes })) _ after e in
+    let found = if_ok (nat_le (more + counts.nodes) (most_nodes counts.lang)) (Ok (record counts { nodes = more + counts.nodes })) _ after e in
     sym (ap (λ (c : Counts). c.nodes) (same_ok (record counts { nodes = more + counts.nodes }) after found.1))
 
-nodes_at-few : (at more : ℕ) (counts after : Counts) → nodes_at at more counts ≡ Ok after → after.nodes ≤ 262144
+nodes_at-few : (at more : ℕ) (counts after : Counts) → nodes_at at more counts ≡ Ok after → after.nodes ≤ 1048576
 nodes_at-few at more counts after e =
-    let found = if_ok (nat_le (more + counts.nodes) 262144) (Ok (record counts { nodes = more + counts.nodes })) _ after e in
-    let inside : more + counts.nodes ≤ 262144 = grind (arith, nat_tests, found.0) in
-    subst (λ (c : Counts). c.nodes ≤ 262144) (same_ok (record counts { nodes = more + counts.nodes }) after found.1) inside
+    let found = if_ok (nat_le (more + counts.nodes) (most_nodes counts.lang)) (Ok (record counts { nodes = more + counts.nodes })) _ after e in
+    let inside : more + counts.nodes ≤ most_nodes counts.lang = grind (arith, nat_tests, found.0) in
+    let within : more + counts.nodes ≤ 1048576 = omega (arith, inside, most_nodes-bounded counts.lang) in
+    subst (λ (c : Counts). c.nodes ≤ 1048576) (same_ok (record counts { nodes = more + counts.nodes }) after found.1) within
 
 dimension_of-same : (dimension : Dimension) (n : ℕ) → dimension_of dimension ≡ Ok n → n ≡ dimension.size
 dimension_of-same dimension n e = sym (same_ok dimension.size n (if_ok (nat_le 1 dimension.size && nat_le dimension.size 4096) (Ok dimension.size) _ n e).1)
@@ -71,11 +76,11 @@ module _ {A S : Type 0} (operations : Operations A S) where
       let rest : after.counts.nodes ≡ input_count inputs + first.0.counts.nodes = inputs-nodes inputs first.0 after first.2 in
       omega (arith, one, rest, sum_by-cons numbers_of_input input inputs)
 
-  pub start-nodes : (inputs : List InputTree) (kept : S) (after : State A S) → each (after_input operations) inputs (state [] none_counted kept) ≡ Ok after → after.counts.nodes ≡ input_count inputs
-  start-nodes inputs kept after e = let nodes : after.counts.nodes ≡ input_count inputs + 0 = inputs-nodes inputs (state [] none_counted kept) after e in omega (arith, nodes)
+  pub start-nodes : (lang : Lang) (inputs : List InputTree) (kept : S) (after : State A S) → each (after_input operations) inputs (state [] (none_counted lang) kept) ≡ Ok after → after.counts.nodes ≡ input_count inputs
+  start-nodes lang inputs kept after e = let nodes : after.counts.nodes ≡ input_count inputs + 0 = inputs-nodes inputs (state [] (none_counted lang) kept) after e in omega (arith, nodes)
 
-  inputs-few : (inputs : List InputTree) (before after : State A S) → before.counts.nodes ≤ 262144 → each (after_input operations) inputs before ≡ Ok after → after.counts.nodes ≤ 262144
-  inputs-few [] before after few e = subst (λ (r : State A S). r.counts.nodes ≤ 262144) (same_ok before after e) few
+  inputs-few : (inputs : List InputTree) (before after : State A S) → before.counts.nodes ≤ 1048576 → each (after_input operations) inputs before ≡ Ok after → after.counts.nodes ≤ 1048576
+  inputs-few [] before after few e = subst (λ (r : State A S). r.counts.nodes ≤ 1048576) (same_ok before after e) few
   inputs-few (input ∷ inputs) before after few e =
       let first = bind_ok (after_input operations input before) (each (after_input operations) inputs) after e in
       let stepped = bind_ok (step_at input.at before.counts) _ first.0 first.1 in
@@ -87,12 +92,15 @@ module _ {A S : Type 0} (operations : Operations A S) where
       inputs-few inputs first.0 after (omega (arith, named, now)) first.2
 
   -- a program that isn't refused has no more inputs than it may have nodes
-  pub few-inputs : (program : ProgramTree) (kept : S) (after : State A S) → run_of operations program kept ≡ Ok after → input_count program.inputs ≤ 262144
-  few-inputs program kept after e =
-      let whole = bind_ok (each (after_input operations) program.inputs (state [] none_counted kept) >>= each (after_top operations) program.statements) (if_any_output program.end) after e in
-      let begun = bind_ok (each (after_input operations) program.inputs (state [] none_counted kept)) (each (after_top operations) program.statements) whole.0 whole.1 in
-      let few = inputs-few program.inputs (state [] none_counted kept) begun.0 (omega arith) begun.1 in
-      let many = start-nodes program.inputs kept begun.0 begun.1 in
+  pub few-inputs : (lang : Lang) (program : ProgramTree) (kept : S) (after : State A S) → run_of operations lang program kept ≡ Ok after → input_count program.inputs ≤ 1048576
+  few-inputs lang program kept after e =
+      let inputs = each (after_input operations) program.inputs (state [] (none_counted lang) kept) in
+      let tops = each (after_top operations (reverse program.definitions)) program.statements in
+      let whole = bind_ok (inputs >>= after_definitions [] program.definitions >>= tops) (if_any_output program.end) after e in
+      let defined = bind_ok (inputs >>= after_definitions [] program.definitions) tops whole.0 whole.1 in
+      let begun = bind_ok inputs (after_definitions [] program.definitions) defined.0 defined.1 in
+      let few = inputs-few program.inputs (state [] (none_counted lang) kept) begun.0 (omega arith) begun.1 in
+      let many = start-nodes lang program.inputs kept begun.0 begun.1 in
       omega (arith, few, many)
 
 pub ruleset of_inputs = (start-nodes)

@@ -3,6 +3,7 @@ use Rattle.std.proofs.Common.{◌≡◌, inl, inr, ℕ, List, [], ◌∷◌, ◌
 use Rattle.std.specs.List.{flat_map}
 use Rattle.std.proofs.lemmas.List.{append-nil}
 use Rattle.std.proofs.lemmas.List.Concat.{flat_map-append}
+use Rattle.arr_ast.specs.declared.lang.Lang.{Lang}
 use Rattle.field_ext.specs.Field.{F, K}
 use Rattle.field_ext.specs.Bytes.{bytes_of}
 use Rattle.circuit_core.specs.Parts.{Parts, layer_values, input_table}
@@ -46,22 +47,22 @@ HonestIsAccepted form = (c : SoundCircuit) (inputs outputs : List F) (source : S
     verdict_of (claim_in form c.parts inputs outputs) (all_messages messages.layers) (all_draws source s (exponent_at c.parts 0) (all_messages messages.layers)) ≡ Accepted
 
 -- what is written of accepted messages says them
-pub kind_says : (kind : ProofKind) (program : List ℕ) (inputs outputs : List F) (p : Parts) (m : Messages) → HaveShape (form_in kind) (drop 1 (exponents p)) m.layers
+pub kind_says : (kind : ProofKind) (lang : Lang) (program : List ℕ) (inputs outputs : List F) (p : Parts) (m : Messages) → HaveShape (form_in kind) (drop 1 (exponents p)) m.layers
     → verdict_of (claim_in (form_in kind) p inputs outputs) (all_messages m.layers) (all_draws transcript (start_of (form_in kind) program inputs outputs) (exponent_at p 0) (all_messages m.layers)) ≡ Accepted
-    → Says (form_in kind) (record { program = program; inputs = inputs; outputs = Some outputs; proof = Some (kind_spelling kind m) }) p outputs m
-kind_says (ByLines One) program inputs outputs p m shape verdict = inl refl
-kind_says (ByLines Two) program inputs outputs p m shape verdict = inr (record {
+    → Says (form_in kind) (record { lang = lang; program = program; inputs = inputs; outputs = Some outputs; proof = Some (kind_spelling kind m) }) p outputs m
+kind_says (ByLines One) lang program inputs outputs p m shape verdict = inl refl
+kind_says (ByLines Two) lang program inputs outputs p m shape verdict = inr (record {
   pairs = shortened m;
   pairs_shape = short_shape (drop 1 (exponents p)) m.layers shape;
   pairs_spelled = refl;
   filled_is = sym (sums-fill p outputs transcript (start_of Line program inputs outputs) m (accepted_sums p inputs outputs transcript (start_of Line program inputs outputs) m shape verdict));
 })
-kind_says ByPairs program inputs outputs p m shape verdict = refl
+kind_says ByPairs lang program inputs outputs p m shape verdict = refl
 
 pub accepted : (kind : ProofKind) → OneTree → InputsAre → IsComputed → HonestIsAccepted (form_in kind) → (c p : Content) → IsProved kind c p → IsVerdictOn p Accepted
 accepted kind one inputs_are computes honest c p is =
     let there = meaning_there one inputs_are computes c is.parts is.compiled is.outputs is.evaluated in
-    let verdict = honest (sound c.program is.parts is.compiled) c.inputs is.outputs transcript (start_of (form_in kind) c.program c.inputs is.outputs) is.messages there.as_many there.stand is.of_shape is.honest in
+    let verdict = honest (sound c.lang c.program is.parts is.compiled) c.inputs is.outputs transcript (start_of (form_in kind) c.program c.inputs is.outputs) is.messages there.as_many there.stand is.of_shape is.honest in
     subst (λ (q : Content). IsVerdictOn q Accepted) (sym is.proved_is) (record {
       parts = is.parts;
       outputs = is.outputs;
@@ -70,7 +71,7 @@ accepted kind one inputs_are computes honest c p is =
       form = form_in kind;
       messages = is.messages;
       of_shape = is.of_shape;
-      spelled = kind_says kind c.program c.inputs is.outputs is.parts is.messages is.of_shape verdict;
+      spelled = kind_says kind c.lang c.program c.inputs is.outputs is.parts is.messages is.of_shape verdict;
       verdict_is = sym verdict;
     })
 
@@ -101,7 +102,7 @@ same_spelling : (form : ProofForm) (a b : Messages) → all_messages a.layers �
 same_spelling form a b e = ap (λ (xs : List K). magic form ++ flat_map bytes_of xs) (sym (flat_messages a.layers) ∙ ap flat e ∙ flat_messages b.layers)
 
 abbrev pub OneCircuit : Type 0
-OneCircuit = (text : List ℕ) (a b : Parts) → IsCompiled text a → IsCompiled text b → a ≡ b
+OneCircuit = (lang : Lang) (text : List ℕ) (a b : Parts) → IsCompiled lang text a → IsCompiled lang text b → a ≡ b
 
 abbrev pub HonestIsUnique : ProofForm → Type 0
 HonestIsUnique form = (layers : List GateLayer) (input z : List K) (source : Source) (s : List ℕ) (qs others : List (List K)) → length qs ≡ message_count layers → length others ≡ message_count layers →
@@ -121,15 +122,15 @@ one_proof form unique p inputs s a b shape shape' honest honest' =
 pub one_proved : (kind : ProofKind) → OneTree → OneCircuit → HonestIsUnique (form_in kind) → (c p q : Content) → IsProved kind c p → IsProved kind c q → p ≡ q
 one_proved kind one circuit unique c p q is is' =
     let form : ProofForm = form_in kind in
-    let parts : is.parts ≡ is'.parts = circuit c.program is.parts is'.parts is.compiled is'.compiled in
+    let parts : is.parts ≡ is'.parts = circuit c.lang c.program is.parts is'.parts is.compiled is'.compiled in
     let outputs : is.outputs ≡ is'.outputs = one_meaning one c is.outputs is'.outputs is.evaluated is'.evaluated in
     let shape = subst (λ (p : Parts). HaveShape (form_in kind) (drop 1 (exponents p)) is.messages.layers) parts is.of_shape in
     let honest = coe 0 1 (i. AreHonestMessages (form_in kind) (parts i) c.inputs transcript (start_of (form_in kind) c.program c.inputs (outputs i)) (all_messages is.messages.layers)) is.honest in
     let bytes = one_proof form unique is'.parts c.inputs (start_of form c.program c.inputs is'.outputs) is.messages is'.messages shape is'.of_shape honest is'.honest in
     let messages : is.messages ≡ is'.messages = one_reading form (exponents is'.parts) is.messages is'.messages shape is'.of_shape bytes in
-    is.proved_is ∙ (λ i. record { program = c.program; inputs = c.inputs; outputs = Some (outputs i); proof = Some (kind_spelling kind (messages i)) }) ∙ sym is'.proved_is
+    is.proved_is ∙ (λ i. record { lang = c.lang; program = c.program; inputs = c.inputs; outputs = Some (outputs i); proof = Some (kind_spelling kind (messages i)) }) ∙ sym is'.proved_is
 
 -- cases of the same parts are the same
-pub same_content : (program program' : List ℕ) (inputs inputs' outputs : List F) (proof proof' : List ℕ) → program ≡ program' → inputs ≡ inputs' → proof ≡ proof' →
-    ◌≡◌ {A = Content} (record { program = program; inputs = inputs; outputs = Some outputs; proof = Some proof }) (record { program = program'; inputs = inputs'; outputs = Some outputs; proof = Some proof' })
-same_content program program' inputs inputs' outputs proof proof' e f g = λ i. record { program = e i; inputs = f i; outputs = Some outputs; proof = Some (g i) }
+pub same_content : (lang lang' : Lang) (program program' : List ℕ) (inputs inputs' outputs : List F) (proof proof' : List ℕ) → lang ≡ lang' → program ≡ program' → inputs ≡ inputs' → proof ≡ proof' →
+    ◌≡◌ {A = Content} (record { lang = lang; program = program; inputs = inputs; outputs = Some outputs; proof = Some proof }) (record { lang = lang'; program = program'; inputs = inputs'; outputs = Some outputs; proof = Some proof' })
+same_content lang lang' program program' inputs inputs' outputs proof proof' l e f g = λ i. record { lang = l i; program = e i; inputs = f i; outputs = Some outputs; proof = Some (g i) }

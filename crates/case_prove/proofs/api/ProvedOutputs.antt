@@ -3,6 +3,8 @@ use Rattle.std.proofs.Common.{◌≡◌, ℕ, zero, suc, ◌+◌, ◌<◌, ◌�
 use Rattle.std.specs.Prelude.{is_none, slice_get, slice_index_or}
 use Rattle.std.proofs.lemmas.List.{take_more, map-append}
 use Rattle.std.proofs.lemmas.Option.{get_or_from_slice_get}
+use Rattle.arr_ast.specs.declared.lang.Lang.{Lang}
+use Rattle.arr_ast.specs.declared.lang.Lang.TheVariants.{One, Two}
 use Rattle.field_ext.specs.Field.{F, K, zero_k, embed_k}
 use Rattle.circuit_core.specs.Parts.{Parts, layer_values, zero_f}
 use Rattle.circuit_core.specs.Faults.{fault_of}
@@ -16,20 +18,21 @@ use Rattle.arr_lower.proofs.api.Counted.{is-list}
 use Rattle.layer_compile.specs.Circuits.{AreKept}
 use Rattle.layer_compile.proofs.api.NoFault.{faultless}
 use Rattle.arr_compile.specs.Programs.{IsRead}
-use Rattle.arr_compile.specs.Circuits.{IsCompiled, Computes}
+use Rattle.arr_compile.specs.Circuits.{limits_of, IsCompiled, Computes}
 use Rattle.case_text.specs.Content.{Content}
 use Rattle.case_prove.specs.Evaluated.{IsEvaluated}
 
 -- ---- a sound circuit
 
-pub kept : AreKept greatest
-kept = record { height = omega arith; exponent = omega arith }
+pub kept : (lang : Lang) → AreKept (limits_of lang)
+kept One = record { height = omega arith; exponent = omega arith }
+kept Two = record { height = omega arith; exponent = omega arith }
 
-abbrev pub sound : (text : List ℕ) (p : Parts) → IsCompiled text p → SoundCircuit
-sound text p is = record {
+abbrev pub sound : (lang : Lang) (text : List ℕ) (p : Parts) → IsCompiled lang text p → SoundCircuit
+sound lang text p is = record {
   parts = p;
-  faultless = subst (λ (q : Parts). IsTrue (is_none (fault_of greatest q))) (sym is.laid_out) (ap is_none (faultless greatest kept is.nodes (is-list is.tree is.nodes is.lowered.nodes_are) is.fits));
-  has_output = subst (λ (q : Parts). 1 ≤ q.outputs) (sym is.laid_out) (is-list is.tree is.nodes is.lowered.nodes_are).has_output;
+  faultless = subst (λ (q : Parts). IsTrue (is_none (fault_of greatest q))) (sym is.laid_out) (ap is_none (faultless (limits_of lang) (kept lang) is.nodes (is-list lang is.tree is.nodes is.lowered.nodes_are) is.fits));
+  has_output = subst (λ (q : Parts). 1 ≤ q.outputs) (sym is.laid_out) (is-list lang is.tree is.nodes is.lowered.nodes_are).has_output;
 }
 
 -- ---- what is read from the output layer's table
@@ -66,34 +69,34 @@ module _ (c : SoundCircuit) (inputs : List F) (tables : List (List K)) (are : Ar
 -- ---- what the program means
 
 abbrev pub OneTree : Type 0
-OneTree = (text : List ℕ) (a b : ProgramTree) → IsRead text a → IsRead text b → a ≡ b
+OneTree = (lang : Lang) (text : List ℕ) (a b : ProgramTree) → IsRead lang text a → IsRead lang text b → a ≡ b
 
 abbrev pub InputsAre : Type 0
-InputsAre = (text : List ℕ) (parts : Parts) (is : IsCompiled text parts) → parts.inputs ≡ input_count is.tree.inputs
+InputsAre = (lang : Lang) (text : List ℕ) (parts : Parts) (is : IsCompiled lang text parts) → parts.inputs ≡ input_count is.tree.inputs
 
 abbrev pub IsComputed : Type 0
-IsComputed = (text : List ℕ) (parts : Parts) (is : IsCompiled text parts) (inputs : List F) → length inputs ≡ parts.inputs → Computes is.tree parts inputs
+IsComputed = (lang : Lang) (text : List ℕ) (parts : Parts) (is : IsCompiled lang text parts) (inputs : List F) → length inputs ≡ parts.inputs → Computes lang is.tree parts inputs
 
-stand : (tree : ProgramTree) (p : Parts) (inputs : List F) (computed : Computes tree p inputs) → take p.outputs (drop 1 (layer_values p inputs 0)) ≡ computed.outputs
-stand tree p inputs computed =
+stand : (lang : Lang) (tree : ProgramTree) (p : Parts) (inputs : List F) (computed : Computes lang tree p inputs) → take p.outputs (drop 1 (layer_values p inputs 0)) ≡ computed.outputs
+stand lang tree p inputs computed =
     ap (λ (values : List F). take p.outputs (drop 1 values)) computed.values_are
     ∙ ap (λ (n : ℕ). take n (computed.outputs ++ replicate computed.zeros zero_f)) (sym computed.as_many)
     ∙ take-front computed.outputs (replicate computed.zeros zero_f)
 
 -- what is read after position 0 of the output layer's table is the program's meaning
-pub evaluated : InputsAre → IsComputed → (c : Content) (circuit : SoundCircuit) → IsCompiled c.program circuit.parts → length c.inputs ≡ circuit.parts.inputs →
+pub evaluated : InputsAre → IsComputed → (c : Content) (circuit : SoundCircuit) → IsCompiled c.lang c.program circuit.parts → length c.inputs ≡ circuit.parts.inputs →
     (inputs outputs : List F) (tables : List (List K)) (items : List K) (n : ℕ) → inputs ≡ c.inputs → AreTables circuit.parts inputs tables → items ≡ slice_index_or tables 0 [] → n ≡ circuit.parts.outputs →
     outputs ≡ map (λ (x : K). x.re) (take n (drop 1 items)) → (length outputs ≡ circuit.parts.outputs) × IsEvaluated c outputs
 evaluated inputs_are computes c circuit is counted inputs outputs tables items n of_case are of many read =
     let p : Parts = circuit.parts in
-    let computed = computes c.program p is c.inputs counted in
+    let computed = computes c.lang c.program p is c.inputs counted in
     let tables_are = subst (λ (xs : List F). AreTables p xs tables) of_case are in
-    let same : outputs ≡ computed.outputs = outputs_read circuit c.inputs tables tables_are items n outputs of many read ∙ stand is.tree p c.inputs computed in (
+    let same : outputs ≡ computed.outputs = outputs_read circuit c.inputs tables tables_are items n outputs of many read ∙ stand c.lang is.tree p c.inputs computed in (
       ap length same ∙ computed.as_many,
       record {
         tree = is.tree;
         accepted = is.lowered.accepted;
-        counted = counted ∙ inputs_are c.program p is;
+        counted = counted ∙ inputs_are c.lang c.program p is;
         meaning_is = computed.meaning_is ∙ ap Some (sym same);
       },
     )
@@ -104,8 +107,8 @@ one_list o xs ys is is' = cc
 -- a case has one meaning
 pub one_meaning : OneTree → (c : Content) (xs ys : List F) → IsEvaluated c xs → IsEvaluated c ys → xs ≡ ys
 one_meaning one c xs ys is is' =
-    let same = one c.program is.tree is'.tree is.accepted.read is'.accepted.read in
-    one_list (meaning is.tree c.inputs) xs ys is.meaning_is (ap (λ (tree : ProgramTree). meaning tree c.inputs) same ∙ is'.meaning_is)
+    let same = one c.lang c.program is.tree is'.tree is.accepted.read is'.accepted.read in
+    one_list (meaning c.lang is.tree c.inputs) xs ys is.meaning_is (ap (λ (tree : ProgramTree). meaning c.lang tree c.inputs) same ∙ is'.meaning_is)
 
 -- The inputs and outputs are as many as the circuit's, and the outputs come after position 0 of its output layer.
 pub record AreThere (p : Parts) (inputs outputs : List F) : Type 0 where
@@ -113,16 +116,16 @@ pub record AreThere (p : Parts) (inputs outputs : List F) : Type 0 where
   pub as_many : length outputs ≡ p.outputs
   pub stand : outputs ≡ take (length outputs) (drop 1 (layer_values p inputs 0))
 
-pub meaning_there : OneTree → InputsAre → IsComputed → (c : Content) (p : Parts) (is : IsCompiled c.program p) (outputs : List F) → IsEvaluated c outputs → AreThere p c.inputs outputs
+pub meaning_there : OneTree → InputsAre → IsComputed → (c : Content) (p : Parts) (is : IsCompiled c.lang c.program p) (outputs : List F) → IsEvaluated c outputs → AreThere p c.inputs outputs
 meaning_there one inputs_are computes c p is outputs ev =
-    let same : ev.tree ≡ is.tree = one c.program ev.tree is.tree ev.accepted.read is.lowered.accepted.read in
-    let counted : length c.inputs ≡ p.inputs = ev.counted ∙ ap (λ (tree : ProgramTree). input_count tree.inputs) same ∙ sym (inputs_are c.program p is) in
-    let computed = computes c.program p is c.inputs counted in
+    let same : ev.tree ≡ is.tree = one c.lang c.program ev.tree is.tree ev.accepted.read is.lowered.accepted.read in
+    let counted : length c.inputs ≡ p.inputs = ev.counted ∙ ap (λ (tree : ProgramTree). input_count tree.inputs) same ∙ sym (inputs_are c.lang c.program p is) in
+    let computed = computes c.lang c.program p is c.inputs counted in
     let are : outputs ≡ computed.outputs =
-    one_list (meaning ev.tree c.inputs) outputs computed.outputs ev.meaning_is (ap (λ (tree : ProgramTree). meaning tree c.inputs) same ∙ computed.meaning_is) in
+    one_list (meaning c.lang ev.tree c.inputs) outputs computed.outputs ev.meaning_is (ap (λ (tree : ProgramTree). meaning c.lang tree c.inputs) same ∙ computed.meaning_is) in
     let many : length outputs ≡ p.outputs = ap length are ∙ computed.as_many in
     record {
       counted = counted;
       as_many = many;
-      stand = are ∙ sym (stand is.tree p c.inputs computed) ∙ ap (λ (n : ℕ). take n (drop 1 (layer_values p c.inputs 0))) (sym many);
+      stand = are ∙ sym (stand c.lang is.tree p c.inputs computed) ∙ ap (λ (n : ℕ). take n (drop 1 (layer_values p c.inputs 0))) (sym many);
     }

@@ -1,15 +1,17 @@
 -- The lines of a case are rows of parts, so they take exactly their texts.
-use Rattle.std.proofs.Common.{◌≡◌, ℕ, ◌≤◌, eqb, List, [], ◌∷◌, ◌++◌, length, Option, Some, None, refl, sym, ap, ◌∙◌, arith, mod-eq_of_lt}
+use Rattle.std.proofs.Common.{◌≡◌, ℕ, ◌≤◌, eqb, inl, inr, List, [], ◌∷◌, ◌++◌, length, Option, Some, None, refl, sym, ap, subst, ◌∙◌, arith, mod-eq_of_lt}
 use Rattle.std.proofs.lemmas.List.{append-nil}
 use Rattle.std.specs.Prelude.{codes, IfSome}
 use Rattle.field_ext.specs.Field.{F, of}
+use Rattle.arr_ast.specs.declared.lang.Lang.{Lang}
+use Rattle.arr_ast.specs.declared.lang.Lang.TheVariants.{One, Two}
 use Rattle.field_ext.proofs.api.Elements.{of-value, of_self}
 use Rattle.text_parts.specs.declared.due.DueKind.TheVariants.{Header, Section, Hex}
 use Rattle.text_parts.specs.Bytes.{initial, newline, space}
-use Rattle.text_parts.specs.Parts.{Taking, in_order}
+use Rattle.text_parts.specs.Parts.{Taking, given_at, in_order, word_at}
 use Rattle.text_parts.specs.Exact.{IsExact, IsSound}
 use Rattle.text_parts.proofs.api.Compose.{same_texts}
-use Rattle.text_parts.proofs.api.Choice.{FirstIs, IsOther}
+use Rattle.text_parts.proofs.api.Choice.{Either, FirstIs, IsOther, choice_exact}
 use Rattle.text_parts.proofs.api.Decimals.{closes}
 use Rattle.text_parts.proofs.api.Rows.{Spelled, absent_row, counted_bytes_row, decimal_row, each_row, made_row, number_row, optional_first, optional_row, part_row, said, there_row, word_row}
 use Rattle.case_text.specs.declared.case.form.Form.{Form}
@@ -18,9 +20,9 @@ use Rattle.case_text.specs.Rules.{after_value, text_length, value_count, value_r
 use Rattle.case_text.specs.Content.{Content, AreValues}
 use Rattle.case_text.specs.Forms.{Allows}
 use Rattle.case_text.specs.Hex.{IsHexOf}
-use Rattle.case_text.specs.Spelling.{header, number, program_text, values_text, counted_text, outputs_text, proof_text, last_line, Spells}
+use Rattle.case_text.specs.Spelling.{language_text, number, program_text, values_text, counted_text, outputs_text, proof_text, last_line, Spells}
 use Rattle.case_text.specs.Due.{line_at}
-use Rattle.case_text.specs.Reading.{program_at, value_at, counted_at, outputs_at, proof_at, case_at}
+use Rattle.case_text.specs.Reading.{language_at, program_at, value_at, counted_at, outputs_at, proof_at, case_at}
 use Rattle.case_text.proofs.HexDigits.{hex_row}
 
 program_row : IsExact (Spelled (λ (w : Unit {0}) p. length p ≤ 65536) (λ w p. program_text p)) program_at
@@ -31,6 +33,31 @@ program_row = said
     (word_row Section (codes "program ") (part_row length (number_row text_length newline (record { some = omega arith; fits = omega arith; zero_closes = refl; other_closes = refl }) refl refl)
     (λ n v g. part_row (λ p. p) (counted_bytes_row n) (λ p v g. word_row Section (newline ∷ []) (made_row p)) (λ p v w c g e. e))
     (λ n v w p g h. h.0)))
+
+-- ---- the language
+
+abbrev OneText : Lang → List ℕ → Type 0
+OneText = Spelled (λ (w : Unit {0}) lang. lang ≡ One) (λ w lang. codes "1" ++ [])
+
+abbrev TwoText : Lang → List ℕ → Type 0
+TwoText = Spelled (λ (w : Unit {0}) lang. lang ≡ Two) (λ w lang. codes "2" ++ [])
+
+language_from : (lang : Lang) (text : List ℕ) → text ≡ language_text lang → Either OneText TwoText lang text
+language_from One text e = inl (record { way = tt; holds = refl; parts = e })
+language_from Two text e = inr (record { way = tt; holds = refl; parts = e })
+
+language_row : IsExact (Spelled (λ (w : Unit {0}) (lang : Lang). Unit {0}) (λ w lang. language_text lang)) language_at
+unfolding language_at
+language_row = same_texts (Either OneText TwoText) (Spelled (λ (w : Unit {0}) (lang : Lang). Unit {0}) (λ w lang. language_text lang)) language_at
+    (λ lang text h. elim h [
+      | inl one ↦ record { way = tt; holds = tt; parts = one.parts ∙ sym (ap language_text one.holds) }
+      | inr two ↦ record { way = tt; holds = tt; parts = two.parts ∙ sym (ap language_text two.holds) }
+    ])
+    (λ lang text h. language_from lang text h.parts)
+    (choice_exact (initial (codes "1")) OneText TwoText (in_order (word_at Header (codes "1")) (λ u. given_at One)) (in_order (word_at Header (codes "2")) (λ u. given_at Two))
+    (word_row Header (codes "1") (made_row One)) (word_row Header (codes "2") (made_row Two))
+    (λ lang text h. subst (FirstIs (λ b. eqb b (initial (codes "1")))) (sym h.parts) refl)
+    (λ lang text h. subst (FirstIs (IsOther (initial (codes "1")))) (sym h.parts) refl))
 
 -- ---- values
 
@@ -87,8 +114,8 @@ module _ {V W A C : Type 0} {good : V → A → Type 0} {spell : V → A → Lis
 
 -- ---- a case
 
-abbrev pub content : List ℕ → List F → Option (List F) → Option (List ℕ) → Content
-content p vs ys proof = record { program = p; inputs = vs; outputs = ys; proof = proof }
+abbrev pub content : Lang → List ℕ → List F → Option (List F) → Option (List ℕ) → Content
+content lang p vs ys proof = record { lang = lang; program = p; inputs = vs; outputs = ys; proof = proof }
 
 both_of : {A : Type 0} (P Q : A → Type 0) (o : Option A) → IfSome o (λ a. P a × Q a) → IfSome o P × IfSome o Q
 both_of P Q None h = (tt, tt)
@@ -102,11 +129,11 @@ pub case_exact : (form : Form) → IsExact (λ c text. Spells form text c) (case
 unfolding case_at
 case_exact form = same_texts _ (λ c text. Spells form text c) (case_at form)
     (λ c text h.
-    let lines = h.holds.1.1 in
-    let digits = h.way.1.1.1.0 in
+    let lines = h.holds.1.1.1 in
+    let digits = h.way.1.1.1.1.0 in
     let proof = both_of (λ p. length p ≤ 2000000) (λ p. IsHexOf p digits) c.proof lines.2.1 in
     record {
-      fits = record { program = h.holds.0; inputs = h.holds.1.0; outputs = lines.1; proof = proof.0 };
+      fits = record { program = h.holds.1.0; inputs = h.holds.1.1.0; outputs = lines.1; proof = proof.0 };
       outputs = lines.0;
       proof = lines.2.0;
       digits = digits;
@@ -114,16 +141,17 @@ case_exact form = same_texts _ (λ c text. Spells form text c) (case_at form)
       text = h.parts;
     })
     (λ c text h. record {
-      way = (tt, (tt, (tt, (h.digits, tt))));
-      holds = (h.fits.program, (h.fits.inputs, (h.outputs, h.fits.outputs, (h.proof, both_to (λ p. length p ≤ 2000000) (λ p. IsHexOf p h.digits) c.proof h.fits.proof h.hex, refl))));
+      way = (tt, (tt, (tt, (tt, (h.digits, tt)))));
+      holds = (tt, (h.fits.program, (h.fits.inputs, (h.outputs, h.fits.outputs, (h.proof, both_to (λ p. length p ≤ 2000000) (λ p. IsHexOf p h.digits) c.proof h.fits.proof h.hex, refl)))));
       parts = h.text;
     })
-    (word_row Header header
+    (word_row Header (codes "gkr case ")
+    (part_row (λ c. c.lang) language_row (λ lang v g. word_row Header (newline ∷ [])
     (part_row (λ c. c.program) program_row (λ p v g. word_row Section (codes "input ")
     (part_row (λ c. c.inputs) counted_row (λ vs v g.
     line_row (λ c. c.outputs) (λ w o. outputs_text o) (λ w. refl) (λ w a. refl) outputs_row (λ ys.
     line_row (λ c. c.proof) (λ digits o. proof_text o digits) (λ digits. refl) (λ digits a. refl) proof_row (λ proof.
-    word_row Section last_line (made_row (content p vs ys proof)))
+    word_row Section last_line (made_row (content lang p vs ys proof)))
     (λ o w c e. ap (λ (x : Content). x.proof) e)
     (initial (codes "proof ")) (λ digits a. refl) (λ w c e. refl) form)
     (λ o w c h. ap (λ (x : Content). x.outputs) h.2)
@@ -131,3 +159,4 @@ case_exact form = same_texts _ (λ c text. Spells form text c) (case_at form)
     (λ w c h. optional_first (IsOther (initial (codes "output "))) (λ o. proof_text o w.0) (last_line ++ []) refl (λ a. refl) refl c.proof) form)
     (λ vs v w c g h. ap (λ (x : Content). x.inputs) h.2.2)))
     (λ p v w c g h. ap (λ (x : Content). x.program) h.1.2.2)))
+    (λ lang v w c g h. ap (λ (x : Content). x.lang) h.1.1.2.2)))

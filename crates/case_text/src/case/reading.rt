@@ -7,16 +7,35 @@ ghost use Rattle.case_text.specs.Content.{Content};
 ghost use Rattle.case_text.specs.Spelling.{Spells};
 ghost use Rattle.case_text.specs.Due.{digits_stop, hex_byte_at, line_at};
 ghost use Rattle.std.specs.Option.{option_map};
-ghost use Rattle.case_text.specs.Reading.{outputs_at, proof_at, hex_stop, Answers, program_at, values_at, counted_at, case_at, case_in, reading};
+ghost use Rattle.case_text.specs.Reading.{language_at, outputs_at, proof_at, hex_stop, Answers, program_at, values_at, counted_at, case_at, case_in, reading};
 
 use crate::case::Case;
 use crate::case::form::Form;
 use crate::case::refusal::{CaseRefused, refusal_of};
 use crate::case::rules::{proof_length, text_length, value_count, value_rule};
+use arr_ast::Lang;
 use field_ext::Fp;
 use hex::FromHexError;
 use std::alloc::Global;
 use text_parts::{DueKind, ReadError, counted_bytes, decimal, end, stop_at, word};
+
+/// Takes the number of a language.
+#[tactic(auto, unfolding(crate::specs::Reading::language_at, text_parts::specs::Parts::choice_at))]
+fn language(bytes: &[u8]) -> Result<(Lang, &[u8]), ReadError>
+    ensures { Gives (λ x. (x.0, x.1.now)) result (language_at bytes.now) }
+{
+    match bytes {
+        [] => Err(stop_at(bytes, DueKind::End)),
+        [b'1', ..] => {
+            let rest = word(DueKind::Header, b"1", bytes)?;
+            Ok((Lang::One, rest))
+        }
+        _ => {
+            let rest = word(DueKind::Header, b"2", bytes)?;
+            Ok((Lang::Two, rest))
+        }
+    }
+}
 
 /// Takes the lines of a program.
 #[tactic(auto, unfolding(crate::specs::Reading::program_at))]
@@ -177,7 +196,9 @@ fn proof_of(alloc: Global, form: Form, bytes: &[u8]) -> Result<(Option<Vec<u8>>,
 pub fn case_of(alloc: Global, form: Form, bytes: &[u8]) -> Result<(Case, &[u8]), ReadError>
     ensures { Gives (λ x. (x.0, x.1.now)) result (case_at form bytes.now) }
 {
-    let rest = word(DueKind::Header, b"gkr case 1\n", bytes)?;
+    let rest = word(DueKind::Header, b"gkr case ", bytes)?;
+    let (lang, rest) = language(rest)?;
+    let rest = word(DueKind::Header, b"\n", rest)?;
     let (program, rest) = program(rest)?;
     let rest = word(DueKind::Section, b"input ", rest)?;
     let (inputs, rest) = counted(alloc, rest)?;
@@ -185,7 +206,7 @@ pub fn case_of(alloc: Global, form: Form, bytes: &[u8]) -> Result<(Case, &[u8]),
     let (proof, rest) = proof_of(alloc, form, rest)?;
     let rest = word(DueKind::Section, b"end\n", rest)?;
     let program = Vec::from_slice(alloc, program)?;
-    Ok((Case::new(program, inputs, outputs, proof), rest))
+    Ok((Case::new(lang, program, inputs, outputs, proof), rest))
 }
 
 /// Takes a case, after which nothing comes.

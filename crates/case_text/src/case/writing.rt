@@ -1,10 +1,10 @@
 //! Writing the text of a case.
 
-ghost use Rattle.std.specs.Prelude.{◌≡◌, ◌++◌, IfOk, OnOk, IfSome};
+ghost use Rattle.std.specs.Prelude.{◌≡◌, [], ◌∷◌, ◌++◌, IfOk, OnOk, IfSome};
 ghost use Rattle.case_text.specs.Rules.{after_value};
 ghost use Rattle.case_text.specs.declared.case.form.Form.{Form};
 ghost use Rattle.case_text.specs.Forms.{Allows};
-ghost use Rattle.case_text.specs.Spelling.{number as number_text, values_text, counted_text, program_text, outputs_text, lower_proof_text, lower_case_text, Spells};
+ghost use Rattle.case_text.specs.Spelling.{language_text, number as number_text, values_text, counted_text, program_text, outputs_text, lower_proof_text, lower_case_text, Spells};
 ghost use Rattle.case_text.specs.Content.{Fits};
 ghost use Rattle.case_text.specs.Hex.{IsHexOf};
 ghost use Rattle.hex.specs.Hex.{encode_lower};
@@ -12,6 +12,7 @@ ghost use Rattle.std.specs.Option.{option_map};
 ghost use Rattle.std.specs.String.{string_bytes};
 
 use crate::case::Case;
+use arr_ast::Lang;
 use field_ext::Fp;
 use itoa::Buffer;
 use std::alloc::{AllocError, Global};
@@ -49,6 +50,16 @@ fn capacity_for(case: &Case) -> usize {
     let values = case.inputs().len() + case.outputs().unwrap_or(&[]).len();
     let proof = case.proof().unwrap_or(&[]).len();
     100 + case.program().len() + 11 * values + 2 * proof
+}
+
+/// The number of a language.
+fn language_digit(lang: Lang) -> u8
+    ensures { language_text lang ≡ result ∷ [] }
+{
+    match lang {
+        Lang::One => b'1',
+        Lang::Two => b'2',
+    }
 }
 
 fn put_program(out: &mut Vec<u8>, program: &[u8]) -> Result<(), AllocError>
@@ -112,7 +123,9 @@ fn lower_text(alloc: Global, case: &Case) -> Result<Vec<u8>, AllocError>
     ensures fits { IfOk result (λ text. Fits case.now) }
 {
     let mut out = Vec::with_capacity(alloc, capacity_for(case))?;
-    out.extend_from_slice(b"gkr case 1\n")?;
+    out.extend_from_slice(b"gkr case ")?;
+    out.push(language_digit(case.lang()))?;
+    out.push(b'\n')?;
     put_program(&mut out, case.program())?;
     out.extend_from_slice(b"input ")?;
     put_counted(&mut out, case.inputs())?;

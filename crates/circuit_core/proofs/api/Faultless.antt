@@ -30,10 +30,10 @@ pub unless_false : {X : Type 0} (b : Bool) (x : X) → b ≡ false → unless b 
 unless_false b x e = rw e refl
 
 -- the k that `exponent_of` finds
-pub exponent_found : (n k : ℕ) → exponent_of greatest n ≡ Some k → (n ≡ 2 ^ k) × (1 ≤ k) × (k ≤ 16)
+pub exponent_found : (n k : ℕ) → exponent_of greatest n ≡ Some k → (n ≡ 2 ^ k) × (1 ≤ k) × (k ≤ 20)
 exponent_found n k e =
     let f = λ (j : ℕ). unless (not (eqb n (2 ^ (j + 1)))) (j + 1) in
-    let at = first_below_at f 16 k e in
+    let at = first_below_at f 20 k e in
     let found = unless-some (not (eqb n (2 ^ (at.0 + 1)))) (at.0 + 1) k at.2 in
     let power : n ≡ 2 ^ (at.0 + 1) = eqb-true n (2 ^ (at.0 + 1)) (from_not (eqb n (2 ^ (at.0 + 1))) found.0) in
     (power ∙ ap (λ (j : ℕ). 2 ^ j) found.1, omega arith, omega arith)
@@ -52,7 +52,7 @@ module _ (p : Parts) (faultless : fault_of greatest p ≡ None) where
       let d = or_none (first_at_gate p (operand_fault p)) _ c.1 in
       (a.0, b.0, c.0, d.0, d.1)
 
-  pub height_bounds : (1 ≤ height p) × (height p ≤ 256)
+  pub height_bounds : (1 ≤ height p) × (height p ≤ 1024)
   height_bounds =
       let b = and_parts _ _ (unless-none _ _ kinds.0) in
       (leb-true _ _ b.0, leb-true _ _ b.1)
@@ -63,19 +63,19 @@ module _ (p : Parts) (faultless : fault_of greatest p ≡ None) where
       (b.0, leb-true _ _ b.1)
 
   -- a layer has 2 ^ k positions
-  pub width_power : (i : ℕ) → i ≤ height p → (width_of p i ≡ 2 ^ exponent_at p i) × (1 ≤ exponent_at p i) × (exponent_at p i ≤ 16)
+  pub width_power : (i : ℕ) → i ≤ height p → (width_of p i ≡ 2 ^ exponent_at p i) × (1 ≤ exponent_at p i) × (exponent_at p i ≤ 20)
   width_power i l = at (exponent_of greatest (width_of p i)) refl (width_bounds i l).0
     where
-      at : (o : Option ℕ) → exponent_of greatest (width_of p i) ≡ o → is_some o ≡ true → (width_of p i ≡ 2 ^ unwrap_or (exponent_of greatest (width_of p i)) 0) × (1 ≤ unwrap_or (exponent_of greatest (width_of p i)) 0) × (unwrap_or (exponent_of greatest (width_of p i)) 0 ≤ 16)
+      at : (o : Option ℕ) → exponent_of greatest (width_of p i) ≡ o → is_some o ≡ true → (width_of p i ≡ 2 ^ unwrap_or (exponent_of greatest (width_of p i)) 0) × (1 ≤ unwrap_or (exponent_of greatest (width_of p i)) 0) × (unwrap_or (exponent_of greatest (width_of p i)) 0 ≤ 20)
       at None e s = cc
       at (Some k) e s = rw e (exponent_found (width_of p i) k e)
 
-  exponent_bounds : (i : ℕ) → i ≤ height p → (nat_le 1 (exponent_at p i) && nat_le (exponent_at p i) 16) ≡ true
+  exponent_bounds : (i : ℕ) → i ≤ height p → (nat_le 1 (exponent_at p i) && nat_le (exponent_at p i) 20) ≡ true
   exponent_bounds i l =
       let k = width_power i l in
-      and_from _ _ (le-leb 1 _ k.1) (le-leb _ 16 k.2)
+      and_from _ _ (le-leb 1 _ k.1) (le-leb _ 20 k.2)
 
-  pub exponents_bounded : (a n : ℕ) → a + n ≤ height p + 1 → list_all (λ k. nat_le 1 k && nat_le k 16) (map (exponent_at p) (range_with_len a n)) ≡ true
+  pub exponents_bounded : (a n : ℕ) → a + n ≤ height p + 1 → list_all (λ k. nat_le 1 k && nat_le k 20) (map (exponent_at p) (range_with_len a n)) ≡ true
   exponents_bounded a zero l = refl
   exponents_bounded a (suc n) l = and_from _ _ (exponent_bounds a (omega arith)) (exponents_bounded (a + 1) n (omega arith))
 

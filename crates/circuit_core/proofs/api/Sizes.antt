@@ -8,7 +8,7 @@ use Rattle.circuit_core.proofs.api.Faultless.{none_from_test, width_power, layer
 
 module _ (c : SoundCircuit) where
   -- a layer has 2 ^ k positions
-  pub size_of : (i : ℕ) → i ≤ height c.parts → (width_of c.parts i ≡ 2 ^ exponent_at c.parts i) × (1 ≤ exponent_at c.parts i) × (exponent_at c.parts i ≤ 16)
+  pub size_of : (i : ℕ) → i ≤ height c.parts → (width_of c.parts i ≡ 2 ^ exponent_at c.parts i) × (1 ≤ exponent_at c.parts i) × (exponent_at c.parts i ≤ 20)
   size_of = width_power c.parts (none_from_test _ c.faultless)
 
   pub gates_size : (i : ℕ) → i < height c.parts → length (get_or c.parts.layers i []) ≡ 2 ^ exponent_at c.parts i

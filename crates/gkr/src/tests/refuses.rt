@@ -13,7 +13,7 @@ fn refuses_texts_that_are_no_case(rt: HostRuntime) -> Result<(), Fail> {
             &b"gkr case 1\nprogram 18\ninput a; output a;\ninput 1 5\nend\n "[..],
             &b"refused case rest 55\n"[..],
         ),
-        (&b"gkr case 2\n"[..], &b"refused case header 9\n"[..]),
+        (&b"gkr case 3\n"[..], &b"refused case header 9\n"[..]),
         (&b"gkr case 1\r\n"[..], &b"refused case header 10\n"[..]),
         (
             &b"gkr case 1\nprogram 65537\n"[..],
@@ -237,13 +237,13 @@ fn reads_the_words(rt: HostRuntime) -> Result<(), Fail> {
 
 #[test]
 fn refuses_long_inputs(rt: HostRuntime) -> Result<(), Fail> {
-    let long = vec![in rt.alloc(); b'x'; 4_194_305]?;
+    let long = vec![in rt.alloc(); b'x'; 8_388_609]?;
     sees(
         &rt,
         &["gkr", "eval"],
         &Ends::steady(&long),
         Status::TooLong,
-        b"refused long 4194304\n",
+        b"refused long 8388608\n",
     )?;
     sees(
         &rt,

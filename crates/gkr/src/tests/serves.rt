@@ -290,15 +290,15 @@ fn serves_the_longest_case(rt: HostRuntime) -> Result<(), Fail> {
     answers(&rt, &["gkr", "serve"], &text, &OpenGate, Status::Done, want)
 }
 
-/// A case of 4,194,304 bytes as a job: it is refused after its last value.
+/// A case of 8,388,608 bytes as a job: it is refused after its last value.
 #[test]
 fn reads_no_longer_case_in_a_script(rt: HostRuntime) -> Result<(), Fail> {
     let mut text = longest_values(rt.alloc())?;
-    for _ in 2_949_158..4_194_304 {
+    for _ in 2_949_158..8_388_608 {
         text.push(b' ')?;
     }
     text.extend_from_slice(b"done\n")?;
-    assert_eq!(rt; text.len(), 9 + 4_194_304 + 5);
+    assert_eq!(rt; text.len(), 9 + 8_388_608 + 5);
     let want = b"refused case number 2949167\n";
     answers(
         &rt,

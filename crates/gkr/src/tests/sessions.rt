@@ -203,7 +203,7 @@ fn refuses_texts_that_are_no_session(rt: HostRuntime) -> Result<(), Fail> {
     let full = b"gkr case 1\nprogram 18\ninput a; output a;\ninput 1 5\noutput 1 5\n";
     for (text, reply) in [
         (&full[..], &b"refused case section 51\n"[..]),
-        (&b"gkr case 2\n"[..], &b"refused case header 9\n"[..]),
+        (&b"gkr case 3\n"[..], &b"refused case header 9\n"[..]),
     ] {
         sees(&rt, SESSION, &Ends::steady(text), Status::BadCase, reply)?;
     }
@@ -226,8 +226,8 @@ fn keeps_sessions_and_cases_apart(rt: HostRuntime) -> Result<(), Fail> {
         Status::BadCase,
         case,
     )?;
-    let long = vec![in rt.alloc(); b'x'; 4_194_305]?;
-    let reply = b"refused long 4194304\n";
+    let long = vec![in rt.alloc(); b'x'; 8_388_609]?;
+    let reply = b"refused long 8388608\n";
     sees(&rt, SESSION, &Ends::steady(&long), Status::TooLong, reply)
 }
 

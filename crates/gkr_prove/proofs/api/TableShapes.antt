@@ -40,10 +40,10 @@ module _ (c : SoundCircuit) where
       }
 
   -- which are not too many for two tables of weights
-  pub few_gates : (i : ℕ) (gates : List CircuitGate) → i < height c.parts → gates ≡ get_or c.parts.layers i [] → length gates ≤ 65536
+  pub few_gates : (i : ℕ) (gates : List CircuitGate) → i < height c.parts → gates ≡ get_or c.parts.layers i [] → length gates ≤ 1048576
   few_gates i gates u g =
       let size = size_of c i (omega arith) in
-      let most : 2 ^ exponent_at c.parts i ≤ 65536 = pow-le-pow_right {n = 2} (omega arith) size.2 in
+      let most : 2 ^ exponent_at c.parts i ≤ 1048576 = pow-le-pow_right {n = 2} (omega arith) size.2 in
       omega (arith, ap length g, gates_size c i u, most)
 
 -- messages of one more layer's shape

@@ -38,16 +38,16 @@ pub record IsSize (m : ℕ) : Type 0 where
   pub k : ℕ
   pub power : size_for m ≡ 2 ^ k
   pub least : 1 ≤ k
-  pub most : k ≤ 16
+  pub most : k ≤ 20
   pub capacity : m ≤ size_for m
 
-pub sized : (m : ℕ) → m ≤ 65536 → IsSize m
+pub sized : (m : ℕ) → m ≤ 1048576 → IsSize m
 sized m l =
     let f = λ (j : ℕ). unless (nat_lt (2 ^ (j + 1)) m) (j + 1) in
-    let some = found f 16 15 16 (omega arith) (unless_false (nat_lt 65536 m) 16 (le-ltb 65536 m l)) in
-    let at = first_below_at f 16 some.0 some.1 in
+    let some = found f 20 19 20 (omega arith) (unless_false (nat_lt 1048576 m) 20 (le-ltb 1048576 m l)) in
+    let at = first_below_at f 20 some.0 some.1 in
     let here = unless-some (nat_lt (2 ^ (at.0 + 1)) m) (at.0 + 1) some.0 at.2 in
-    let power : size_for m ≡ 2 ^ some.0 = ap (λ o. 2 ^ unwrap_or o 16) some.1 in
+    let power : size_for m ≡ 2 ^ some.0 = ap (λ o. 2 ^ unwrap_or o 20) some.1 in
     let enough : m ≤ 2 ^ (at.0 + 1) = ltb-false (2 ^ (at.0 + 1)) m here.0 in
     record {
       k = some.0;
@@ -58,25 +58,25 @@ sized m l =
     }
 
 -- no size is greater than the greatest
-pub size_small : (m : ℕ) → size_for m ≤ 65536
-size_small m = at (first_below 16 (λ j. unless (nat_lt (2 ^ (j + 1)) m) (j + 1))) refl
+pub size_small : (m : ℕ) → size_for m ≤ 1048576
+size_small m = at (first_below 20 (λ j. unless (nat_lt (2 ^ (j + 1)) m) (j + 1))) refl
   where
-    at : (o : Option ℕ) → first_below 16 (λ j. unless (nat_lt (2 ^ (j + 1)) m) (j + 1)) ≡ o → size_for m ≤ 65536
-    at None e = rw (ap (λ o. 2 ^ unwrap_or o 16) e) (omega arith)
+    at : (o : Option ℕ) → first_below 20 (λ j. unless (nat_lt (2 ^ (j + 1)) m) (j + 1)) ≡ o → size_for m ≤ 1048576
+    at None e = rw (ap (λ o. 2 ^ unwrap_or o 20) e) (omega arith)
     at (Some k) e =
-        let found = first_below_at (λ j. unless (nat_lt (2 ^ (j + 1)) m) (j + 1)) 16 k e in
+        let found = first_below_at (λ j. unless (nat_lt (2 ^ (j + 1)) m) (j + 1)) 20 k e in
         let is = unless-some (nat_lt (2 ^ (found.0 + 1)) m) (found.0 + 1) k found.2 in
-        let low : k ≤ 16 = omega (arith, is.1, found.1) in
-        rw (ap (λ o. 2 ^ unwrap_or o 16) e) (pow-le-pow_right {n = 2} (omega arith) low)
+        let low : k ≤ 20 = omega (arith, is.1, found.1) in
+        rw (ap (λ o. 2 ^ unwrap_or o 20) e) (pow-le-pow_right {n = 2} (omega arith) low)
 
-pub size_is_width : (m : ℕ) → m ≤ 65536 → is_some (exponent_of greatest (size_for m)) ≡ true
+pub size_is_width : (m : ℕ) → m ≤ 1048576 → is_some (exponent_of greatest (size_for m)) ≡ true
 size_is_width m l =
     let size = sized m l in
     let f = λ (j : ℕ). unless (not (eqb (size_for m) (2 ^ (j + 1)))) (j + 1) in
     let j = size.k - 1 in
     let next : j + 1 ≡ size.k = omega (arith, size.least) in
     let here : eqb (size_for m) (2 ^ (j + 1)) ≡ true = eq-eqb _ _ (size.power ∙ ap (λ (k : ℕ). 2 ^ k) (sym next)) in
-    let some = found f 16 j (j + 1) (omega (arith, size.least, size.most)) (unless_false _ _ (ap not here)) in
+    let some = found f 20 j (j + 1) (omega (arith, size.least, size.most)) (unless_false _ _ (ap not here)) in
     ap is_some some.1
 
 -- as many gates as the size says
@@ -117,15 +117,15 @@ module _ (limits : Limits) (kept : AreKept limits) (n : Nodes) (is : IsNodeList 
   circuit : Parts
   circuit = circuit_of n
 
-  low : height_of n ≤ 256
+  low : height_of n ≤ 1024
   low =
       let few : height_of n ≤ limits.height = leb-true _ _ (unless-none _ _ (or_none _ _ none).0) in
       omega (arith, kept.height, few)
 
-  narrow : (h : ℕ) → h ≤ height_of n → 1 + length (row n h) ≤ 65536
+  narrow : (h : ℕ) → h ≤ height_of n → 1 + length (row n h) ≤ 1048576
   narrow h l =
       let fits : 1 + length (row n h) ≤ 2 ^ limits.exponent = leb-true _ _ (unless-none _ _ (none_below (too_wide limits n) (height_of n + 1) h (or_none _ _ none).1 (omega arith))) in
-      let capacity : 2 ^ limits.exponent ≤ 65536 = pow-le-pow_right {n = 2} (omega arith) kept.exponent in
+      let capacity : 2 ^ limits.exponent ≤ 1048576 = pow-le-pow_right {n = 2} (omega arith) kept.exponent in
       omega (arith, fits, capacity)
 
   size : (h : ℕ) → h ≤ height_of n → IsSize (1 + length (row n h))
@@ -152,7 +152,7 @@ module _ (limits : Limits) (kept : AreKept limits) (n : Nodes) (is : IsNodeList 
   no_depth_fault : depth_fault greatest (circuit_of n) ≡ None
   no_depth_fault =
       let many = height (circuit_of n) in
-      unless_true (nat_le 1 many && nat_le many 256) _ (and_from _ _ (le-leb 1 many (omega (arith, tall))) (le-leb many 256 (omega (arith, tall, low))))
+      unless_true (nat_le 1 many && nat_le many 1024) _ (and_from _ _ (le-leb 1 many (omega (arith, tall))) (le-leb many 1024 (omega (arith, tall, low))))
 
   -- what a layer has to hold is in the row of its height
   held : (i h : ℕ) → i + h ≡ height_of n → held_by (circuit_of n) i ≤ 1 + length (row n h)

@@ -18,7 +18,7 @@ use Rattle.live_session.specs.declared.progress.LiveFault.TheVariants.{Range, Ex
 use Rattle.live_session.proofs.api.ElementSteps.{has_more, leading_none, leading-fits, leading-more, leading-most, leading-stops}
 use Rattle.live_session.proofs.api.VerifierSteps.{leading_nothing, leading_take}
 
-few_below : (c : SoundCircuit) (n i : ℕ) → i + n ≡ height c.parts → total_exponent (layers_below c.parts i) ≤ 16 * n
+few_below : (c : SoundCircuit) (n i : ℕ) → i + n ≡ height c.parts → total_exponent (layers_below c.parts i) ≤ 20 * n
 few_below c zero i e = let none : total_exponent (layers_below c.parts i) ≡ 0 = ap total_exponent (below_none c.parts i (omega (arith, e))) in omega (arith, none)
 few_below c (suc n) i e =
     let more : total_exponent (layers_below c.parts i) ≡ exponent_at c.parts (i + 1) + total_exponent (layers_below c.parts (i + 1)) = ap total_exponent (below_more c.parts i (omega (arith, e))) in

@@ -95,34 +95,34 @@ module _ {A : Type 0} (o : Ops A) (l : Laws A o) where
   rest_of [] (suc n) u = refl
   rest_of (x ∷ us) (suc n) u = ap (λ (ys : List A). x ∷ ys) (rest_of us n (omega arith))
 
-  -- a value at a point is the product of a value at the first eight coordinates and one at the others
-  pub eq-split : (us low high : List A) (g : ℕ) → IsEqTable o (take 8 us) low → IsEqTable o (drop 8 us) high → g < 2 ^ length us →
-      o.mul (get_or low (g % 256) o.zero) (get_or high (g / 256) o.zero) ≡ eq_poly o us g
-  eq-split us low high g lows highs b = by_size (cases_lt (length us) 8)
+  -- a value at a point is the product of a value at the first ten coordinates and one at the others
+  pub eq-split : (us low high : List A) (g : ℕ) → IsEqTable o (take 10 us) low → IsEqTable o (drop 10 us) high → g < 2 ^ length us →
+      o.mul (get_or low (g % 1024) o.zero) (get_or high (g / 1024) o.zero) ≡ eq_poly o us g
+  eq-split us low high g lows highs b = by_size (cases_lt (length us) 10)
     where
-      by_size : (length us < 8) ⊎ (8 ≤ length us) → o.mul (get_or low (g % 256) o.zero) (get_or high (g / 256) o.zero) ≡ eq_poly o us g
+      by_size : (length us < 10) ⊎ (10 ≤ length us) → o.mul (get_or low (g % 1024) o.zero) (get_or high (g / 1024) o.zero) ≡ eq_poly o us g
       by_size (inl h) =
-          let most : 2 ^ length us < 256 = pow_below (length us) 8 h in
-          let whole : take 8 us ≡ us = take_all 8 us (omega arith) in
-          let short : length us ≤ 8 = omega arith in
-          let none : drop 8 us ≡ [] = drop_of_length-le us short in
-          let same : g % 256 ≡ g = omega arith in
-          let over : g / 256 ≡ 0 = omega arith in
-          let in' : g < 2 ^ length (take 8 us) = omega (arith, ap (λ (ys : List A). 2 ^ length ys) whole) in
-          let first : 0 < 2 ^ length (drop 8 us) = omega (arith, ap (λ (ys : List A). 2 ^ length ys) none) in
+          let most : 2 ^ length us < 1024 = pow_below (length us) 10 h in
+          let whole : take 10 us ≡ us = take_all 10 us (omega arith) in
+          let short : length us ≤ 10 = omega arith in
+          let none : drop 10 us ≡ [] = drop_of_length-le us short in
+          let same : g % 1024 ≡ g = omega arith in
+          let over : g / 1024 ≡ 0 = omega arith in
+          let in' : g < 2 ^ length (take 10 us) = omega (arith, ap (λ (ys : List A). 2 ^ length ys) whole) in
+          let first : 0 < 2 ^ length (drop 10 us) = omega (arith, ap (λ (ys : List A). 2 ^ length ys) none) in
           ap₂ o.mul (ap (λ (k : ℕ). get_or low k o.zero) same ∙ lows g in' ∙ ap (λ (ys : List A). eq_poly o ys g) whole)
           (ap (λ (k : ℕ). get_or high k o.zero) over ∙ highs 0 first ∙ ap (λ (ys : List A). eq_poly o ys 0) none)
           ∙ l.mul_one (eq_poly o us g)
       by_size (inr h) =
-          let eight : length (take 8 us) ≡ 8 = omega (arith, length-take 8 us) in
-          let size : 2 ^ length (take 8 us) ≡ 256 = ap (λ (k : ℕ). 2 ^ k) eight in
-          let others : length (drop 8 us) + 8 ≡ length us = omega (arith, length-drop 8 us) in
-          let total : 2 ^ length us ≡ 2 ^ length (drop 8 us) * 256 = ap (λ (k : ℕ). 2 ^ k) (sym others) ∙ pow-add 2 (length (drop 8 us)) 8 in
-          let here : g % 256 < 2 ^ length (take 8 us) = omega arith in
-          let there : g / 256 < 2 ^ length (drop 8 us) = omega arith in
-          let parts : g % 256 + g / 256 * 256 ≡ g = omega arith in
-          let lower : eq_poly o (take 8 us) (g % 256) ≡ eq_poly o (take 8 us) g =
-          sym (eq-beyond o l (take 8 us) 8 (g % 256) (g / 256) (omega arith)) ∙ ap (eq_poly o (take 8 us)) parts in
-          ap₂ o.mul (lows (g % 256) here ∙ lower) (highs (g / 256) there ∙ ap (λ (k : ℕ). eq_poly o (drop 8 us) (g / k)) (sym size))
-          ∙ sym (eq-append o l (take 8 us) (drop 8 us) g)
-          ∙ ap (λ (ys : List A). eq_poly o ys g) (rest_of us 8 h)
+          let ten : length (take 10 us) ≡ 10 = omega (arith, length-take 10 us) in
+          let size : 2 ^ length (take 10 us) ≡ 1024 = ap (λ (k : ℕ). 2 ^ k) ten in
+          let others : length (drop 10 us) + 10 ≡ length us = omega (arith, length-drop 10 us) in
+          let total : 2 ^ length us ≡ 2 ^ length (drop 10 us) * 1024 = ap (λ (k : ℕ). 2 ^ k) (sym others) ∙ pow-add 2 (length (drop 10 us)) 10 in
+          let here : g % 1024 < 2 ^ length (take 10 us) = omega arith in
+          let there : g / 1024 < 2 ^ length (drop 10 us) = omega arith in
+          let parts : g % 1024 + g / 1024 * 1024 ≡ g = omega arith in
+          let lower : eq_poly o (take 10 us) (g % 1024) ≡ eq_poly o (take 10 us) g =
+          sym (eq-beyond o l (take 10 us) 10 (g % 1024) (g / 1024) (omega arith)) ∙ ap (eq_poly o (take 10 us)) parts in
+          ap₂ o.mul (lows (g % 1024) here ∙ lower) (highs (g / 1024) there ∙ ap (λ (k : ℕ). eq_poly o (drop 10 us) (g / k)) (sym size))
+          ∙ sym (eq-append o l (take 10 us) (drop 10 us) g)
+          ∙ ap (λ (ys : List A). eq_poly o ys g) (rest_of us 10 h)

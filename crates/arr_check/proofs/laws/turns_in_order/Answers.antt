@@ -3,4 +3,4 @@ use Rattle.arr_check.specs.Shapes.{shapes}
 use Rattle.arr_check.proofs.laws.turns_in_order.Goals as goal
 
 pub returns : goal.returns
-returns c = λ at name low high body before. loop-in-order shapes at name low high body before
+returns c = λ definitions at name low high body before. loop-in-order shapes definitions at name low high body before

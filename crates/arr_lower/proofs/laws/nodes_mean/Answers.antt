@@ -3,4 +3,4 @@ use Rattle.arr_lower.proofs.Means.{nodes_mean}
 use Rattle.arr_lower.proofs.laws.nodes_mean.Goals as goal
 
 pub returns : goal.returns
-returns c program nodes inputs e long = nodes_mean inputs program nodes e long
+returns c lang program nodes inputs e long = nodes_mean inputs lang program nodes e long

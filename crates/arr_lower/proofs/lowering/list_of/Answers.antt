@@ -11,8 +11,8 @@ list_with inputs nodes outputs = record { inputs = inputs; nodes = nodes; output
 
 pub of-requires : goal.of-requires
 of-requires c =
-    let e : nodes_of (program_tree c.args.checked.now.program) ≡ Some (list_with c.args.checked.now.inputs c.finish-nodes.result.items c.lowering.inside.outputs.items) =
+    let e : nodes_of c.args.checked.now.lang (program_tree c.args.checked.now.program) ≡ Some (list_with c.args.checked.now.inputs c.finish-nodes.result.items c.lowering.inside.outputs.items) =
     c.requires.made
     ∙ ap (λ (kept : Kept). Some (list_with c.args.checked.now.inputs kept.nodes kept.outputs)) (sym c.lowering.view_is)
     ∙ ap (λ (nodes : List Node). Some (list_with c.args.checked.now.inputs nodes c.lowering.inside.outputs.items)) (sym c.finish-nodes.ensures) in
-    is-list (program_tree c.args.checked.now.program) (list_with c.args.checked.now.inputs c.finish-nodes.result.items c.lowering.inside.outputs.items) e
+    is-list c.args.checked.now.lang (program_tree c.args.checked.now.program) (list_with c.args.checked.now.inputs c.finish-nodes.result.items c.lowering.inside.outputs.items) e

@@ -8,6 +8,6 @@ use Rattle.case_prove.proofs.laws.proved_fits.Goals as goal
 pub returns : goal.returns
 returns c kind case proved fit is =
     let there = meaning_there c.one_tree.ensures c.circuit_computes.ensures.inputs c.circuit_computes.ensures.computes case is.parts is.compiled is.outputs is.evaluated in
-    let circuit = sound case.program is.parts is.compiled in
+    let circuit = sound case.lang case.program is.parts is.compiled in
     subst Fits (sym is.proved_is)
-    (fits circuit case.program case.inputs is.outputs (kind_spelling kind is.messages) fit.program fit.inputs there.as_many (kind_length kind circuit is.messages is.of_shape))
+    (fits circuit case.lang case.program case.inputs is.outputs (kind_spelling kind is.messages) fit.program fit.inputs there.as_many (c.circuit_is_sound.ensures.few_outputs case.lang case.program is.parts is.compiled) (kind_length kind circuit is.messages is.of_shape))

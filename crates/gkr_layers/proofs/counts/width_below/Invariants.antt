@@ -5,5 +5,5 @@ use Rattle.gkr_layers.proofs.counts.width_below.Given as goal
 abbrev pub invariant-loop-layer : goal.invariant-loop-layer
 invariant-loop-layer l = record {
   sum : l.width + total_exponent (layers_below l.circuit.parts l.layer) ≡ total_exponent (layers_of l.circuit.parts);
-  most : l.width ≤ 16 * l.layer;
+  most : l.width ≤ 20 * l.layer;
 }

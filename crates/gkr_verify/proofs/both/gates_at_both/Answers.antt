@@ -8,12 +8,12 @@ use Rattle.circuit_core.specs.declared.gate.CircuitGate.{CircuitGate}
 use Rattle.circuit_core.specs.Parts.{zero_gate}
 use Rattle.wiring_poly.specs.Wiring.{by_kind}
 use Rattle.gkr_verify.specs.Blocks.{with_factors}
-use Rattle.gkr_verify.proofs.BothSteps.{both_weight, operands, add_term, mul_term, add_gates-both, mul_gates-both, from_start, from_block, from_more, from_done, from_all}
+use Rattle.gkr_verify.proofs.BothSteps.{few_blocks, both_weight, operands, add_term, mul_term, add_gates-both, mul_gates-both, from_start, from_block, from_more, from_done, from_all}
 use Rattle.gkr_verify.proofs.both.gates_at_both.Goals as goal
 
 pub loop-block-init : goal.loop-block-init
 loop-block-init c =
-    let start : 0 ≡ min (length c.args.gates.now) (256 * 0) = omega arith in
+    let start : 0 ≡ min (length c.args.gates.now) (1024 * 0) = omega arith in
     record {
       add = from_start c.args.gates.now (add_term c.args.first.now c.args.second.now c.args.weight c.args.left.now c.args.right.now) _ c.zero.result start c.zero.ensures;
       mul = from_start c.args.gates.now (mul_term c.args.first.now c.args.second.now c.args.weight c.args.left.now c.args.right.now) _ c.zero-2.result start c.zero-2.ensures;
@@ -22,9 +22,9 @@ loop-block-init c =
 pub loop-g-init : goal.loop-g-init
 loop-g-init c =
     let block = c.loop-block.block in
-    let bound : c.div_ceil-block-end.result * 256 < length c.args.gates.now + 256 =
-    subst (λ (n : ℕ). n * 256 < length c.args.gates.now + 256) (sym c.div_ceil-block-end.ensures) (div_ceil_times (length c.args.gates.now) 256 (omega arith)).1 in
-    let here : min (length c.args.gates.now) (256 * c.loop-block.block) ≡ 256 * c.loop-block.block = omega (arith, bound, c.loop-block-test.true) in
+    let bound : c.div_ceil-block-end.result * 1024 < length c.args.gates.now + 1024 =
+    subst (λ (n : ℕ). n * 1024 < length c.args.gates.now + 1024) (sym c.div_ceil-block-end.ensures) (div_ceil_times (length c.args.gates.now) 1024 (omega arith)).1 in
+    let here : min (length c.args.gates.now) (1024 * c.loop-block.block) ≡ 1024 * c.loop-block.block = omega (arith, bound, c.loop-block-test.true) in
     record {
       add = from_block c.args.gates.now (add_term c.args.first.now c.args.second.now c.args.weight c.args.left.now c.args.right.now) _ _ c.loop-block.sums.add _ here
           (c.none-shares.ensures.add c.at-both.result block) c.loop-block.invariant.add;
@@ -34,19 +34,19 @@ loop-g-init c =
 
 pub value-requires : goal.value-requires
 value-requires c =
-    let most : 2 ^ length c.args.left.now ≤ 65536 = pow_up (length c.args.left.now) 16 c.requires.few_operands in
+    let most : 2 ^ length c.args.left.now ≤ 1048576 = pow_up (length c.args.left.now) 20 c.requires.few_operands in
     let u : c.loop-g.g < length c.args.gates.now = omega (arith, c.loop-g-test.true, c.min-g-end.ensures) in
     omega (arith, most, (c.requires.operands c.loop-g.g zero_gate u).left)
 
 pub value-requires-in-loop-g : goal.value-requires-in-loop-g
 value-requires-in-loop-g c =
-    let most : 2 ^ length c.args.left.now ≤ 65536 = pow_up (length c.args.left.now) 16 c.requires.few_operands in
+    let most : 2 ^ length c.args.left.now ≤ 1048576 = pow_up (length c.args.left.now) 20 c.requires.few_operands in
     let u : c.loop-g.g < length c.args.gates.now = omega (arith, c.loop-g-test.true, c.min-g-end.ensures) in
     omega (arith, most, (c.requires.operands c.loop-g.g zero_gate u).right)
 
 pub shares-requires : goal.shares-requires
 shares-requires c =
-    let most : 2 ^ length c.args.first.now ≤ 65536 = pow_up (length c.args.first.now) 16 c.requires.few_positions in
+    let most : 2 ^ length c.args.first.now ≤ 1048576 = pow_up (length c.args.first.now) 20 c.requires.few_positions in
     omega (arith, most, c.loop-g-test.true, c.min-g-end.ensures, c.requires.first)
 
 pub loop-g-preserved : goal.loop-g-preserved
@@ -67,7 +67,7 @@ loop-g-preserved c =
     let there : gate.right < 2 ^ length c.args.right.now = omega (arith, fits.right, ap (λ (n : ℕ). 2 ^ n) c.requires.right) in
     let here : c.loop-g.g < 2 ^ length c.args.first.now = omega (arith, u, c.requires.first) in
     let also : c.loop-g.g < 2 ^ length c.args.second.now = omega (arith, here, ap (λ (n : ℕ). 2 ^ n) c.requires.second) in
-    let within : c.loop-g.g / 256 ≡ c.loop-block.block = omega (arith, c.loop-g.auto.g, c.loop-g-test.true, c.min-g-end.ensures) in
+    let within : c.loop-g.g / 1024 ≡ c.loop-block.block = omega (arith, c.loop-g.auto.g, c.loop-g-test.true, c.min-g-end.ensures) in
     let product : c.mul-operands.result ≡ operands first second a left right gate =
     c.mul-operands.ensures ∙ ap₂ mul_k (c.value.ensures left c.at-left.ensures fits.left) (c.value-in-loop-g.ensures right c.at-right.ensures there) in
     let shared : with_factors both block c.shares.result ≡ mul_k (both_weight first second a g) (operands first second a left right gate) =
@@ -80,12 +80,24 @@ loop-g-preserved c =
           (c.with-shares.ensures.mul both block ∙ ap (λ (w : K). add_k (with_factors both block c.loop-g.shares.mul) (by_kind gate.kind zero_k w)) shared) c.loop-g.invariant.mul;
     }
 
+pub with_factors-requires : goal.with_factors-requires
+with_factors-requires c =
+    let bound : c.div_ceil-block-end.result * 1024 < length c.args.gates.now + 1024 =
+    subst (λ (n : ℕ). n * 1024 < length c.args.gates.now + 1024) (sym c.div_ceil-block-end.ensures) (div_ceil_times (length c.args.gates.now) 1024 (omega arith)).1 in
+    few_blocks c.loop-block.block c.div_ceil-block-end.result (length c.args.gates.now) (length c.args.first.now) c.loop-block-test.true bound (omega (arith, c.requires.first)) c.requires.few_positions
+
+pub with_factors-requires-in-loop-block : goal.with_factors-requires-in-loop-block
+with_factors-requires-in-loop-block c =
+    let bound : c.div_ceil-block-end.result * 1024 < length c.args.gates.now + 1024 =
+    subst (λ (n : ℕ). n * 1024 < length c.args.gates.now + 1024) (sym c.div_ceil-block-end.ensures) (div_ceil_times (length c.args.gates.now) 1024 (omega arith)).1 in
+    few_blocks c.loop-block.block c.div_ceil-block-end.result (length c.args.gates.now) (length c.args.first.now) c.loop-block-test.true bound (omega (arith, c.requires.first)) c.requires.few_positions
+
 pub loop-block-preserved : goal.loop-block-preserved
 loop-block-preserved c =
-    let bound : c.div_ceil-block-end.result * 256 < length c.args.gates.now + 256 =
-    subst (λ (n : ℕ). n * 256 < length c.args.gates.now + 256) (sym c.div_ceil-block-end.ensures) (div_ceil_times (length c.args.gates.now) 256 (omega arith)).1 in
-    let some : 256 * c.loop-block.block ≤ c.min-g-end.result = omega (arith, bound, c.loop-block-test.true, c.min-g-end.ensures) in
-    let end : c.loop-g.g ≡ min (length c.args.gates.now) (256 * (c.loop-block.block + 1)) =
+    let bound : c.div_ceil-block-end.result * 1024 < length c.args.gates.now + 1024 =
+    subst (λ (n : ℕ). n * 1024 < length c.args.gates.now + 1024) (sym c.div_ceil-block-end.ensures) (div_ceil_times (length c.args.gates.now) 1024 (omega arith)).1 in
+    let some : 1024 * c.loop-block.block ≤ c.min-g-end.result = omega (arith, bound, c.loop-block-test.true, c.min-g-end.ensures) in
+    let end : c.loop-g.g ≡ min (length c.args.gates.now) (1024 * (c.loop-block.block + 1)) =
     omega (arith, c.loop-g.auto.g-end some, c.loop-g-test.false, c.min-g-end.ensures) in
     record {
       add = from_done c.args.gates.now (add_term c.args.first.now c.args.second.now c.args.weight c.args.left.now c.args.right.now) _ _ _ c.add.result end
@@ -96,18 +108,18 @@ loop-block-preserved c =
 
 pub returns-clause-add : goal.returns-clause-add
 returns-clause-add c =
-    let bound : length c.args.gates.now ≤ c.div_ceil-block-end.result * 256 =
-    subst (λ (n : ℕ). length c.args.gates.now ≤ n * 256) (sym c.div_ceil-block-end.ensures) (div_ceil_times (length c.args.gates.now) 256 (omega arith)).0 in
-    let all : length c.args.gates.now ≤ min (length c.args.gates.now) (256 * c.loop-block.block) = omega (arith, bound, c.loop-block-test.false) in
+    let bound : length c.args.gates.now ≤ c.div_ceil-block-end.result * 1024 =
+    subst (λ (n : ℕ). length c.args.gates.now ≤ n * 1024) (sym c.div_ceil-block-end.ensures) (div_ceil_times (length c.args.gates.now) 1024 (omega arith)).0 in
+    let all : length c.args.gates.now ≤ min (length c.args.gates.now) (1024 * c.loop-block.block) = omega (arith, bound, c.loop-block-test.false) in
     from_all c.args.gates.now (add_term c.args.first.now c.args.second.now c.args.weight c.args.left.now c.args.right.now) _ c.loop-block.sums.add all c.loop-block.invariant.add
     ∙ add_gates-both k_ops k_laws c.args.gates.now (eq_poly k_ops c.args.first.now) (eq_poly k_ops c.args.second.now) c.args.weight
     (operands c.args.first.now c.args.second.now c.args.weight c.args.left.now c.args.right.now)
 
 pub returns-clause-mul : goal.returns-clause-mul
 returns-clause-mul c =
-    let bound : length c.args.gates.now ≤ c.div_ceil-block-end.result * 256 =
-    subst (λ (n : ℕ). length c.args.gates.now ≤ n * 256) (sym c.div_ceil-block-end.ensures) (div_ceil_times (length c.args.gates.now) 256 (omega arith)).0 in
-    let all : length c.args.gates.now ≤ min (length c.args.gates.now) (256 * c.loop-block.block) = omega (arith, bound, c.loop-block-test.false) in
+    let bound : length c.args.gates.now ≤ c.div_ceil-block-end.result * 1024 =
+    subst (λ (n : ℕ). length c.args.gates.now ≤ n * 1024) (sym c.div_ceil-block-end.ensures) (div_ceil_times (length c.args.gates.now) 1024 (omega arith)).0 in
+    let all : length c.args.gates.now ≤ min (length c.args.gates.now) (1024 * c.loop-block.block) = omega (arith, bound, c.loop-block-test.false) in
     from_all c.args.gates.now (mul_term c.args.first.now c.args.second.now c.args.weight c.args.left.now c.args.right.now) _ c.loop-block.sums.mul all c.loop-block.invariant.mul
     ∙ mul_gates-both k_ops k_laws c.args.gates.now (eq_poly k_ops c.args.first.now) (eq_poly k_ops c.args.second.now) c.args.weight
     (operands c.args.first.now c.args.second.now c.args.weight c.args.left.now c.args.right.now)

@@ -12,6 +12,6 @@ invariant-loop-g l = record {
 
 abbrev pub invariant-loop-block : goal.invariant-loop-block
 invariant-loop-block l = record {
-  add : IsSumFrom l.gates (add_term l.first l.second l.fn.weight l.fn.left l.fn.right) (min (length l.gates) (256 * l.block)) l.sums.add;
-  mul : IsSumFrom l.gates (mul_term l.first l.second l.fn.weight l.fn.left l.fn.right) (min (length l.gates) (256 * l.block)) l.sums.mul;
+  add : IsSumFrom l.gates (add_term l.first l.second l.fn.weight l.fn.left l.fn.right) (min (length l.gates) (1024 * l.block)) l.sums.add;
+  mul : IsSumFrom l.gates (mul_term l.first l.second l.fn.weight l.fn.left l.fn.right) (min (length l.gates) (1024 * l.block)) l.sums.mul;
 }

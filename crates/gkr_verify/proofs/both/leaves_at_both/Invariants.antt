@@ -12,4 +12,4 @@ invariant-loop-i l =
 
 abbrev pub invariant-loop-block : goal.invariant-loop-block
 invariant-loop-block l =
-    IsSumTo (2 ^ length l.first) (map (leaf_value l.inputs) l.leaves) (both_weight l.first l.second l.fn.weight) (min (length l.leaves) (256 * l.block - 1) + 1) l.sum
+    IsSumTo (2 ^ length l.first) (map (leaf_value l.inputs) l.leaves) (both_weight l.first l.second l.fn.weight) (min (length l.leaves) (1024 * l.block - 1) + 1) l.sum

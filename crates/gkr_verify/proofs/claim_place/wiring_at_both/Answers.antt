@@ -15,9 +15,9 @@ gates_at_both-requires-clause-operands c k d u =
 pub gates_at_both-requires-clause-few_positions : goal.gates_at_both-requires-clause-few_positions
 gates_at_both-requires-clause-few_positions c =
     let most = (size_of c.args.circuit.now c.args.layer (omega (arith, c.requires.layer))).2 in
-    subst (λ (n : ℕ). n ≤ 16) (sym c.requires.first) most
+    subst (λ (n : ℕ). n ≤ 20) (sym c.requires.first) most
 
 pub gates_at_both-requires-clause-few_operands : goal.gates_at_both-requires-clause-few_operands
 gates_at_both-requires-clause-few_operands c =
     let most = (size_of c.args.circuit.now (c.args.layer + 1) (omega (arith, c.requires.layer))).2 in
-    subst (λ (n : ℕ). n ≤ 16) (sym c.requires.left) most
+    subst (λ (n : ℕ). n ≤ 20) (sym c.requires.left) most

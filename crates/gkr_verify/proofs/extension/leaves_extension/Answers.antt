@@ -2,6 +2,7 @@ use Rattle.std.proofs.Common.{◌+◌, ◌^◌, ◌<◌, ◌≤◌, length, map,
 use Rattle.std.proofs.lemmas.List.{get_or-map, length-map}
 use Rattle.field_ext.specs.Field.{F, k_ops, add_k, mul_k, embed_k}
 use Rattle.field_ext.specs.Multilinear.{eq_poly}
+use Rattle.mle_table.proofs.api.EqualitySteps.{pow_up}
 use Rattle.circuit_core.specs.declared.gate.Leaf.{Leaf}
 use Rattle.circuit_core.specs.Parts.{leaf_value, zero_f}
 use Rattle.gkr_verify.proofs.TableSteps.{sum_begun, sum_more, sum_all}
@@ -9,6 +10,11 @@ use Rattle.gkr_verify.proofs.extension.leaves_extension.Goals as goal
 
 pub loop-i-init : goal.loop-i-init
 loop-i-init c = sum_begun (2 ^ length c.args.point.now) (map (leaf_value c.args.inputs.now) c.args.leaves.now) (eq_poly k_ops c.args.point.now) c.zero-sum.result c.zero-sum.ensures
+
+pub value-requires : goal.value-requires
+value-requires c =
+    let most : 2 ^ length c.args.point.now ≤ 1048576 = pow_up (length c.args.point.now) 20 c.requires.few in
+    omega (arith, most, c.loop-i-test.true, c.requires.fits)
 
 pub loop-i-preserved : goal.loop-i-preserved
 loop-i-preserved c =

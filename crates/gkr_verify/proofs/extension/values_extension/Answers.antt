@@ -2,12 +2,18 @@ use Rattle.std.proofs.Common.{◌+◌, ◌^◌, ◌<◌, ◌≤◌, length, arit
 use Rattle.std.proofs.lemmas.List.{get_or_read}
 use Rattle.field_ext.specs.Field.{k_ops, add_k, mul_k, embed_k}
 use Rattle.field_ext.specs.Multilinear.{eq_poly}
+use Rattle.mle_table.proofs.api.EqualitySteps.{pow_up}
 use Rattle.circuit_core.specs.Parts.{zero_f}
 use Rattle.gkr_verify.proofs.TableSteps.{sum_begun, sum_more, sum_all}
 use Rattle.gkr_verify.proofs.extension.values_extension.Goals as goal
 
 pub loop-i-init : goal.loop-i-init
 loop-i-init c = sum_begun (2 ^ length c.args.point.now) c.args.values.now (eq_poly k_ops c.args.point.now) c.zero-sum.result c.zero-sum.ensures
+
+pub value-requires : goal.value-requires
+value-requires c =
+    let most : 2 ^ length c.args.point.now ≤ 1048576 = pow_up (length c.args.point.now) 20 c.requires.few in
+    omega (arith, most, c.loop-i-test.true, c.requires.fits)
 
 pub loop-i-preserved : goal.loop-i-preserved
 loop-i-preserved c =

@@ -15,7 +15,7 @@ start-requires-clause-has g c =
 
 pub first_of_layers-requires-clause-few : goal.first_of_layers-requires-clause-few
 first_of_layers-requires-clause-few g c =
-    subst (λ (ms : List LayerMessages). All (λ (layer : LayerMessages). length layer.rounds ≤ 32) ms) (sym c.as_slice-layers.ensures) (few_rounds c.args.circuit.now c.args.messages.now c.requires.shape)
+    subst (λ (ms : List LayerMessages). All (λ (layer : LayerMessages). length layer.rounds ≤ 40) ms) (sym c.as_slice-layers.ensures) (few_rounds c.args.circuit.now c.args.messages.now c.requires.shape)
 
 pub first_of_layers-requires-clause-has : goal.first_of_layers-requires-clause-has
 first_of_layers-requires-clause-has g c =

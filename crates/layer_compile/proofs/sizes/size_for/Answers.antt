@@ -30,12 +30,12 @@ returns-then-positions-j c =
     let j = c.loop-j.j in
     let size = one_shl (j + 1) 64 (omega arith) in
     let holds : c.args.positions ≤ 2 ^ (j + 1) = subst (λ size. c.args.positions ≤ size) size c.if-positions-j.true in
-    let first = first_below_found (enough c.args.positions) j 16 (j + 1) (omega arith) c.loop-j.invariant (unless_false _ _ (le-ltb _ _ holds)) in
-    size ∙ ap (λ o. 2 ^ unwrap_or o 16) (sym first)
+    let first = first_below_found (enough c.args.positions) j 20 (j + 1) (omega arith) c.loop-j.invariant (unless_false _ _ (le-ltb _ _ holds)) in
+    size ∙ ap (λ o. 2 ^ unwrap_or o 20) (sym first)
 
 pub returns : goal.returns
 unfolding enough
 returns c =
-    let all : c.loop-j.j ≡ 16 = omega arith in
+    let all : c.loop-j.j ≡ 20 = omega arith in
     let none = subst (λ j. first_below j (enough c.args.positions) ≡ None) all c.loop-j.invariant in
-    ap (λ o. 2 ^ unwrap_or o 16) (sym none)
+    ap (λ o. 2 ^ unwrap_or o 20) (sym none)

@@ -7,6 +7,6 @@ use Rattle.live_session.proofs.layout.whole_messages.Given as goal
 
 abbrev pub invariant-loop-layer : goal.invariant-loop-layer
 invariant-loop-layer l = record {
-  few : l.count ≤ 33 * l.layer;
+  few : l.count ≤ 41 * l.layer;
   counted : whole (sizes_of (lower l.circuit.parts)) l.fn.n ≡ l.count + whole (sizes_of (lower_exponents (layers_below l.circuit.parts l.layer))) l.left;
 }

@@ -14,7 +14,7 @@ greedy_runs-requires c =
     let circuit = c.args.circuit.now in
     let most = (size_of circuit c.args.layer (omega (arith, c.requires))).2 in
     let size = ap length c.gates.ensures.value ∙ gates_size circuit c.args.layer c.requires in
-    let up = pow_up (exponent_at circuit.parts c.args.layer) 16 most in
+    let up = pow_up (exponent_at circuit.parts c.args.layer) 20 most in
     omega (arith, size, up)
 
 pub invariant_of-layer_runs-inside : goal.invariant_of-layer_runs-inside

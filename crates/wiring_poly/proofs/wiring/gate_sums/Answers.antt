@@ -1,9 +1,10 @@
-use Rattle.std.proofs.Common.{◌≡◌, ℕ, ◌^◌, ◌<◌, length, get_or, arith, ◌∙◌, ap, ap₂}
+use Rattle.std.proofs.Common.{◌≡◌, ℕ, ◌^◌, ◌<◌, ◌≤◌, length, get_or, arith, ◌∙◌, ap, ap₂}
 use Rattle.field_ext.specs.Field.{K, k_ops, add_k, mul_k, zero_k}
 use Rattle.field_ext.proofs.api.KLaws.{k_laws}
 use Rattle.field_ext.specs.Multilinear.{eq_poly}
 use Rattle.circuit_core.specs.declared.gate.CircuitGate.{CircuitGate}
 use Rattle.circuit_core.specs.Parts.{zero_gate}
+use Rattle.mle_table.proofs.api.EqualitySteps.{pow_up}
 use Rattle.wiring_poly.specs.Wiring.{by_kind, gate_weight}
 use Rattle.wiring_poly.proofs.api.GateSteps.{summed_none, summed_more, summed_all}
 use Rattle.wiring_poly.proofs.wiring.gate_sums.Goals as goal
@@ -13,6 +14,21 @@ loop-g-init c = record {
   add = summed_none k_ops k_laws _ _ c.zero.ensures;
   mul = summed_none k_ops k_laws _ _ c.zero-2.ensures;
 }
+
+pub value-requires : goal.value-requires
+value-requires c =
+    let most : 2 ^ length c.args.b.now ≤ 1048576 = pow_up (length c.args.b.now) 20 c.requires.few_operands in
+    omega (arith, most, (c.requires.operands c.loop-g.g zero_gate c.loop-g-test.true).left)
+
+pub value-requires-in-loop-g : goal.value-requires-in-loop-g
+value-requires-in-loop-g c =
+    let most : 2 ^ length c.args.b.now ≤ 1048576 = pow_up (length c.args.b.now) 20 c.requires.few_operands in
+    omega (arith, most, (c.requires.operands c.loop-g.g zero_gate c.loop-g-test.true).right)
+
+pub value-requires-in-loop-g-2 : goal.value-requires-in-loop-g-2
+value-requires-in-loop-g-2 c =
+    let most : 2 ^ length c.args.z.now ≤ 1048576 = pow_up (length c.args.z.now) 20 c.requires.few_positions in
+    omega (arith, most, c.loop-g-test.true, c.requires.positions)
 
 pub loop-g-preserved : goal.loop-g-preserved
 loop-g-preserved c =

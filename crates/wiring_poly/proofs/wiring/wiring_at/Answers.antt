@@ -15,9 +15,9 @@ gate_sums-sums-requires-clause-operands c k d u =
 pub gate_sums-sums-requires-clause-few_positions : goal.gate_sums-sums-requires-clause-few_positions
 gate_sums-sums-requires-clause-few_positions c =
     let most = (size_of c.args.circuit.now c.args.layer (omega (arith, c.requires.layer))).2 in
-    subst (λ (n : ℕ). n ≤ 16) (sym c.requires.position) most
+    subst (λ (n : ℕ). n ≤ 20) (sym c.requires.position) most
 
 pub gate_sums-sums-requires-clause-few_operands : goal.gate_sums-sums-requires-clause-few_operands
 gate_sums-sums-requires-clause-few_operands c =
     let most = (size_of c.args.circuit.now (c.args.layer + 1) (omega (arith, c.requires.layer))).2 in
-    subst (λ (n : ℕ). n ≤ 16) (sym c.requires.left) most
+    subst (λ (n : ℕ). n ≤ 20) (sym c.requires.left) most

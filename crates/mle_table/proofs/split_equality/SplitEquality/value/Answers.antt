@@ -11,6 +11,6 @@ returns c point split b =
     let tables = c.args.self.now in
     let low_is : c.self.inside.low ≡ c.args.self.now.low = ap (λ (t : TwoTables). t.low) c.self.view_is in
     let high_is : c.self.inside.high ≡ c.args.self.now.high = ap (λ (t : TwoTables). t.high) c.self.view_is in
-    let low = get_or_read c.self.inside.low (c.args.g % 256) c.index-self-g.result (omega arith) c.index-self-g.is zero_k ∙ ap (λ (t : List K). get_or t (c.args.g % 256) zero_k) low_is in
-    let high = get_or_read c.self.inside.high (c.args.g / 256) c.index-self-g-2.result (omega arith) c.index-self-g-2.is zero_k ∙ ap (λ (t : List K). get_or t (c.args.g / 256) zero_k) high_is in
+    let low = get_or_read c.self.inside.low (c.args.g % 1024) c.index-self-g.result (omega arith) c.index-self-g.is zero_k ∙ ap (λ (t : List K). get_or t (c.args.g % 1024) zero_k) low_is in
+    let high = get_or_read c.self.inside.high (c.args.g / 1024) c.index-self-g-2.result (omega arith) c.index-self-g-2.is zero_k ∙ ap (λ (t : List K). get_or t (c.args.g / 1024) zero_k) high_is in
     c.mul.ensures ∙ ap₂ mul_k (sym c.index-self-g.is ∙ low) (sym c.index-self-g-2.is ∙ high) ∙ eq-split k_ops k_laws point tables.low tables.high c.args.g split.low split.high b

@@ -11,7 +11,7 @@ pub returns-clause-few : goal.returns-clause-few
 returns-clause-few c =
     let s = c.args.self.now in
     let number : length c.lend.result.items ≡ pieces_of c.args.self.now = search rules in
-    let most : c.args.self.now.k ≤ 16 = search rules in
+    let most : c.args.self.now.k ≤ 20 = search rules in
     omega (arith, number, parts-few s.k (left_in_phase s.k (length s.bound)) most)
 
 pub returns-clause-sums : goal.returns-clause-sums
