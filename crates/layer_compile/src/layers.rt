@@ -15,6 +15,10 @@ use crate::rows::Row;
 use circuit_core::Layer;
 use std::alloc::{AllocError, Global};
 
+/// The most gates that a circuit's layers may have in all. With the values of its layers a proof of such a circuit takes about
+/// 700 MB, and what is larger is refused as if no memory were found.
+pub const MOST_GATES: usize = 1 << 25;
+
 impl<'a> Plan<'a> {
     /// The layers of all heights above the leaves, the highest first, or the first height with too many positions.
     pub fn layers(
@@ -36,12 +40,17 @@ impl<'a> Plan<'a> {
     {
         let mut layers = Vec::new(alloc);
         let mut below = leaves;
+        let mut left = MOST_GATES;
         for height in 0..self.top {
             self.write_places(places, height, &below);
             let above = self.next_row(alloc, places, height, &below)?;
             let Row { nodes, gates } = above;
             self.fits(limits, height + 1, &nodes)?;
             let layer = padded(gates)?;
+            let Some(rest) = left.checked_sub(layer.width()) else {
+                return Err(LayerRefused::Memory);
+            };
+            left = rest;
             add(&mut layers, layer)?;
             below = nodes;
         }
