@@ -1,7 +1,7 @@
-//! Gates for tests: one that counts who passes, one that sees whether two come to a piece at one time, and one that sees whether
-//! two workers are ever there together.
+//! Gates for tests: one that counts who passes, one that sees whether two come to a piece at one time, and one that holds workers
+//! until two are there together.
 //!
-//! A test lends one to workers in place of the open gate, and asks it afterwards.
+//! A test lends one to workers in place of the open gate, and asks the first two afterwards.
 #![tactic(auto)]
 
 mod counting;
