@@ -1,8 +1,7 @@
 -- Rows for several coordinates at once are the folds by these coordinates
-use Rattle.std.proofs.Common.{◌≡◌, ℕ, Bool, ◌≤◌, zero, suc, ◌+◌, ◌-◌, ◌*◌, ◌/◌, ◌%◌, ◌^◌, ◌<◌, ◌⊎◌, inl, inr, List, [], ◌∷◌, length, get_or, take, length-take, refl, sym, ◌∙◌, ap, ap₂, arith, pow-suc, pow_pos, if◌then◌else◌, ◌==◌, eq-eqb}
+use Rattle.std.proofs.Common.{◌≡◌, ℕ, ◌≤◌, zero, suc, ◌+◌, ◌-◌, ◌*◌, ◌/◌, ◌%◌, ◌^◌, ◌<◌, List, [], ◌∷◌, length, get_or, take, length-take, get_or-take, refl, sym, ◌∙◌, ap, ap₂, arith, pow-suc, pow_pos}
 use Rattle.std.proofs.Math.Nat.{mul-le-mul_left, mul-div_cancel}
 use Rattle.std.proofs.lemmas.Nat.{pow-add}
-use Rattle.std.proofs.lemmas.Bool.{cases_eq, ne_eqb}
 use Rattle.field_ext.specs.Ring.{Ops, Laws}
 use Rattle.field_ext.specs.Polynomial.{coefficients}
 use Rattle.field_ext.specs.Field.{K, F, prime, of, f_ops, k_ops, zero_k, add_f, neg_f, mul_f, add_k, mul_k}
@@ -21,8 +20,8 @@ use Rattle.gkr_layers.specs.Sumcheck.{point_between, line_polynomial}
 use Rattle.gkr_layers.proofs.api.Lines.{value-line_polynomial}
 use Rattle.gkr_layers.proofs.api.Degree.{length-line_polynomial}
 use Rattle.gkr_layers.proofs.api.Coefficients.{from_values}
-use Rattle.line_reduce.specs.Rows.{row_value, weighted_sum, HaveFolds}
-use Rattle.line_reduce.proofs.Steps.{length-point, row-whole, folded_all-value}
+use Rattle.line_reduce.specs.Rows.{row_value, weighted_sum, HaveFolds, AreWeights}
+use Rattle.line_reduce.proofs.Steps.{row-same, length-point, row-whole, folded_all-value}
 
 module _ {A : Type 0} (o : Ops A) (l : Laws A o) where
   -- two sums, one of them times e
@@ -78,31 +77,12 @@ module _ {A : Type 0} (o : Ops A) (l : Laws A o) where
       ∙ sym (sum_below-pairs o l n (λ q. o.mul (get_or t (p * (n * 2) + q) o.zero) (eq_poly o (r ∷ rs) q)))
       ∙ ap (λ (k : ℕ). sum_below o k (λ q. o.mul (get_or t (p * k + q) o.zero) (eq_poly o (r ∷ rs) q))) (sym (pow-suc 2 (length rs)))
 
-  -- a row of units picks one value
-  pub unit_picks : (n p : ℕ) (u h : ℕ → A) → p < n → ((q : ℕ) → q < n → u q ≡ (if p == q then o.one else o.zero)) →
-      sum_below o n (λ q. o.mul (u q) (h q)) ≡ h p
-  unit_picks zero p u h v is = absurd (omega arith)
-  unit_picks (suc n) p u h v is = by_place (λ w. unit_picks n p u h w (λ q b. is q (omega arith))) (cases_eq p n)
-    where
-      none : (q : ℕ) → q < suc n → (p ≡ q → ⊥) → o.mul (u q) (h q) ≡ o.zero
-      none q w ne =
-          ap (λ (x : A). o.mul x (h q)) (is q w ∙ ap (λ (b : Bool). if b then o.one else o.zero) (ne_eqb p q ne))
-          ∙ solve o l (h q ∷ []) (nil ⊗ var 0) nil refl
-
-      by_place : (p < n → sum_below o n (λ q. o.mul (u q) (h q)) ≡ h p) → (p ≡ n) ⊎ (p ≡ n → ⊥) → sum_below o (suc n) (λ q. o.mul (u q) (h q)) ≡ h p
-      by_place before (inl e) =
-          ap₂ o.add (sum_below-same o l n _ (λ q. o.zero) (λ q w. none q (omega arith) (λ g. absurd (omega arith))) ∙ sum_below-zero o l n)
-          (ap (λ (x : A). o.mul x (h n)) (is n (omega arith) ∙ ap (λ (b : Bool). if b then o.one else o.zero) (eq-eqb p n e)))
-          ∙ solve o l (h n ∷ []) (nil ⊕ unit ⊗ var 0) (var 0) refl ∙ ap h (sym e)
-      by_place before (inr ne) = ap₂ o.add (before (omega arith)) (none n (omega arith) ne) ∙ l.add_zero (h p)
-
-  -- blocks' values times the rows into which rows of units fold are rows of the table's folds
-  pub block_folds : (t units weights rows b c : List A) (n s count : ℕ) (e : A) → length c ≡ length b → n ≤ length b → s ≡ 2 ^ n →
-      ((p q : ℕ) → p < s → q < s → get_or units (p * s + q) o.zero ≡ (if p == q then o.one else o.zero)) →
-      HaveFolds o n s weights units b c e →
+  -- blocks' values times rows of weights are rows of the table's folds
+  pub block_folds : (t weights rows b c : List A) (n s count : ℕ) (e : A) → length c ≡ length b → n ≤ length b → s ≡ 2 ^ n →
+      AreWeights o n (n + 1) weights b c e →
       ((p j : ℕ) → p < count → j < n + 1 → get_or rows (p * (n + 1) + j) o.zero ≡ weighted_sum o t (p * s) weights j (n + 1) s) →
       HaveFolds o n count rows t b c e
-  block_folds t units weights rows b c n s count e v w size is folds sums p u =
+  block_folds t weights rows b c n s count e v w size are sums p u =
       let rs : List A = take n (point_between o b c e) in
       let long : length (take n (point_between o b c e)) ≡ n = omega (arith, length-take n (point_between o b c e), length-point o l b c e v) in
       let whole : s ≡ 2 ^ length (take n (point_between o b c e)) = size ∙ ap (λ (k : ℕ). 2 ^ k) (sym long) in
@@ -111,12 +91,7 @@ module _ {A : Type 0} (o : Ops A) (l : Laws A o) where
       sums p i u x ∙ ap (λ (k : ℕ). sum_below o s (λ q. o.mul (get_or t (p * s + q) o.zero) (get_or weights (k + q * (n + 1)) o.zero))) none)
       ∙ sum_below-same o l s _ _ (λ q x.
       let none : q * (n + 1) + 0 ≡ q * (n + 1) = omega arith in
-      ap (o.mul (get_or t (p * s + q) o.zero))
-      (ap (λ (k : ℕ). row_value o weights k (n + 1) e) none
-      ∙ folds q x
-      ∙ fold_block units rs q
-      ∙ ap (λ (k : ℕ). sum_below o k (λ y. o.mul (get_or units (q * k + y) o.zero) (eq_poly o rs y))) (sym whole)
-      ∙ unit_picks s q (λ y. get_or units (q * s + y) o.zero) (eq_poly o rs) x (λ y z. is q y x z)))
+      ap (o.mul (get_or t (p * s + q) o.zero)) (ap (λ (k : ℕ). row_value o weights k (n + 1) e) none ∙ are q (omega (arith, size, x))))
       ∙ ap (λ (k : ℕ). sum_below o k (λ q. o.mul (get_or t (p * k + q) o.zero) (eq_poly o rs q))) whole
       ∙ sym (fold_block t rs p)
 
@@ -149,10 +124,6 @@ four_elements a b c d w x y z re im ha hb hc hd hre him =
     (λ i. record { re = hre i; im = him i })
     ∙ sym (ap₂ add_k (ap₂ add_k (ap₂ add_k (zero_add k_ops k_laws (mul_k a w) ∙ base_product a w ha) (base_product b x hb)) (base_product c y hc)) (base_product d z hd))
 
--- a row ends where a later one begins
-pub block_fits : (q p n : ℕ) → q < p → q * n + n ≤ p * n
-block_fits q p n u = let h : n * (q + 1) ≤ n * p = mul-le-mul_left n (let v : q + 1 ≤ p = omega arith in v) in omega (arith, h)
-
 -- a table folded by all coordinates to one row is the line's polynomial
 pub line_of_row : (t row b c : List K) → length c ≡ length b → length b ≤ 20 → length row ≡ length b + 1 →
     ((e : K) → HaveFolds k_ops (length b) 1 row t b c e) → row ≡ coefficients k_ops (length b + 1) (line_polynomial k_ops t b c)
@@ -167,16 +138,26 @@ line_of_row t row b c v most size folds =
     ∙ folded_all-value k_ops k_laws t b c e (length b) v (omega arith)
     ∙ sym (value-line_polynomial k_ops k_laws t b c e))
 
--- so many rows of n + 1
-pub whole_rows : (m n : ℕ) → m * (n + 1) / (n + 1) ≡ m
-whole_rows m n = mul-div_cancel m (omega arith)
+-- the places of one row
+pub row_of_front : (xs t b c : List K) (n : ℕ) (e : K) → n + 1 ≤ length xs → HaveFolds k_ops n 1 xs t b c e → HaveFolds k_ops n 1 (take (n + 1) xs) t b c e
+row_of_front xs t b c n e fits folds p u =
+    row-same k_ops k_laws (take (n + 1) xs) xs (p * (n + 1)) (n + 1) e (λ x _ w.
+    let none : p ≡ 0 = omega arith in
+    let first : p * (n + 1) ≡ 0 * (n + 1) = ap (λ (i : ℕ). i * (n + 1)) none in
+    get_or-take (n + 1) xs x zero_k (omega (arith, first, w)))
+    ∙ folds p u
+
+-- the first of the rows into which a table was folded by all coordinates
+pub line_in_front : (t rows b c : List K) → length c ≡ length b → length b ≤ 20 → length b + 1 ≤ length rows →
+    ((e : K) → HaveFolds k_ops (length b) 1 rows t b c e) → take (length b + 1) rows ≡ coefficients k_ops (length b + 1) (line_polynomial k_ops t b c)
+line_in_front t rows b c v most fits folds =
+    line_of_row t (take (length b + 1) rows) b c v most (omega (arith, length-take (length b + 1) rows)) (λ e. row_of_front rows t b c (length b) e fits (folds e))
 
 -- a block of 2 ^ n values, as a number of 64 bits, is some fours
 pub record IsBlock (n s : ℕ) : Type 0 where
   pub size : s ≡ 2 ^ n
   pub fours : 4 * (s / 4) ≡ s
   pub some : 1 ≤ s / 4
-  pub most : s ≤ 64
 
 pub a_block : (n s : ℕ) → 2 ≤ n → n ≤ 6 → s ≡ 1 * 2 ^ n % 18446744073709551616 → IsBlock n s
 a_block n s u v e =
@@ -189,7 +170,6 @@ a_block n s u v e =
       size = size;
       fours = omega (arith, size, quarter);
       some = omega (arith, size, quarter, some);
-      most = omega (arith, size, most);
     }
 
 -- blocks of 2 ^ n of 2 ^ k values
@@ -200,3 +180,14 @@ blocks_of k n s m u size whole =
     let some : 0 < s = omega (arith, size, pow_pos n) in
     let each : m / s ≡ 2 ^ (k - n) = ap (λ (i : ℕ). i / s) all ∙ mul-div_cancel (2 ^ (k - n)) some in
     (each, all ∙ ap (λ (i : ℕ). i * s) (sym each))
+
+-- the rows that blocks of 2 ^ n of 2 ^ k values give have places for a line
+power_above : (m : ℕ) → m + 1 ≤ 2 ^ m
+power_above zero = omega arith
+power_above (suc m) = omega (arith, pow-suc 2 m, power_above m)
+
+pub line_fits : (k n places : ℕ) → n ≤ k → 2 ^ (k - n) * (n + 1) ≤ places → k + 1 ≤ places
+line_fits k n places u fits = enough (k - n) n k (2 ^ (k - n)) places (power_above (k - n)) (omega arith) fits
+  where
+    enough : (m n k p places : ℕ) → m + 1 ≤ p → k ≡ m + n → p * (n + 1) ≤ places → k + 1 ≤ places
+    enough m n k p places above is fits = let h : (n + 1) * (m + 1) ≤ (n + 1) * p = mul-le-mul_left (n + 1) above in omega (arith, h, fits, is)

@@ -1,15 +1,18 @@
-//! Rows for several coordinates at once, of tables whose values lie in the base field.
+//! Lines of tables whose values lie in the base field: several coordinates at once.
 //!
 //! Of each block of values the row is the sum of its values times rows of weights, those of the equality polynomial at the
 //! coordinates. Four products of numbers below p fit 64 bits and are reduced together, while to fold reduces each.
 
-ghost use Rattle.std.specs.Prelude.{◌≡◌, ◌≤◌, ◌<◌, ◌+◌, ◌*◌, ℕ, length, slice_index_or, IfOk, vec_len, ◌==◌, if◌then◌else◌};
-ghost use Rattle.field_ext.specs.Field.{k_ops, zero_k, one_k};
+ghost use Rattle.std.specs.Prelude.{◌≡◌, ◌≤◌, ◌<◌, ◌+◌, ◌-◌, ◌*◌, ◌^◌, ℕ, length, take, slice_index_or};
+ghost use Rattle.field_ext.specs.Field.{k_ops, zero_k};
+ghost use Rattle.field_ext.specs.Polynomial.{coefficients};
+ghost use Rattle.gkr_layers.specs.Sumcheck.{line_polynomial};
 ghost use Rattle.mle_table.specs.Shape.{AreBase};
 ghost use Rattle.line_reduce.specs.Rows.{weighted_sum};
 
+use crate::rows::fold_by_line;
+use crate::weights::fill_weights;
 use field_ext::{Ext, Fp};
-use std::alloc::{AllocError, Global};
 
 /// Four values of the base field from `at` on, each times the weight at the next of the places `from`, `from + n`, ..
 fn four(values: &[Ext], at: usize, weights: &[Ext], from: usize, n: usize) -> Ext
@@ -82,42 +85,60 @@ fn fill_row(
     }
 }
 
-/// The rows of `n` coefficients of `count` blocks of values.
-pub(crate) fn block_rows(
-    alloc: Global,
+/// Writes the rows of `n` coefficients of `count` blocks of values, one after another.
+fn fill_rows(
     values: &[Ext],
     weights: &[Ext],
     n: usize,
     fours: usize,
     count: usize,
-) -> Result<Vec<Ext>, AllocError>
+    rows: &mut [Ext],
+)
     requires base { AreBase values.now }
     requires few { n ≤ 17 }
     requires some { 1 ≤ fours }
     requires values { length values.now ≡ count * (4 * fours) }
-    requires weights { length weights.now ≡ 4 * fours * n }
-    ensures size { IfOk result (λ rows. vec_len rows ≡ count * n) }
-    ensures rows { IfOk result (λ rows. (p j : ℕ) → p < count → j < n
-        → slice_index_or rows.items (p * n + j) zero_k
-        ≡ weighted_sum k_ops values.now (p * (4 * fours)) weights.now j n (4 * fours)) }
+    requires weights { 4 * fours * n ≤ length weights.now }
+    requires capacity { count * n ≤ length rows.old }
+    ensures { (p j : ℕ) → p < count → j < n → slice_index_or rows.new (p * n + j) zero_k
+        ≡ weighted_sum k_ops values.now (p * (4 * fours)) weights.now j n (4 * fours) }
 {
-    let mut rows = vec![in alloc; Ext::zero(); count * n]?;
     for p in 0..count {
-        fill_row(values, p * (4 * fours), weights, n, fours, &mut rows, p * n);
+        fill_row(values, p * (4 * fours), weights, n, fours, rows, p * n);
     }
-    Ok(rows)
 }
 
-/// So many rows of as many values, with 1 where the numbers of row and place are equal, and 0 elsewhere.
-pub(crate) fn unit_rows(alloc: Global, size: usize) -> Result<Vec<Ext>, AllocError>
-    requires { size ≤ 64 }
-    ensures size { IfOk result (λ rows. vec_len rows ≡ size * size) }
-    ensures rows { IfOk result (λ rows. (p q : ℕ) → p < size → q < size
-        → slice_index_or rows.items (p * size + q) zero_k ≡ (if p == q then one_k else zero_k)) }
+/// Writes the line of a table of the base field, the first `known` coordinates at once. Its coefficients lie first in `rows`. The
+/// buffers are for as many rows as there are blocks, and for as many weights as a block has values. It takes no memory.
+pub(crate) fn fill_line(
+    values: &[Ext],
+    known: usize,
+    b: &[Ext],
+    c: &[Ext],
+    weights: &mut [Ext],
+    rows: &mut [Ext],
+)
+    requires most { length b.now ≤ 20 }
+    requires end { length c.now ≡ length b.now }
+    requires size { length values.now ≡ 2 ^ length b.now }
+    requires base { AreBase values.now }
+    requires some { 2 ≤ known }
+    requires few { known ≤ 6 }
+    requires known { known ≤ length b.now }
+    requires weights { 2 ^ known * (known + 1) ≤ length weights.old }
+    requires rows { 2 ^ (length b.now - known) * (known + 1) ≤ length rows.old }
+    ensures { take (length b.now + 1) rows.new ≡ coefficients k_ops (length b.now + 1)
+        (line_polynomial k_ops values.now b.now c.now) }
 {
-    let mut rows = vec![in alloc; Ext::zero(); size * size]?;
-    for p in 0..size {
-        rows[p * size + p] = Ext::one();
-    }
-    Ok(rows)
+    fill_weights(weights, known, b, c);
+    let size = 1usize << known;
+    fill_rows(
+        values,
+        weights,
+        known + 1,
+        size / 4,
+        values.len() / size,
+        rows,
+    );
+    fold_by_line(rows, known, b, c);
 }

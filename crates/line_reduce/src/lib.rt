@@ -14,6 +14,7 @@ mod blocks;
 mod line;
 mod point;
 mod rows;
+mod weights;
 
 pub use line::{claim_at, line_poly};
 pub use point::point_at;

@@ -1,14 +1,13 @@
 //! The polynomial of a line.
 
-ghost use Rattle.std.specs.Prelude.{◌≡◌, ◌≤◌, ◌<◌, ◌+◌, ◌-◌, ◌*◌, ◌^◌, List, length, vec_len, IfOk};
-ghost use Rattle.field_ext.specs.Field.{K, k_ops};
+ghost use Rattle.std.specs.Prelude.{◌≡◌, ◌≤◌, ◌+◌, ◌^◌, length, vec_len, IfOk};
+ghost use Rattle.field_ext.specs.Field.{k_ops};
 ghost use Rattle.field_ext.specs.Polynomial.{value_at, coefficients};
 ghost use Rattle.gkr_layers.specs.Sumcheck.{line_polynomial};
 ghost use Rattle.mle_table.specs.Shape.{AreBase};
-ghost use Rattle.line_reduce.specs.Rows.{HaveFolds};
 
-use crate::blocks::{block_rows, unit_rows};
-use crate::rows::fold_rows;
+use crate::blocks::fill_line;
+use crate::rows::fold_by_line;
 use field_ext::Ext;
 use mle_table::Table;
 use poly_roots::Poly;
@@ -32,7 +31,7 @@ pub fn line_poly(alloc: Global, table: &Table, b: &[Ext], c: &[Ext]) -> Result<P
         Ok(Poly::of_coeffs(by_blocks(alloc, values, known, b, c)?))
     } else {
         let rows = Vec::from_slice(alloc, values)?;
-        Ok(Poly::of_coeffs(by_rows(alloc, rows, b, c)?))
+        Ok(Poly::of_coeffs(by_rows(rows, b, c)))
     }
 }
 
@@ -44,15 +43,17 @@ pub fn claim_at(line: &Poly, t: Ext) -> Ext
 }
 
 /// A table as rows of one coefficient, folded by the line's polynomials one after another to one row.
-fn by_rows(alloc: Global, rows: Vec<Ext>, b: &[Ext], c: &[Ext]) -> Result<Vec<Ext>, AllocError>
+fn by_rows(rows: Vec<Ext>, b: &[Ext], c: &[Ext]) -> Vec<Ext>
     requires most { length b.now ≤ 20 }
     requires end { length c.now ≡ length b.now }
     requires size { length rows.items ≡ 2 ^ length b.now }
-    ensures { IfOk result (λ line. line.items ≡ coefficients k_ops (length b.now + 1)
-        (line_polynomial k_ops rows.items b.now c.now)) }
+    ensures { result.items ≡ coefficients k_ops (length b.now + 1)
+        (line_polynomial k_ops rows.items b.now c.now) }
 {
-    let line = folded_rows(alloc, rows, 0, b.len(), 1, b, c)?;
-    Ok(line)
+    let mut line = rows;
+    fold_by_line(&mut line, 0, b, c);
+    line.truncate(b.len() + 1);
+    line
 }
 
 /// The same for a table of the base field, whose first coordinates are bound in each block of values at once.
@@ -73,39 +74,10 @@ fn by_blocks(
     ensures { IfOk result (λ line. line.items ≡ coefficients k_ops (length b.now + 1)
         (line_polynomial k_ops values.now b.now c.now)) }
 {
-    let size = 1usize << known;
-    let units = unit_rows(alloc, size)?;
-    let weights = folded_rows(alloc, units, 0, known, size, b, c)?;
-    let count = values.len() / size;
-    let rows = block_rows(alloc, values, &weights, known + 1, size / 4, count)?;
-    let line = folded_rows(alloc, rows, known, b.len(), 1, b, c)?;
-    Ok(line)
-}
-
-/// Rows for the coordinates before `from`, folded by the line's polynomials from there to `to`, so that `left` rows are left.
-fn folded_rows(
-    alloc: Global,
-    mut rows: Vec<Ext>,
-    from: usize,
-    to: usize,
-    left: usize,
-    b: &[Ext],
-    c: &[Ext],
-) -> Result<Vec<Ext>, AllocError>
-    requires most { length b.now ≤ 20 }
-    requires end { length c.now ≡ length b.now }
-    requires from { from ≤ to }
-    requires to { to ≤ length b.now }
-    requires size { length rows.items ≡ left * 2 ^ (to - from) * (from + 1) }
-    ensures size { IfOk result (λ line. vec_len line ≡ left * (to + 1)) }
-    ensures folds { IfOk result (λ line. (t : List K) (e : K)
-        → HaveFolds k_ops from (left * 2 ^ (to - from)) rows.items t b.now c.now e
-        → HaveFolds k_ops to left line.items t b.now c.now e) }
-{
-    let mut count = rows.len() / (from + 1);
-    for j in from..to {
-        count /= 2;
-        rows = fold_rows(alloc, &rows, j + 1, count, b[j], c[j] - b[j])?;
-    }
+    let width = known + 1;
+    let mut weights = vec![in alloc; Ext::zero(); (1usize << known) * width]?;
+    let mut rows = vec![in alloc; Ext::zero(); (1usize << (b.len() - known)) * width]?;
+    fill_line(values, known, b, c, &mut weights, &mut rows);
+    rows.truncate(b.len() + 1);
     Ok(rows)
 }

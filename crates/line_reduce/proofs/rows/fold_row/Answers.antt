@@ -1,63 +1,60 @@
-use Rattle.std.proofs.Common.{◌≡◌, ◌≢◌, ℕ, suc, ◌+◌, ◌-◌, ◌<◌, length, get_or, set, arith, ◌∙◌, ap, sym, get_or-set_same, get_or-set_other}
-use Rattle.std.proofs.lemmas.List.{get_or_read, length-set}
+use Rattle.std.proofs.Common.{◌≡◌, ◌≢◌, ◌+◌, get_or, arith, ◌∙◌, ap, refl, sym, get_or-set_other}
+use Rattle.std.proofs.lemmas.List.{get_or_read}
 use Rattle.field_ext.specs.Field.{k_ops, zero_k, add_k, mul_k}
 use Rattle.field_ext.proofs.api.KLaws.{k_laws}
 use Rattle.line_reduce.specs.Rows.{row_value, between}
-use Rattle.line_reduce.proofs.Steps.{row_none, row_more}
+use Rattle.line_reduce.proofs.Steps.{carried, fold_none, fold_step, row_written}
 use Rattle.line_reduce.proofs.rows.fold_row.Goals as goal
 
-pub loop-done-init : goal.loop-done-init
-loop-done-init c =
-    let new = c.args.new.now in
-    let to = c.args.to in
-    let n = c.args.n in
-    let all : c.args.to + (c.args.n - 0) ≡ c.args.to + c.args.n = omega arith in
-    record {
-      row = λ e.
-          row_none k_ops k_laws (set new (to + n) c.zero.result) c.args.old.now (to + (n - 0)) (c.args.at + (n - 0)) (c.args.at + n + (n - 0)) (add_k c.args.start (mul_k e c.args.step)) e
-          (ap (λ (x : ℕ). get_or (set new (to + n) c.zero.result) x zero_k) all ∙ get_or-set_same new (to + n) c.zero.result zero_k c.requires.new ∙ c.zero.ensures);
-      before = λ x u. let ne : x ≢ to + n = omega arith in get_or-set_other new (to + n) x c.zero.result zero_k ne;
-    }
+pub loop-i-init : goal.loop-i-init
+loop-i-init c = record {
+  row = λ e. fold_none k_ops k_laws c.args.rows.now c.args.rows.now c.args.to c.args.at (c.args.at + c.args.n) c.args.start c.args.step c.zero-carry.result e c.zero-carry.ensures;
+  before = λ x u. refl;
+  unread = λ x u. refl;
+}
 
-pub loop-done-preserved : goal.loop-done-preserved
-loop-done-preserved c =
-    let new = c.loop-done.new in
-    let old = c.args.old.now in
+pub loop-i-preserved : goal.loop-i-preserved
+loop-i-preserved c =
+    let rows = c.loop-i.rows in
+    let old = c.args.rows.now in
     let to = c.args.to in
     let at = c.args.at in
     let n = c.args.n in
-    let done = c.loop-done.done in
-    let i : ℕ = c.args.n - 1 - c.loop-done.done in
-    let u = c.loop-done-test.true in
-    let left : c.args.n - (c.loop-done.done + 1) ≡ c.args.n - 1 - c.loop-done.done = omega arith in
-    let capacity : c.args.to + (c.args.n - 1 - c.loop-done.done) + 1 < length c.loop-done.new = omega (arith, length-set c.args.new.now (c.args.to + c.args.n) c.zero.result) in
-    let next_place : suc (c.args.n - 1 - c.loop-done.done) ≡ c.args.n - c.loop-done.done = omega arith in
-    let low : c.index-old-at.result ≡ get_or c.args.old.now (c.args.at + (c.args.n - 1 - c.loop-done.done)) zero_k = get_or_read old (at + i) c.index-old-at.result (omega arith) c.index-old-at.is zero_k in
-    let high : c.index-old-at-in-loop-done.result ≡ get_or c.args.old.now (c.args.at + c.args.n + (c.args.n - 1 - c.loop-done.done)) zero_k = get_or_read old (at + n + i) c.index-old-at-in-loop-done.result (omega arith) c.index-old-at-in-loop-done.is zero_k in
-    let next : c.index-new-to.result ≡ get_or c.loop-done.new (c.args.to + (c.args.n - 1 - c.loop-done.done) + 1) zero_k = get_or_read new (to + i + 1) c.index-new-to.result capacity c.index-new-to.is zero_k in
+    let i = c.loop-i.i in
+    let low : c.index-rows-at.result ≡ get_or c.args.rows.now (c.args.at + c.loop-i.i) zero_k =
+    get_or_read rows (at + i) c.index-rows-at.result (omega arith) c.index-rows-at.is zero_k ∙ c.loop-i.invariant.unread (at + i) (omega arith) in
+    let high : c.index-rows-at-in-loop-i.result ≡ get_or c.args.rows.now (c.args.at + c.args.n + c.loop-i.i) zero_k =
+    get_or_read rows (at + n + i) c.index-rows-at-in-loop-i.result (omega arith) c.index-rows-at-in-loop-i.is zero_k ∙ c.loop-i.invariant.unread (at + n + i) (omega arith) in
     record {
       row = λ e.
-          (λ k. row_value k_ops (set (set new (to + i + 1) c.add.result) (to + i) c.add-in-loop-done.result) (to + left k) (done + 1 + 1) e)
-          ∙ row_more k_ops k_laws new old to at (at + n) i (n - done) done c.args.start c.args.step c.index-old-at.result c.index-old-at-in-loop-done.result c.add.result c.add-in-loop-done.result c.sub-difference.result e
-          next_place capacity low high c.sub-difference.ensures
-          (c.add.ensures ∙ (λ k. add_k (next k) (c.mul.ensures k)))
-          (c.add-in-loop-done.ensures ∙ ap (add_k c.index-old-at.result) c.mul-in-loop-done.ensures)
-          (c.loop-done.invariant.row e)
-          ∙ (λ k. between k_ops (row_value k_ops old (at + sym left k) (done + 1) e) (row_value k_ops old (at + n + sym left k) (done + 1) e) (add_k c.args.start (mul_k e c.args.step)));
-      before = λ x v.
-          let one : x ≢ c.args.to + (c.args.n - 1 - c.loop-done.done) = omega arith in
-          let two : x ≢ c.args.to + (c.args.n - 1 - c.loop-done.done) + 1 = omega arith in
-          get_or-set_other (set new (to + i + 1) c.add.result) (to + i) x c.add-in-loop-done.result zero_k one
-          ∙ get_or-set_other new (to + i + 1) x c.add.result zero_k two ∙ c.loop-done.invariant.before x v;
+          fold_step k_ops k_laws rows old to at (at + n) i c.args.start c.args.step c.index-rows-at.result c.index-rows-at-in-loop-i.result c.sub-difference.result c.add-in-loop-i.result c.loop-i.carry c.mul-carry.result e
+          (omega arith) low high c.sub-difference.ensures
+          (c.add-in-loop-i.ensures ∙ ap (λ x. add_k x c.loop-i.carry) (c.add.ensures ∙ ap (add_k c.index-rows-at.result) c.mul.ensures))
+          c.mul-carry.ensures (c.loop-i.invariant.row e);
+      before = λ x u.
+          let ne : x ≢ c.args.to + c.loop-i.i = omega arith in
+          get_or-set_other rows (to + i) x c.add-in-loop-i.result zero_k ne ∙ c.loop-i.invariant.before x u;
+      unread = λ x u.
+          let ne : x ≢ c.args.to + c.loop-i.i = omega (arith, u) in
+          get_or-set_other rows (to + i) x c.add-in-loop-i.result zero_k ne ∙ c.loop-i.invariant.unread x (omega (arith, u));
     }
 
-pub returns-clause-row : goal.returns-clause-row
-returns-clause-row c e =
-    let all : c.loop-done.done ≡ c.args.n = omega arith in
-    let none : 0 ≡ c.args.n - c.loop-done.done = omega arith in
-    let to : c.args.to ≡ c.args.to + (c.args.n - c.loop-done.done) = omega arith in
-    let at : c.args.at + (c.args.n - c.loop-done.done) ≡ c.args.at = omega arith in
-    let at' : c.args.at + c.args.n + (c.args.n - c.loop-done.done) ≡ c.args.at + c.args.n = omega arith in
-    (λ k. row_value k_ops c.loop-done.new (to k) (sym all k + 1) e)
-    ∙ c.loop-done.invariant.row e
-    ∙ (λ k. between k_ops (row_value k_ops c.args.old.now (at k) (all k) e) (row_value k_ops c.args.old.now (at' k) (all k) e) (add_k c.args.start (mul_k e c.args.step)))
+pub returns : goal.returns
+returns c =
+    let rows = c.loop-i.rows in
+    let to = c.args.to in
+    let n = c.args.n in
+    let all : c.loop-i.i ≡ c.args.n = omega arith in
+    record {
+      row = λ e.
+          row_written k_ops k_laws rows to n c.loop-i.carry e (omega arith)
+          ∙ (λ k. carried k_ops rows to (sym all k) c.loop-i.carry e)
+          ∙ c.loop-i.invariant.row e
+          ∙ (λ k. between k_ops (row_value k_ops c.args.rows.now c.args.at (all k) e) (row_value k_ops c.args.rows.now (c.args.at + n) (all k) e) (add_k c.args.start (mul_k e c.args.step)));
+      before = λ x u.
+          let ne : x ≢ c.args.to + c.args.n = omega (arith, u) in
+          get_or-set_other rows (to + n) x c.loop-i.carry zero_k ne ∙ c.loop-i.invariant.before x u;
+      after = λ x u.
+          let ne : x ≢ c.args.to + c.args.n = omega (arith, u) in
+          get_or-set_other rows (to + n) x c.loop-i.carry zero_k ne ∙ c.loop-i.invariant.unread x (omega (arith, u));
+    }
