@@ -8,13 +8,17 @@
 //! let line = line_poly(alloc, &table, &b, &c)?;
 //! point_at(&b, &c, t, &mut point);     // where claim_at(&line, t) is claimed
 //! ```
+//!
+//! A [`LinePart`] works the values of a part of the table by itself, and [`line_of_parts`] puts the lines of all parts together.
 #![tactic(auto)]
 
 mod blocks;
 mod line;
+mod parts;
 mod point;
 mod rows;
 mod weights;
 
 pub use line::{claim_at, line_poly};
+pub use parts::{LinePart, PART_COEFFICIENTS, line_of_parts, part_count};
 pub use point::point_at;
