@@ -9,7 +9,7 @@ use Rattle.mle_table.proofs.api.SumLaws.{sum_below-same}
 use Rattle.round_tables.specs.LayerSum.{LayerSum, pieces_of, piece_poly, next_poly}
 use Rattle.round_tables.specs.PartTables.{PartTables, folded_part, part_sum}
 use Rattle.sumcheck_prove.specs.declared.jobs.Job.{Job}
-use Rattle.sumcheck_prove.specs.Jobs.{job_of, work_of}
+use Rattle.sumcheck_prove.specs.Jobs.{job_of, round_of}
 use Rattle.sumcheck_prove.proofs.Summing.{three_each, piece_value, whole_round}
 
 pub both_mapped : {A B C : Type 0} (g : B → C) (f : A → B) (xs : List A) → map g (map f xs) ≡ map (λ x. g (f x)) xs
@@ -21,18 +21,18 @@ all_same [] = refl
 all_same (x ∷ xs) = ap (λ l. x ∷ l) (all_same xs)
 
 module _ (r : K) (none : List K) (parts : List PartTables) (jobs : List Job) where
-  pub folded : jobs ≡ map (λ part. work_of (job_of true r none part)) parts → map (λ (job : Job). job.part) jobs ≡ map (folded_part r) parts
-  folded is = ap (map (λ (job : Job). job.part)) is ∙ both_mapped (λ (job : Job). job.part) (λ part. work_of (job_of true r none part)) parts
+  pub folded : jobs ≡ map (λ part. round_of (job_of true r none part)) parts → map (λ (job : Job). job.part) jobs ≡ map (folded_part r) parts
+  folded is = ap (map (λ (job : Job). job.part)) is ∙ both_mapped (λ (job : Job). job.part) (λ part. round_of (job_of true r none part)) parts
 
-  module _ (is : jobs ≡ map (λ part. work_of (job_of false r none part)) parts) where
+  module _ (is : jobs ≡ map (λ part. round_of (job_of false r none part)) parts) where
     pub kept : map (λ (job : Job). job.part) jobs ≡ parts
-    kept = ap (map (λ (job : Job). job.part)) is ∙ both_mapped (λ (job : Job). job.part) (λ part. work_of (job_of false r none part)) parts ∙ all_same parts
+    kept = ap (map (λ (job : Job). job.part)) is ∙ both_mapped (λ (job : Job). job.part) (λ part. round_of (job_of false r none part)) parts ∙ all_same parts
 
     sums : map (λ (job : Job). job.sum) jobs ≡ map part_sum parts
-    sums = ap (map (λ (job : Job). job.sum)) is ∙ both_mapped (λ (job : Job). job.sum) (λ part. work_of (job_of false r none part)) parts
+    sums = ap (map (λ (job : Job). job.sum)) is ∙ both_mapped (λ (job : Job). job.sum) (λ part. round_of (job_of false r none part)) parts
 
     as_many : length jobs ≡ length parts
-    as_many = ap length is ∙ length-map parts (λ part. work_of (job_of false r none part))
+    as_many = ap length is ∙ length-map parts (λ part. round_of (job_of false r none part))
 
     module _ (s : LayerSum) (all : length parts ≡ pieces_of s) (each : (i : ℕ) (part : PartTables) → i < pieces_of s → part_sum (get_or parts i part) ≡ coefficients k_ops 3 (piece_poly s i)) where
       -- each job has the message of its piece

@@ -4,3 +4,4 @@ mod Loading
 mod Handed
 mod Ahead
 mod FoldedParts
+mod LineParts

@@ -37,7 +37,7 @@ pub struct Summed {
 pub fn round_by<R: Wait>(
     rt: &R,
     tables: &mut GateTables<'_>,
-    crew: &mut Crew<'_, Jobs>,
+    crew: &mut Crew<'_, Jobs<'_>>,
     jobs: Vec<Job>,
 ) -> Summed
     requires here { tables.old.lent ≡ [] }
@@ -67,7 +67,7 @@ pub fn bind_by<R: Wait>(
     rt: &R,
     tables: &mut GateTables<'_>,
     r: Ext,
-    crew: &mut Crew<'_, Jobs>,
+    crew: &mut Crew<'_, Jobs<'_>>,
     jobs: Vec<Job>,
 ) -> Vec<Job>
     requires here { tables.old.lent ≡ [] }

@@ -1,43 +1,78 @@
-//! The parts of a layer's tables as what a crew works.
+//! What a crew works in a layer: parts of its tables, and parts of its line.
 
 ghost use Rattle.std.specs.Prelude.{◌≡◌, ℕ, ◌+◌, ◌<◌, ◌≤◌, [], IfOk, length, map, slice_index_or, vec_len};
 ghost use Rattle.field_ext.specs.Field.{K, k_ops};
 ghost use Rattle.field_ext.specs.Polynomial.{value_at};
 ghost use Rattle.field_ext.specs.Sums.{sum_below};
+ghost use Rattle.mle_table.specs.Shape.{AreBase};
 ghost use Rattle.round_tables.specs.PartTables.{PartTables};
-ghost use Rattle.sumcheck_prove.specs.Jobs.{job_of, work_of};
+ghost use Rattle.sumcheck_prove.specs.Jobs.{job_of, round_of};
 
 use crate::adding::{no_message, plus};
 use crew::Crew;
 use field_ext::Ext;
+use line_reduce::LinePart;
+use mle_table::Table;
 use phase_run::PartWork;
 use round_tables::Part;
 use std::alloc::{AllocError, Global};
+use std::marker::Model;
 use std::mem::swap;
 use std::sync::Wait;
 
-/// A part of a layer's tables, and what is asked of it: to be folded by a challenge, or to be summed.
+/// What a worker is to do: to work a part of the line, where there is one, or else to fold a part of the tables by a challenge or
+/// to sum it.
 #[derive(Drop)]
 pub struct Job {
     part: Part,
     folds: bool,
     r: Ext,
     sum: [Ext; 3],
+    pub(crate) line: Option<LinePart>,
 }
 
-/// The work of a crew on the parts of a layer's tables: each is folded or summed, as its job says.
+/// The work of a crew in a layer, over the values of the layer below: each job is done as it says.
 #[derive(Drop)]
-pub struct Jobs;
+pub struct Jobs<'a> {
+    values: &'a [Ext],
+}
 
-impl PartWork for Jobs {
+impl<'a> Model for Jobs<'a> {
+    ghost use Rattle.std.specs.Prelude.{List};
+    ghost use Rattle.field_ext.specs.Field.{K};
+    ghost use Rattle.mle_table.specs.Shape.{AreBase};
+
+    ghost Value = { List K };
+
+    ghost view = { λ w. w.values.now };
+
+    ghost invariant = { λ w. AreBase w.values.now };
+}
+
+impl<'a> Jobs<'a> {
+    /// The work of a layer over this table of the base field.
+    pub fn over(table: &'a Table) -> Jobs<'a>
+        requires { AreBase table.now.items }
+        ensures { result ≡ table.now.items }
+    {
+        Jobs {
+            values: table.values(),
+        }
+    }
+}
+
+impl<'a> PartWork for Jobs<'a> {
     ghost use Rattle.sumcheck_prove.specs.Jobs.{work_of};
 
     type Part = Job;
 
-    ghost part_of = { λ jobs k job. work_of job };
+    ghost part_of = { λ values k job. work_of values k job };
 
-    fn work(&self, _k: u32, job: &mut Job) {
-        if job.folds {
+    fn work(&self, k: u32, job: &mut Job) {
+        if let Some(mut line) = job.line.take() {
+            line.work(self.values, k);
+            job.line = Some(line);
+        } else if job.folds {
             job.part.fold(job.r);
         } else {
             job.sum = job.part.sum();
@@ -45,18 +80,26 @@ impl PartWork for Jobs {
     }
 }
 
-/// Jobs for so many parts, with none in them yet. Err only where no memory is found.
+/// A job with no part of the tables in it yet.
+pub(crate) fn job_with(alloc: Global, line: Option<LinePart>) -> Job
+    ensures { result.line ≡ line }
+{
+    Job {
+        part: Part::empty(alloc),
+        folds: false,
+        r: Ext::zero(),
+        sum: no_message(),
+        line,
+    }
+}
+
+/// Jobs for so many parts of the tables, with none in them yet. Err only where no memory is found.
 pub fn jobs_for(alloc: Global, parts: usize) -> Result<Vec<Job>, AllocError>
     ensures { IfOk result (λ jobs. vec_len jobs ≡ parts) }
 {
     let mut jobs = Vec::with_capacity(alloc, parts)?;
     for _ in 0..parts {
-        jobs.push(Job {
-            part: Part::empty(alloc),
-            folds: false,
-            r: Ext::zero(),
-            sum: no_message(),
-        })?;
+        jobs.push(job_with(alloc, None))?;
     }
     Ok(jobs)
 }
@@ -70,6 +113,7 @@ fn take_in(job: &mut Job, part: &mut Part, folds: bool, r: Ext, none: [Ext; 3])
     job.folds = folds;
     job.r = r;
     job.sum = none;
+    job.line = None;
 }
 
 /// Takes the part of a job out, in exchange for another.
@@ -104,7 +148,7 @@ pub(crate) fn unload(jobs: &mut [Job], parts: &mut [Part])
 /// Lets a crew work each part, by the job of its place. The parts are in the jobs then.
 pub(crate) fn worked<R: Wait>(
     rt: &R,
-    crew: &mut Crew<'_, Jobs>,
+    crew: &mut Crew<'_, Jobs<'_>>,
     parts: &mut Vec<Part>,
     mut jobs: Vec<Job>,
     folds: bool,
@@ -115,7 +159,7 @@ pub(crate) fn worked<R: Wait>(
     requires few { vec_len jobs ≤ crew.old.parts }
     ensures crew { crew.new ≡ crew.old }
     ensures parts { vec_len parts.new ≡ vec_len parts.old }
-    ensures jobs { result.items ≡ map (λ part. work_of (job_of folds r none part)) parts.old.items }
+    ensures jobs { result.items ≡ map (λ part. round_of (job_of folds r none part)) parts.old.items }
 {
     load(parts, &mut jobs, folds, r, none);
     crew.round(rt, jobs)

@@ -2,8 +2,8 @@
 //!
 //! The message is the true polynomial of the round, of degree at most 2, as its three coefficients: the sum of what the
 //! pieces of the round give, which workers claim and sum in any order; wide tables are folded by workers, too. [`round_by`] and
-//! [`bind_by`] do the same by a crew that is kept from round to round. Source: Thaler, "Proofs, Arguments, and Zero-Knowledge",
-//! 4.1 and 4.6.
+//! [`bind_by`] do the same by a crew that is kept from round to round, and [`line_by`] gives the line that ends the layer by the
+//! same crew. Source: Thaler, "Proofs, Arguments, and Zero-Knowledge", 4.1 and 4.6.
 //!
 //! A round, with the verifier of `sumcheck_verify`:
 //!
@@ -20,10 +20,12 @@ mod adding;
 mod binding;
 mod crewed;
 mod jobs;
+mod lines;
 mod message;
 mod pieces;
 
 pub use binding::bind_round;
 pub use crewed::{Summed, bind_by, round_by};
 pub use jobs::{Job, Jobs, jobs_for};
+pub use lines::{LineJobs, line_by};
 pub use message::round;

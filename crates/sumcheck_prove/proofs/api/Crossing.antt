@@ -11,6 +11,8 @@ use Rattle.std.specs.contracts.impls.GlobalAllocator.TheImpl as heap_impl
 use Rattle.std.specs.contracts.vec.Vec as vec
 use Rattle.std.specs.contracts.option.Option as option
 use Rattle.std.specs.contracts.snapshot.Snapshot as snapshot
+use Rattle.line_reduce.specs.contracts.parts.LinePart as line_part
+use Rattle.line_reduce.specs.contracts.parts.LinePart.TheInside as inside_line_part
 use Rattle.round_tables.specs.contracts.part.Part as part
 use Rattle.round_tables.specs.contracts.part.Part.TheInside as inside_part
 use Rattle.round_tables.specs.contracts.working.Working as working
@@ -18,6 +20,10 @@ use Rattle.round_tables.specs.contracts.gate_tables.GateTables as tables
 use Rattle.round_tables.specs.contracts.gate_tables.GateTables.TheInside as inside_tables
 use Rattle.round_tables.specs.contracts.layer_gates.LayerGates as layer
 use Rattle.sumcheck_prove.specs.contracts.jobs.Job as job
+use Rattle.sumcheck_prove.specs.contracts.jobs.Jobs as jobs
+use Rattle.sumcheck_prove.specs.contracts.jobs.Jobs.TheInside as inside_jobs
+use Rattle.sumcheck_prove.specs.contracts.lines.LineJobs as line_jobs
+use Rattle.sumcheck_prove.specs.contracts.lines.LineJobs.TheInside as inside_line_jobs
 use Rattle.sumcheck_prove.specs.contracts.pieces.PieceSums as sums
 use Rattle.circuit_core.specs.contracts.gate.CircuitGate as gate
 use Rattle.mle_table.specs.contracts.table.Table as table
@@ -138,7 +144,7 @@ working_send = declared_send working.the_type (heap_send, (values_send, (size_se
 gates_send : (κ : NamedLft) → IsSend (as_row (shr_slice_field κ gate.the_row tt))
 gates_send κ = as_row_send (shr_slice_field κ gate.the_row tt) (search (sendable, gate_sync) depth 6)
 
-lent_table_send : (κ : NamedLft) → IsSend (as_row (shr_ref_field κ table.the_row tt))
+pub lent_table_send : (κ : NamedLft) → IsSend (as_row (shr_ref_field κ table.the_row tt))
 lent_table_send κ = as_row_send (shr_ref_field κ table.the_row tt) (search (sendable, table_sync) depth 6)
 
 layer_send : (κ : NamedLft) → IsSend (layer.the_row κ)
@@ -153,8 +159,32 @@ tables_inside_send κ = declared_send (inside_tables.the_type κ) (layer_send κ
 pub tables_send : (κ : NamedLft) → IsSend (tables.the_row κ)
 tables_send κ = search (view_send, tables_inside_send)
 
+line_part_inside_send : IsSend inside_line_part.the_row
+line_part_inside_send = declared_send inside_line_part.the_type (values_send, (values_send, (values_send, (values_send, tt))))
+
+line_part_send : IsSend line_part.the_row
+line_part_send = search (view_send, line_part_inside_send)
+
+line_send : IsSend (as_row (option.the_field line_part.the_row))
+line_send = as_row_send (option.the_field line_part.the_row) (search (crosses, sendable, line_part_send) depth 8)
+
 job_send : IsSend job.the_row
-job_send = declared_send job.the_type (as_row_send part.the_field part_send, (flag_send, (as_row_send ext.the_field ext_send, (as_row_send (row_field (Array ext.the_row tt 3)) (search (sendable, ext_send) depth 6), tt))))
+job_send =
+    declared_send job.the_type
+    (as_row_send part.the_field part_send, (flag_send, (as_row_send ext.the_field ext_send, (as_row_send (row_field (Array ext.the_row tt 3)) (search (sendable, ext_send) depth 6), (line_send, tt)))))
 
 pub jobs_send : IsSend (as_row (vec.the_field job.the_row heap.the_row heap_impl.ghosts))
 jobs_send = as_row_send (vec.the_field job.the_row heap.the_row heap_impl.ghosts) (Vec-send job.the_row job_send)
+
+line_jobs_inside_send : IsSend inside_line_jobs.the_row
+line_jobs_inside_send = declared_send inside_line_jobs.the_type (jobs_send, (values_send, tt))
+
+pub line_jobs_send : IsSend line_jobs.the_row
+line_jobs_send = search (view_send, line_jobs_inside_send)
+
+-- what a crew works may be shared
+work_inside_sync : (κ : NamedLft) → IsSync (inside_jobs.the_row κ)
+work_inside_sync κ = declared_sync (inside_jobs.the_type κ) (as_row_sync (shr_slice_field κ ext.the_row tt) (search (sendable, ext_sync) depth 6), tt)
+
+pub work_sync : (κ : NamedLft) → IsSync (jobs.the_row κ)
+work_sync κ = search (view_sync, work_inside_sync)

@@ -12,5 +12,5 @@ parts_in-requires-clause-folded g c =
     let back = c.in-Ok.parts in
     let done = c.in-Ok.ensures in
     let same : length c.in-Ok.parts.items ≡ length c.parts_out-parts.result.items = sym back.ok.0 ∙ done.len ∙ out.ok.0 in
-    all-worked (folded_part r) (λ k. folded_part r) out.items back.items (λ k x. refl) same done.each
+    all-worked (folded_part r) (λ k. folded_part r) out.items back.items (λ k x _. refl) same done.each
     ∙ ap (λ (s : LayerSum). map (folded_part r) s.lent) (sym c.parts_out-parts.ensures.lent)

@@ -1,0 +1,140 @@
+//! The line of a layer by a crew.
+
+ghost use Rattle.std.specs.Prelude.{◌≡◌, ℕ, ◌+◌, ◌-◌, ◌*◌, ◌^◌, ◌<◌, ◌≤◌, ◌++◌, [], All, IfOk, length, map, slice_index_or, vec_len, vec_capacity};
+ghost use Rattle.field_ext.specs.Field.{k_ops};
+ghost use Rattle.field_ext.specs.Polynomial.{coefficients};
+ghost use Rattle.gkr_layers.specs.Sumcheck.{line_polynomial};
+ghost use Rattle.line_reduce.specs.Parts.{joined};
+ghost use Rattle.sumcheck_prove.specs.Jobs.{HasLine, aimed, line_of};
+
+use crate::jobs::{Job, Jobs, job_with};
+use crew::Crew;
+use field_ext::Ext;
+use line_reduce::{LinePart, PART_COEFFICIENTS, line_of_parts};
+use mle_table::Table;
+use std::alloc::{AllocError, Global};
+use std::marker::Model;
+use std::sync::Wait;
+
+/// What a crew's line takes: a job for each part of the table, and a buffer for the lines of all. Seen as the number of parts.
+#[derive(Drop)]
+pub struct LineJobs {
+    jobs: Vec<Job>,
+    lines: Vec<Ext>,
+}
+
+impl Model for LineJobs {
+    ghost use Rattle.std.specs.Prelude.{◌≡◌, ℕ, ◌*◌, ◌≤◌, All, vec_len, vec_capacity};
+    ghost use Rattle.sumcheck_prove.specs.Jobs.{HasLine};
+
+    ghost Value = { ℕ };
+
+    ghost view = { λ l. vec_len l.jobs };
+
+    ghost invariant = { λ l. All HasLine l.jobs.items × (vec_len l.lines ≡ 0)
+        × (12 * vec_len l.jobs ≤ vec_capacity l.lines) };
+}
+
+impl LineJobs {
+    /// For a line of so many parts. Err only where no memory is found; no later call takes any.
+    pub fn new(alloc: Global, parts: usize) -> Result<LineJobs, AllocError>
+        requires { parts ≤ 512 }
+        ensures { IfOk result (λ jobs. jobs ≡ parts) }
+    {
+        let lines = Vec::with_capacity(alloc, PART_COEFFICIENTS * parts)?;
+        let jobs = line_jobs(alloc, parts)?;
+        Ok(LineJobs { jobs, lines })
+    }
+}
+
+/// Jobs for so many parts of a line.
+fn line_jobs(alloc: Global, parts: usize) -> Result<Vec<Job>, AllocError>
+    ensures count { IfOk result (λ jobs. vec_len jobs ≡ parts) }
+    ensures lines { IfOk result (λ jobs. All HasLine jobs.items) }
+{
+    let mut jobs = Vec::with_capacity(alloc, parts)?;
+    for _ in 0..parts {
+        let line = LinePart::new(alloc)?;
+        jobs.push(job_with(alloc, Some(line)))?;
+    }
+    Ok(jobs)
+}
+
+/// Gives a job the points of the line.
+fn aim(job: &mut Job, b: &[Ext], c: &[Ext])
+    requires start { 11 ≤ length b.now }
+    requires end { 11 ≤ length c.now }
+    ensures { job.new ≡ aimed b.now c.now job.old }
+{
+    if let Some(mut line) = job.line.take() {
+        line.aim(b, c);
+        job.line = Some(line);
+    }
+}
+
+/// Gives each job the points of the line.
+fn aim_all(jobs: &mut [Job], b: &[Ext], c: &[Ext])
+    requires start { 11 ≤ length b.now }
+    requires end { 11 ≤ length c.now }
+    ensures { jobs.new ≡ map (aimed b.now c.now) jobs.old }
+{
+    for k in 0..jobs.len() {
+        aim(&mut jobs[k], b, c);
+    }
+}
+
+/// Puts the line of a job after others.
+fn add_line(job: &Job, lines: &mut Vec<Ext>)
+    requires { vec_len lines.old + length (line_of job.now) ≤ vec_capacity lines.old }
+    ensures items { lines.new.items ≡ lines.old.items ++ line_of job.now }
+    ensures capacity { vec_capacity lines.old ≤ vec_capacity lines.new }
+{
+    if let Some(line) = &job.line {
+        let Ok(()) = lines.extend_from_slice(line.line()) else {
+            unreachable!()
+        };
+    }
+}
+
+/// The lines of all jobs, one after another.
+fn collected(jobs: &[Job], mut lines: Vec<Ext>) -> Vec<Ext>
+    requires none { vec_len lines ≡ 0 }
+    requires sizes { (k : ℕ) → k < length jobs.now
+        → length (slice_index_or (map line_of jobs.now) k []) ≡ 12 }
+    requires capacity { 12 * length jobs.now ≤ vec_capacity lines }
+    ensures { result.items
+        ≡ joined (λ k. slice_index_or (map line_of jobs.now) k []) (length jobs.now) }
+{
+    for k in 0..jobs.len() {
+        add_line(&jobs[k], &mut lines);
+    }
+    lines
+}
+
+/// The coefficients of the line from `b`, at 0, to `c`, at 1, over the table that the crew's work is over, as `line_poly` gives
+/// them: a crew works the parts of the table, in any order. It takes no memory.
+pub fn line_by<R: Wait>(
+    rt: &R,
+    table: &Table,
+    b: &[Ext],
+    c: &[Ext],
+    crew: &mut Crew<'_, Jobs<'_>>,
+    jobs: LineJobs,
+) -> Vec<Ext>
+    requires least { 11 ≤ table.now.k }
+    requires most { table.now.k ≤ 20 }
+    requires start { length b.now ≡ table.now.k }
+    requires end { length c.now ≡ table.now.k }
+    requires values { crew.old.work ≡ table.now.items }
+    requires parts { jobs ≡ 2 ^ (table.now.k - 11) }
+    requires few { jobs ≤ crew.old.parts }
+    ensures line { result.items ≡ coefficients k_ops (table.now.k + 1)
+        (line_polynomial k_ops table.now.items b.now c.now) }
+    ensures crew { crew.new ≡ crew.old }
+{
+    let LineJobs { mut jobs, lines } = jobs;
+    aim_all(&mut jobs, b, c);
+    let jobs = crew.round(rt, jobs);
+    let lines = collected(&jobs, lines);
+    line_of_parts(table, lines, b, c)
+}
