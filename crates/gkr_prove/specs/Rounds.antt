@@ -1,11 +1,14 @@
 -- The rounds of a layer, proved one after another
-use Rattle.std.specs.Prelude.{◌≡◌, ℕ, List, [], ◌∷◌, ◌++◌, length}
-use Rattle.field_ext.specs.Field.{K}
+use Rattle.std.specs.Prelude.{◌≡◌, ℕ, ◌+◌, ◌-◌, ◌^◌, ◌≤◌, List, [], ◌∷◌, ◌++◌, length, take, drop, Option, IfSome}
+use Rattle.std.specs.Global.{Vec}
+use Rattle.field_ext.specs.Field.{K, k_ops}
+use Rattle.field_ext.specs.Polynomial.{coefficients}
 use Rattle.round_tables.specs.LayerSum.{LayerSum}
 use Rattle.transcript_fs.specs.Source.{Source, draws, state_after}
 use Rattle.proof_wire.specs.declared.messages.Round.{Round}
 use Rattle.proof_wire.specs.Lists.{round_messages}
 use Rattle.gkr_layers.specs.Honest.{AreHonestRounds}
+use Rattle.gkr_layers.specs.Sumcheck.{line_polynomial}
 
 -- a message q was taken in, and is noted with the challenge r that it led to
 pub record IsNoted (source : Source) (q : List K) (r : K) (before after : List ℕ)
@@ -23,3 +26,12 @@ pub record AreBegun (source : Source) (sum : LayerSum) (before : List ℕ) (n : 
   pub challenges : length rs ≡ n
   pub drawn : rs ≡ draws source before (round_messages qs)
   pub state : after ≡ state_after source before (round_messages qs)
+
+-- the line over 2 ^ k values has n parts, which are not too many for a crew
+abbrev pub IsLineFor : ℕ → ℕ → ℕ → Type 0
+IsLineFor n k parts = (11 ≤ k) × (n ≡ 2 ^ (k - 11)) × (n ≤ parts)
+
+-- what is known of the line of a layer over these values, after these challenges of its rounds, are its coefficients
+abbrev pub IsLineAhead : ℕ → List K → List K → Option (Vec K) → Type 0
+IsLineAhead k values drawn line = IfSome line (λ last. last.items ≡ coefficients k_ops (k + 1)
+    (line_polynomial k_ops values (take k drawn) (drop k drawn)))

@@ -2,6 +2,7 @@
 
 ghost use Rattle.std.specs.Prelude.{◌≡◌, ◌≤◌, ◌+◌, IfOk, IsTrue, length};
 ghost use Rattle.field_ext.specs.Field.{K, k_ops};
+ghost use Rattle.mle_table.specs.Shape.{AreBase};
 ghost use Rattle.round_tables.specs.Phase.{IsLayer};
 ghost use Rattle.transcript_fs.specs.Source.{draws, state_after};
 ghost use Rattle.proof_wire.specs.Lists.{messages_of, HasShape};
@@ -12,7 +13,7 @@ ghost use Rattle.gkr_prove.specs.Kept.{kept_place};
 ghost use Rattle.phase_run.specs.Work.{IsWorkerCount};
 
 use crate::kept::KeptPlace;
-use crate::last::last_message;
+use crate::last::last_with;
 use crate::rounds::{ProvedRounds, prove_rounds};
 use circuit_core::CircuitGate;
 use gkr_layers::ClaimPlace;
@@ -34,7 +35,8 @@ pub(crate) struct ProvedLayer {
     pub(crate) buffers: Buffers,
 }
 
-/// Proves a layer of at most 1,048,576 gates over the values of the layer below, at the place of the claim on it.
+/// Proves a layer of at most 1,048,576 gates over the values of the layer below, which are of the base field, at the place of the
+/// claim on it.
 pub(crate) fn prove_layer<R: Threads + Wait + Sync, C: Challenges + Send, G: Gate>(
     rt: &R,
     alloc: Global,
@@ -49,6 +51,7 @@ pub(crate) fn prove_layer<R: Threads + Wait + Sync, C: Challenges + Send, G: Gat
 ) -> Result<ProvedLayer, AllocError>
     requires workers { IsWorkerCount workers }
     requires layer { IsLayer K values.now.k gates.now values.now.items (place_of place.now) }
+    requires base { AreBase values.now.items }
     requires few { length gates.now ≤ 1048576 }
     requires has { IsTrue
         (C.source.has (C.state challenges.old) (values.now.k + values.now.k + 1)) }
@@ -69,9 +72,10 @@ pub(crate) fn prove_layer<R: Threads + Wait + Sync, C: Challenges + Send, G: Gat
         messages,
         drawn,
         buffers,
-    } = prove_rounds(rt, alloc, tables, challenges, workers, gate)?;
+        line,
+    } = prove_rounds(rt, alloc, form, tables, values, challenges, workers, gate)?;
     let (left, right) = drawn.as_slice().split_at(k);
-    let last = last_message(alloc, form, values, left, right)?;
+    let last = last_with(alloc, form, values, left, right, line)?;
     challenges.absorb(&last);
     let challenge = challenges.challenge();
     let next = KeptPlace::between(alloc, form, left, right, challenge)?;

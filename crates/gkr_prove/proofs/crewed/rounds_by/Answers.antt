@@ -23,7 +23,7 @@ loop-number-preserved g c =
       crew = c.bind_by-jobs.ensures.crew ∙ c.round_by-message.ensures.crew ∙ before.crew;
     }
 
-pub returns : goal.returns
-returns g c =
+pub returns-clause-rounds : goal.returns-clause-rounds
+returns-clause-rounds g c =
     let all : c.loop-number._number ≡ c.args.tables.k + c.args.tables.k = omega (arith, c.loop-number.invariant.all) in
     subst (λ (n : ℕ). AreBegun g.C.Challenges.source c.args.tables (g.C.Challenges.state c.args.challenges.now) n c.loop-number.messages.items c.loop-number.drawn.items (g.C.Challenges.state c.loop-number.challenges)) all c.loop-number.invariant.begun

@@ -1,10 +1,11 @@
 -- The rounds and the line make a layer's messages
-use Rattle.std.proofs.Common.{◌≡◌, ℕ, ◌+◌, ◌++◌, List, [], ◌∷◌, IsTrue, length, take, drop, arith, ◌∙◌, ap, sym, subst}
+use Rattle.std.proofs.Common.{◌≡◌, ℕ, ◌+◌, ◌++◌, List, [], ◌∷◌, IsTrue, IfSome, length, take, drop, arith, ◌∙◌, ap, sym, subst}
 use Rattle.std.proofs.lemmas.List.{length-map}
 use Rattle.field_ext.specs.Field.{K, k_ops}
 use Rattle.field_ext.specs.Polynomial.{coefficients}
 use Rattle.gkr_layers.proofs.api.Coefficients.{length-coefficients}
 use Rattle.gkr_layers.specs.Forms.{last_polynomial, place_between}
+use Rattle.gkr_layers.specs.Sumcheck.{line_polynomial}
 use Rattle.gkr_layers.specs.ClaimPlace.{place_of}
 use Rattle.proof_wire.specs.Forms.{last_degree}
 use Rattle.round_tables.specs.LayerSum.{LayerSum}
@@ -29,7 +30,7 @@ challenge-challenge-requires g c =
     let source : Source = g.C.Challenges.source in
     let s = g.C.Challenges.state c.args.challenges.now in
     let k = c.args.values.now.k in
-    let rounds = c.in_ok-messages.ensures in
+    let rounds = c.in_ok-messages.ensures.rounds in
     let messages = c.in_ok-messages.field-0.messages in
     let qs : List (List K) = round_messages c.in_ok-messages.field-0.messages.items in
     let size : length (round_messages c.in_ok-messages.field-0.messages.items) ≡ k + k =
@@ -38,13 +39,21 @@ challenge-challenge-requires g c =
     rw (c.absorb.ensures, rounds.state) (source.has_absorbed (state_after source s qs) _ 1 before)
 
 pub split_at-requires : goal.split_at-requires
-split_at-requires g c = omega (arith, c.in_ok-tables.ensures.k, c.in_ok-messages.field-0.drawn.ok.0, c.in_ok-messages.ensures.challenges)
+split_at-requires g c = omega (arith, c.in_ok-tables.ensures.k, c.in_ok-messages.field-0.drawn.ok.0, c.in_ok-messages.ensures.rounds.challenges)
+
+pub last_with-requires-clause-line : goal.last_with-requires-clause-line
+last_with-requires-clause-line g c =
+    let k = c.args.values.now.k in
+    let values = c.args.values.now.items in
+    let left : take c.args.values.now.k c.in_ok-messages.field-0.drawn.items ≡ c.split_at.result.0.now = sym (c.split_at.ensures.front ∙ (λ i. take (c.k-k.ensures i) (c.as_slice.ensures.value i))) in
+    let right : drop c.args.values.now.k c.in_ok-messages.field-0.drawn.items ≡ c.split_at.result.1.now = sym (c.split_at.ensures.back ∙ (λ i. drop (c.k-k.ensures i) (c.as_slice.ensures.value i))) in
+    coe 0 1 (j. IfSome c.in_ok-messages.field-0.line (λ last. last.items ≡ coefficients k_ops (k + 1) (line_polynomial k_ops values (left j) (right j)))) c.in_ok-messages.ensures.line
 
 pub returns-clause-honest : goal.returns-clause-honest
 returns-clause-honest g c =
     let k = c.args.values.now.k in
     let started = c.in_ok-tables.ensures in
-    let rounds = c.in_ok-messages.ensures in
+    let rounds = c.in_ok-messages.ensures.rounds in
     let source : Source = g.C.Challenges.source in
     let s = g.C.Challenges.state c.args.challenges.now in
     let messages = c.in_ok-messages.field-0.messages in
@@ -68,7 +77,7 @@ pub returns-clause-shape : goal.returns-clause-shape
 returns-clause-shape g c =
     let k = c.args.values.now.k in
     record {
-      rounds = ap length c.of.ensures ∙ c.in_ok-messages.ensures.count ∙ (λ i. c.in_ok-tables.ensures.k i + c.in_ok-tables.ensures.k i);
+      rounds = ap length c.of.ensures ∙ c.in_ok-messages.ensures.rounds.count ∙ (λ i. c.in_ok-tables.ensures.k i + c.in_ok-tables.ensures.k i);
       last = ap length (c.of-2.ensures ∙ c.in_ok-last.ensures) ∙ length-coefficients k_ops (last_degree c.args.form k + 1) _;
     }
 
@@ -81,7 +90,7 @@ returns-clause-place g c =
     let qs : List (List K) = round_messages c.in_ok-messages.field-0.messages.items in
     let rs : List K = c.in_ok-messages.field-0.drawn.items in
     let end : List K = c.in_ok-last.last.items in
-    let rounds = c.in_ok-messages.ensures in
+    let rounds = c.in_ok-messages.ensures.rounds in
     let started = c.in_ok-tables.ensures in
     let challenge : c.challenge-challenge.result ≡ source.draw (source.absorb (state_after source s qs) end) =
     c.challenge-challenge.ensures.value ∙ ap source.draw (c.absorb.ensures ∙ (λ i. source.absorb (rounds.state i) (c.deref.ensures.value i))) in
@@ -97,6 +106,6 @@ returns-clause-state g c =
     let s = g.C.Challenges.state c.args.challenges.now in
     let qs : List (List K) = round_messages c.in_ok-messages.field-0.messages.items in
     let end : List K = c.in_ok-last.last.items in
-    c.challenge-challenge.ensures.state ∙ ap source.after (c.absorb.ensures ∙ (λ i. source.absorb (c.in_ok-messages.ensures.state i) (c.deref.ensures.value i)))
+    c.challenge-challenge.ensures.state ∙ ap source.after (c.absorb.ensures ∙ (λ i. source.absorb (c.in_ok-messages.ensures.rounds.state i) (c.deref.ensures.value i)))
     ∙ sym (state-more source s qs end)
     ∙ (λ j. state_after source s (round_messages (sym c.of.ensures j) ++ sym c.of-2.ensures j ∷ []))

@@ -1,9 +1,10 @@
 -- One layer more
 use Rattle.std.proofs.Common.{◌≡◌, ℕ, ◌+◌, ◌<◌, ◌≤◌, ◌++◌, List, [], ◌∷◌, IsTrue, length, get_or, arith, ◌∙◌, ap, sym, subst, append-nil, append_assoc}
-use Rattle.field_ext.specs.Field.{K, k_ops}
-use Rattle.circuit_core.specs.Parts.{Parts, height, input_table}
+use Rattle.field_ext.specs.Field.{F, K, k_ops}
+use Rattle.circuit_core.specs.Parts.{Parts, height, input_table, layer_values}
 use Rattle.circuit_core.specs.Sound.{exponent_at}
-use Rattle.mle_table.specs.Shape.{TableValues}
+use Rattle.mle_table.specs.Shape.{TableValues, AreBase}
+use Rattle.mle_table.proofs.api.Written.{embedded_base}
 use Rattle.gkr_layers.specs.Layers.{GateLayer, layers_of, lower_exponents, message_count, layers_below, layer_at, next_place}
 use Rattle.transcript_fs.specs.Source.{Source, draws, state_after}
 use Rattle.proof_wire.specs.declared.messages.LayerMessages.{LayerMessages}
@@ -30,6 +31,14 @@ prove_layer-requires-clause-layer g c κs within =
     let u : c.loop-layer.layer < height c.args.circuit.now.parts = omega (arith, c.loop-layer-test.true, c.height-layer-end.ensures) in
     let e = table_exponent circuit c.requires.values.0 c.args.values.now (i + 1) c.table.result.now c.requires.values.1 (omega arith) c.table.ensures in
     is_layer circuit i c.table.result.now c.gates.result.now (place_of c.claim_place.result) u e c.gates.ensures.value (subst (IsOver (exponent_at c.args.circuit.now.parts c.loop-layer.layer)) (sym c.claim_place.ensures) c.loop-layer.invariant.position)
+
+pub prove_layer-requires-clause-base : goal.prove_layer-requires-clause-base
+prove_layer-requires-clause-base g c κs within =
+    let p : Parts = c.args.circuit.now.parts in
+    let inputs : List F = c.requires.values.0 in
+    let i = c.loop-layer.layer in
+    let v : c.loop-layer.layer + 1 ≤ height c.args.circuit.now.parts = omega (arith, c.loop-layer-test.true, c.height-layer-end.ensures) in
+    subst AreBase (sym (c.table.ensures ∙ c.requires.values.1.each (i + 1) v)) (embedded_base (layer_values p inputs (i + 1)))
 
 pub prove_layer-requires-clause-few : goal.prove_layer-requires-clause-few
 prove_layer-requires-clause-few g c κs within =

@@ -21,7 +21,7 @@ loop-number-preserved g c =
       has = has_more g.C.Challenges.source c.args.tables (g.C.Challenges.state c.args.challenges.now) c.loop-number._number _ _ _ _ _ _ _ _ c.loop-number.tables before.tables noted c.rounds_left-count.result c.loop-number-test.true before.has;
     }
 
-pub returns : goal.returns
-returns g c =
+pub returns-clause-rounds : goal.returns-clause-rounds
+returns-clause-rounds g c =
     let all : c.loop-number._number ≡ c.args.tables.k + c.args.tables.k = omega (arith, c.loop-number.invariant.all) in
     subst (λ (n : ℕ). AreBegun g.C.Challenges.source c.args.tables (g.C.Challenges.state c.args.challenges.now) n c.loop-number.messages.items c.loop-number.drawn.items (g.C.Challenges.state c.loop-number.challenges)) all c.loop-number.invariant.begun
