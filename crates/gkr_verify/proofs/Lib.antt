@@ -7,3 +7,4 @@ mod TableSteps
 mod BothSteps
 mod FillSteps
 mod SumSteps
+mod DownSteps

@@ -2,3 +2,4 @@ pub mod Rounds
 pub mod Blocks
 pub mod ShortProof
 pub mod Buffers
+pub mod Kept

@@ -1,22 +1,21 @@
 //! What a check takes before it draws a challenge.
 
-ghost use Rattle.std.specs.Prelude.{◌≡◌, ◌+◌, ◌*◌, length, drop, IsTrue, IfOk};
-ghost use Rattle.circuit_core.specs.Sound.{exponent_at, exponents};
-ghost use Rattle.gkr_layers.specs.Layers.{layers_of, total_exponent};
+ghost use Rattle.std.specs.Prelude.{◌≡◌, length, drop, IsTrue, IfOk};
+ghost use Rattle.circuit_core.specs.Sound.{exponents};
 ghost use Rattle.gkr_layers.specs.Acceptance.{claim_in, answer_from, challenge_count};
 ghost use Rattle.gkr_verify.specs.Buffers.{AreBuffersFor};
 ghost use Rattle.proof_wire.specs.Lists.{all_messages, HaveShape};
 ghost use Rattle.run_wiring.specs.CircuitRuns.{AreWiringsOf};
 
-use crate::extension::values_extension;
+use crate::filling::claim_there;
 use crate::layers::check_layers;
 use circuit_core::Circuit;
 use field_ext::{Ext, Fp};
-use gkr_layers::{ClaimPlace, Verdict, width_below};
+use gkr_layers::Verdict;
 use proof_wire::{LayerMessages, ProofForm};
 use run_wiring::{LayerWiring, wirings};
 use std::alloc::{AllocError, Global};
-use transcript_fs::{Challenges, draw_point};
+use transcript_fs::Challenges;
 
 /// The runs of a circuit's layers, where they are few, and buffers for the challenges and points of a check.
 #[derive(Drop)]
@@ -31,8 +30,7 @@ impl CheckBuffers {
         ensures { IfOk result (λ buffers. AreBuffersFor circuit.now.parts buffers) }
     {
         let wirings = wirings(alloc, circuit)?;
-        let width = circuit.coordinates(0) + 3 * width_below(circuit);
-        let points = vec![in alloc; Ext::zero(); width]?;
+        let points = vec![in alloc; Ext::zero(); 80]?;
         Ok(CheckBuffers { wirings, points })
     }
 
@@ -87,17 +85,15 @@ fn check_in<C: Challenges>(
     requires shape { HaveShape form (drop 1 (exponents circuit.now.parts)) messages.now }
     requires has { IsTrue (C.source.has (C.state challenges.old)
         (challenge_count (claim_in form circuit.now.parts inputs.now outputs.now))) }
-    requires buffers { length buffers.old ≡ exponent_at circuit.now.parts 0 + 3 * total_exponent
-        (layers_of circuit.now.parts) }
+    requires buffers { length buffers.old ≡ 80 }
     ensures { record { verdict = result; state = C.state challenges.new }
         ≡ answer_from (claim_in form circuit.now.parts inputs.now outputs.now) C.source
         (C.state challenges.old) (all_messages messages.now) }
 {
-    let (point, buffers) = buffers.split_at_mut(circuit.coordinates(0));
-    draw_point(point, challenges);
-    let claim = values_extension(outputs, point);
-    let place = ClaimPlace::One(point);
+    let (kept, drawn) = buffers.split_at_mut(40);
+    let (point, _) = kept.split_at_mut(circuit.coordinates(0));
+    let claim = claim_there(outputs, point, challenges);
     check_layers(
-        form, messages, circuit, wirings, inputs, 0, claim, &place, buffers, challenges,
+        form, messages, circuit, wirings, inputs, claim, kept, drawn, challenges,
     )
 }

@@ -8,8 +8,6 @@ ghost use Rattle.circuit_core.specs.Sound.{exponent_at};
 ghost use Rattle.wiring_poly.specs.Wiring.{wiring_add, wiring_mul};
 ghost use Rattle.gkr_layers.specs.Places.{IsOver, weighted, value_over};
 ghost use Rattle.gkr_layers.specs.Places.Place.{AtBoth};
-ghost use Rattle.gkr_layers.specs.Forms.{place_between};
-ghost use Rattle.gkr_layers.specs.Sumcheck.{point_between};
 ghost use Rattle.gkr_layers.specs.ClaimPlace.{place_of};
 ghost use Rattle.run_wiring.specs.CircuitRuns.{IsWiringOf};
 
@@ -18,8 +16,6 @@ use crate::extension::leaves_extension;
 use circuit_core::{Circuit, Leaf};
 use field_ext::{Ext, Fp};
 use gkr_layers::ClaimPlace;
-use line_reduce::point_at;
-use proof_wire::ProofForm;
 use run_wiring::LayerWiring;
 use wiring_poly::WiringSums;
 
@@ -110,42 +106,5 @@ pub(crate) fn leaves_there(leaves: &[Leaf], inputs: &[Fp], k: usize, place: &Cla
         ClaimPlace::Both(first, second, weight) => {
             leaves_at_both(leaves, inputs, first, second, *weight)
         }
-    }
-}
-
-/// Where the claim on the layer below is, for the points of its operands and the challenge after the last message;
-/// `point` is the point of the line there.
-pub(crate) fn place_below<'a>(
-    form: ProofForm,
-    left: &'a [Ext],
-    right: &'a [Ext],
-    challenge: Ext,
-    point: &'a [Ext],
-) -> ClaimPlace<'a>
-    requires { form ≡ ProofForm.Line → point.now ≡ point_between k_ops left.now right.now
-        challenge }
-    ensures { place_of result ≡ place_between k_ops form left.now right.now challenge }
-{
-    match form {
-        ProofForm::Line => ClaimPlace::One(point),
-        ProofForm::Pair => ClaimPlace::Both(left, right, challenge),
-    }
-}
-
-/// Writes the point of the line there, which a pair has no need of.
-pub(crate) fn write_point(
-    form: ProofForm,
-    left: &[Ext],
-    right: &[Ext],
-    challenge: Ext,
-    point: &mut [Ext],
-)
-    requires end { length right.now ≡ length left.now }
-    requires capacity { length point.old ≡ length left.now }
-    ensures { form ≡ ProofForm.Line → point.new ≡ point_between k_ops left.now right.now challenge }
-{
-    match form {
-        ProofForm::Line => point_at(left, right, challenge, point),
-        ProofForm::Pair => {}
     }
 }

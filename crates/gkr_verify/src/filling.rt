@@ -128,7 +128,11 @@ pub(crate) fn start<C: Challenges>(
 }
 
 /// Draws the coordinates of a point, and gives the extension of 0, the outputs and zeros there.
-fn claim_there<C: Challenges>(outputs: &[Fp], point: &mut [Ext], challenges: &mut C) -> Ext
+pub(crate) fn claim_there<C: Challenges>(
+    outputs: &[Fp],
+    point: &mut [Ext],
+    challenges: &mut C,
+) -> Ext
     requires few { length point.old ≤ 20 }
     requires fits { length outputs.now < 2 ^ length point.old }
     requires has { IsTrue (C.source.has (C.state challenges.old) (length point.old)) }

@@ -22,6 +22,7 @@ mod claim_place;
 mod end;
 mod extension;
 mod filling;
+mod kept;
 pub mod laws;
 mod layer;
 mod layers;
