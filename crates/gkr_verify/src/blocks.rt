@@ -27,17 +27,20 @@ pub(crate) struct Shares {
 }
 
 impl BothEquality {
-    /// The tables at both points.
+    /// The tables at both points, which are filled in place: what two calls return would be on the stack twice.
     pub(crate) fn at(first: &[Ext], second: &[Ext], weight: Ext) -> BothEquality
         requires first { length first.now ≤ 20 }
         requires second { length second.now ≤ 20 }
         ensures { AreAt first.now second.now weight result }
     {
-        BothEquality {
-            first: Tables::at(first),
-            second: Tables::at(second),
+        let mut both = BothEquality {
+            first: Tables::blank(),
+            second: Tables::blank(),
             weight,
-        }
+        };
+        both.first.fill(first);
+        both.second.fill(second);
+        both
     }
 
     /// What a value at position `g` adds.

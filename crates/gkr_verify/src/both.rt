@@ -1,4 +1,5 @@
-//! Sums over the gates of a layer, and over the leaves, where a claim is at two points.
+//! Sums over the gates of a layer, and over the leaves, where a claim is at two points. They aren't inlined, for their tables'
+//! sake, as in `extension`.
 
 ghost use Rattle.std.specs.Prelude.{◌≡◌, ◌≤◌, ◌<◌, ◌^◌, ℕ, All, length, map};
 ghost use Rattle.field_ext.specs.Field.{k_ops, embed_k, zero_k, add_k};
@@ -63,6 +64,7 @@ impl GateShares {
 
 /// The wiring polynomials of a list of gates, by position, where the claim on their layer is at two points, the second
 /// with this weight, and at the points `left` and `right` of their operands. No memory is taken.
+#[inline(never)]
 pub(crate) fn gates_at_both(
     gates: &[CircuitGate],
     first: &[Ext],
@@ -106,6 +108,7 @@ pub(crate) fn gates_at_both(
 
 /// The extension of the table 0, the leaves' values, zeros, where a claim is at two points, the second with this weight.
 /// No memory is taken.
+#[inline(never)]
 pub(crate) fn leaves_at_both(
     leaves: &[Leaf],
     inputs: &[Fp],

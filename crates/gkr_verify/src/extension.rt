@@ -1,4 +1,7 @@
 //! The extensions of the outputs' and of the inputs' table, which no table is made for.
+//!
+//! The tables of a point take 16 KB of the stack. So these functions aren't inlined, since within a caller they would take it for
+//! as long as the caller runs.
 
 ghost use Rattle.std.specs.Prelude.{◌≡◌, ◌≤◌, ◌<◌, ◌^◌, All, length, map};
 ghost use Rattle.field_ext.specs.Field.{k_ops, embed_k};
@@ -11,6 +14,7 @@ use field_ext::{Ext, Fp};
 use mle_table::SplitEquality;
 
 /// The value at `point` of the multilinear extension of the table 0, `values`, zeros. No memory is taken.
+#[inline(never)]
 pub(crate) fn values_extension(values: &[Fp], point: &[Ext]) -> Ext
     requires few { length point.now ≤ 20 }
     requires fits { length values.now < 2 ^ length point.now }
@@ -26,6 +30,7 @@ pub(crate) fn values_extension(values: &[Fp], point: &[Ext]) -> Ext
 }
 
 /// The value at `point` of the multilinear extension of the table 0, the leaves' values, zeros. No memory is taken.
+#[inline(never)]
 pub(crate) fn leaves_extension(leaves: &[Leaf], inputs: &[Fp], point: &[Ext]) -> Ext
     requires few { length point.now ≤ 20 }
     requires fits { length leaves.now < 2 ^ length point.now }

@@ -32,17 +32,22 @@ impl Model for Tables {
 }
 
 impl Tables {
-    /// The tables at a point of at most 20 coordinates: one for the first ten, one for the others.
-    pub(crate) fn at(point: &[Ext]) -> Tables
+    /// Tables that are still to be filled.
+    pub(crate) fn blank() -> Tables {
+        Tables {
+            low: [Ext::zero(); 1024],
+            high: [Ext::zero(); 1024],
+        }
+    }
+
+    /// Fills in the tables at a point of at most 20 coordinates: one for the first ten, one for the others.
+    pub(crate) fn fill(&mut self, point: &[Ext])
         requires { length point.now ≤ 20 }
-        ensures { IsSplitAt point.now result }
+        ensures { IsSplitAt point.now self.new }
     {
         let (first, rest) = point.split_at(if point.len() < 10 { point.len() } else { 10 });
-        let mut low = [Ext::zero(); 1024];
-        let mut high = [Ext::zero(); 1024];
-        fill_equality(&mut low, first);
-        fill_equality(&mut high, rest);
-        Tables { low, high }
+        fill_equality(&mut self.low, first);
+        fill_equality(&mut self.high, rest);
     }
 
     /// What a position's value has besides the factor of its block.
