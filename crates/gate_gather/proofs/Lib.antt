@@ -1,0 +1,7 @@
+mod LazySums
+mod Multiples
+mod Sent
+mod Factors
+mod Made
+mod ZeroPrefix
+mod NoShifts

@@ -1,0 +1,4 @@
+pub mod LazySum
+pub mod Gathering
+pub mod Scaling
+pub mod Carries
