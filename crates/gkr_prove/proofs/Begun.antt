@@ -21,6 +21,12 @@ none_begun source sum s = record {
   state = refl;
 }
 
+pub has_all : (source : Source) (sum : LayerSum) (s : List ℕ) (count : ℕ) → sum.bound ≡ [] → count + length sum.bound ≡ sum.k + sum.k
+    → IsTrue (source.has s (sum.k + sum.k)) → IsTrue (source.has s (count - 0))
+has_all source sum s count none all has =
+    let left : sum.k + sum.k ≡ count - 0 = let e = ap length none in omega (arith, e, all) in
+    subst (λ (n : ℕ). IsTrue (source.has s n)) left has
+
 module _ (source : Source) (sum : LayerSum) (s : List ℕ) (n : ℕ) (messages messages' : List Round) (drawn drawn' : List K) (now now' : List ℕ) (q : List K) (r : K) (tables : LayerSum)
     (is : tables ≡ record sum { bound = drawn }) (noted : IsNoted source q r now now' messages drawn messages' drawn') where
   pub bound_more : (tables' : LayerSum) → tables' ≡ record tables { bound = tables.bound ++ r ∷ [] } → tables' ≡ record sum { bound = drawn' }

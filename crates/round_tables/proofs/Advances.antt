@@ -40,7 +40,6 @@ capacities-folded k old new r capacities is = let o = is.others in on old.merged
       let now : new.one.items ≡ map (folded_part r) old.one.items = sym (in-one-part new (is.others.merged ∙ e)) ∙ is.parts ∙ ap (map (folded_part r)) (in-one-part old e) in
       let same : new.many.items ≡ old.many.items = ap (λ v. v.items) (is.others.many e) in record {
         challenges = ap vec_len is.others.challenges ∙ capacities.challenges;
-        left_equality = ap vec_len is.others.left_equality ∙ capacities.left_equality;
         scales = ap vec_len is.others.scales ∙ capacities.scales;
         shifts = ap vec_len is.others.shifts ∙ capacities.shifts;
         many = ap length same ∙ capacities.many;
@@ -52,7 +51,6 @@ capacities-folded k old new r capacities is = let o = is.others in on old.merged
       let now : new.many.items ≡ map (folded_part r) old.many.items = sym (in-many-parts new (is.others.merged ∙ e)) ∙ is.parts ∙ ap (map (folded_part r)) (in-many-parts old e) in
       let same : new.one.items ≡ old.one.items = ap (λ v. v.items) (is.others.one e) in record {
         challenges = ap vec_len is.others.challenges ∙ capacities.challenges;
-        left_equality = ap vec_len is.others.left_equality ∙ capacities.left_equality;
         scales = ap vec_len is.others.scales ∙ capacities.scales;
         shifts = ap vec_len is.others.shifts ∙ capacities.shifts;
         many = ap length now ∙ length-map old.many.items (folded_part r) ∙ capacities.many;

@@ -34,7 +34,7 @@ module _ {A : Type 0} (o : Ops A) where
   length-even (suc n) (a ∷ []) r e = absurd (omega arith)
   length-even (suc n) (a ∷ b ∷ t) r e = ap (λ (k : ℕ). suc k) (length-even n t r (omega arith))
 
-  length-half : (t : List A) (r : A) → length t / 2 ≤ length (folded o t r)
+  pub length-half : (t : List A) (r : A) → length t / 2 ≤ length (folded o t r)
   length-half [] r = omega arith
   length-half (a ∷ []) r = omega arith
   length-half (a ∷ b ∷ t) r = omega (arith, length-half t r)
@@ -83,7 +83,7 @@ pub flat-all : (f : PartTables → List K) (ps : List PartTables) (n : ℕ) → 
 flat-all f ps n e = ap (flat f) (take-all n ps e)
 
 -- parts of n values each
-length-flat : (f : PartTables → List K) (ps : List PartTables) (n : ℕ) → ((i : ℕ) (d : PartTables) → i < length ps → length (f (get_or ps i d)) ≡ n) → length (flat f ps) ≡ length ps * n
+pub length-flat : (f : PartTables → List K) (ps : List PartTables) (n : ℕ) → ((i : ℕ) (d : PartTables) → i < length ps → length (f (get_or ps i d)) ≡ n) → length (flat f ps) ≡ length ps * n
 length-flat f [] n e = omega arith
 length-flat f (p ∷ ps) n e = let here = e 0 p (omega arith) in let r = length-flat f ps n (λ i d u. e (suc i) d (omega arith)) in omega (arith, length-append (f p) (flat f ps))
 

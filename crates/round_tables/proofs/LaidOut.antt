@@ -15,7 +15,7 @@ use Rattle.round_tables.specs.Tables.{pair_at}
 use Rattle.round_tables.specs.PartTables.{PartTables, HasSize, halved, folded_part, cuts, cuts_left, flat, flat_table, flat_scales, flat_shifts, AreLaidOut}
 use Rattle.round_tables.specs.LayerSum.{left_in_phase}
 use Rattle.round_tables.proofs.PieceValues.{in_left_phase, in_right_phase}
-use Rattle.round_tables.proofs.Halves.{flat-halved, flat-read, length-halved}
+use Rattle.round_tables.proofs.Halves.{flat-halved, flat-read, length-flat, length-halved}
 
 -- so long as a part has two values it is one of all
 in_many : (k m : ℕ) → cuts k < m → cuts_left k m ≡ cuts k
@@ -33,6 +33,19 @@ cuts-below k m some = here (cases_lt (cuts k) m) where
 pub pow-one : (x : ℕ) → 2 ^ x ≡ 1 → x ≡ 0
 pow-one zero e = refl
 pow-one (suc x) e = absurd (omega (arith, pow-suc 2 x, pow_pos x))
+
+-- parts of a phase that begins have all its values
+pub laid-size : (k : ℕ) (ps : List PartTables) (f : PartTables → List K) → AreLaidOut k k ps → ((n : ℕ) (p : PartTables) → HasSize n p → length (f p) ≡ n) → length (flat f ps) ≡ 2 ^ k
+laid-size k ps f laid size =
+    let whole : cuts_left k k + (k - cuts_left k k) ≡ k = here (cases_lt (cuts k) k) in
+    length-flat f ps (2 ^ (k - cuts_left k k)) (λ i d u. size (2 ^ (k - cuts_left k k)) (get_or ps i d) (laid.sizes i d u))
+    ∙ ap (λ (n : ℕ). n * 2 ^ (k - cuts_left k k)) laid.number
+    ∙ sym (pow-add 2 (cuts_left k k) (k - cuts_left k k))
+    ∙ ap (λ (n : ℕ). 2 ^ n) whole
+  where
+    here : (cuts k < k) ⊎ (k ≤ cuts k) → cuts_left k k + (k - cuts_left k k) ≡ k
+    here (inl u) = omega (arith, in_many k k u)
+    here (inr u) = omega (arith, in_one k k u)
 
 -- the values of a part are pairs
 pub size-pairs : (k m : ℕ) → 0 < m → 2 ^ (m - cuts_left k m) ≡ 2 * 2 ^ (m - 1 - cuts_left k m)

@@ -11,14 +11,14 @@ use Rattle.mle_table.proofs.api.Points.{ext-nil}
 use Rattle.circuit_core.specs.declared.gate.CircuitGate.{CircuitGate}
 use Rattle.wiring_poly.specs.Wiring.{sum_gates}
 use Rattle.gkr_layers.specs.Places.{Place, weighted_summand_at}
-use Rattle.round_tables.specs.Weights.{HasWeights, position_weight}
-use Rattle.round_tables.specs.Tables.{IsFolded, scale_of, shift_of, Gathers, GathersLeft, GathersRight, StandFor}
+use Rattle.round_tables.specs.Weights.{position_weight}
+use Rattle.gate_gather.specs.Gathering.{scale_of, shift_of, factor_of, Gathers, GathersLeft, GathersRight}
+use Rattle.round_tables.specs.Tables.{IsFolded, StandFor}
 use Rattle.round_tables.specs.LayerSum.{left_in_phase, after_phase}
 use Rattle.round_tables.specs.Phase.{IsLayer, IsPhase}
 use Rattle.round_tables.proofs.PhaseSums.{left_phase, right_phase}
 use Rattle.round_tables.proofs.RoundPairs.{ext-folded, stand-folded}
 use Rattle.mle_table.proofs.api.EqualitySteps.{doubling_fits}
-use Rattle.mle_table.specs.Equality.{IsEqTable}
 use Rattle.circuit_core.specs.Parts.{IsOver}
 use Rattle.round_tables.proofs.PieceValues.{in_left_phase, in_right_phase}
 
@@ -32,31 +32,31 @@ module _ {A : Type 0} (o : Ops A) (l : Laws A o) where
   sum_gates-placed P s n (gate ∷ gates) f h u a e =
       ap₂ o.add (e s gate (omega arith) (All-head P gate gates a)) (sum_gates-placed P (s + 1) n gates f h (omega arith) (All-tail P gate gates a) e)
 
-  gathers-same : (P : CircuitGate → Type 0) (t : List A) (gates : List CircuitGate) (place : CircuitGate → ℕ) (weight weight' : ℕ → CircuitGate → A) → All P gates →
-      ((g : ℕ) (gate : CircuitGate) → g < length gates → P gate → weight g gate ≡ weight' g gate) → Gathers o t gates place weight → Gathers o t gates place weight'
-  gathers-same P t gates place weight weight' a e gathers x =
-      gathers x
-      ∙ sum_gates-placed P 0 (length gates) gates _ _ (omega arith) a (λ g gate u p. ap (λ (w : A). if place gate == x then w else o.zero) (e g gate u p))
+  gathers-same : (P : CircuitGate → Type 0) (t : List A) (from : ℕ) (gates : List CircuitGate) (place : CircuitGate → ℕ) (weight weight' : ℕ → CircuitGate → A) → All P gates →
+      ((g : ℕ) (gate : CircuitGate) → g < length gates → P gate → weight g gate ≡ weight' g gate) → Gathers o t from gates place weight → Gathers o t from gates place weight'
+  gathers-same P t from gates place weight weight' a e gathers x v =
+      gathers x v
+      ∙ sum_gates-placed P 0 (length gates) gates _ _ (omega arith) a (λ g gate u p. ap (λ (w : A). if place gate == from + x then w else o.zero) (e g gate u p))
 
   module _ (k : ℕ) (gates : List CircuitGate) (values : List A) (point : Place A) where
     abbrev Below : CircuitGate → Type 0
     Below gate = IsOver (2 ^ k) gate
 
     -- the tables that are gathered by left operands begin the first phase
-    pub started : IsLayer A k gates values point → (point_equality table scales shifts : List A) →
-        HasWeights A o point (length gates) point_equality → table ≡ values →
-        GathersLeft A o gates point_equality values scales shifts → IsPhase A o k gates values point [] table scales shifts
-    started layer point_equality table scales shifts pe te gathers =
+    pub started : IsLayer A k gates values point → (weight : ℕ → A) (table scales shifts : List A) →
+        ((g : ℕ) → g < length gates → weight g ≡ position_weight o point g) → table ≡ values → length scales ≡ 2 ^ k → length shifts ≡ 2 ^ k →
+        GathersLeft A o gates weight values 0 scales shifts → IsPhase A o k gates values point [] table scales shifts
+    started layer weight table scales shifts pe te ls lh gathers =
         let phase = in_left_phase k 0 layer.least in
-        let is_eq : (g : ℕ) (gate : CircuitGate) → g < length gates → get_or point_equality g o.zero ≡ position_weight o point g = λ g gate u. pe g u in
+        let is_eq : (g : ℕ) (gate : CircuitGate) → g < length gates → weight g ≡ position_weight o point g = λ g gate u. pe g u in
         record {
           value = λ _ w e. ap (λ (t : List A). extension_at o o (λ x. x) t w) te;
           stand = λ w e.
               let size : length w ≡ k = omega (arith, phase.0, e) in
               ap (λ (i : ℕ). sum_cube o i (λ c. weighted_summand_at o o (λ x. x) k gates values point (w ++ c))) phase.1
-              ∙ left_phase o l k gates values point w scales shifts size layer.operands
-              (gathers-same Below scales gates (λ gate. gate.left) _ _ layer.operands (λ g gate u p. ap (λ (x : A). scale_of o gate x (get_or values gate.right o.zero)) (is_eq g gate u)) gathers.scaled)
-              (gathers-same Below shifts gates (λ gate. gate.left) _ _ layer.operands (λ g gate u p. ap (λ (x : A). shift_of o gate x (get_or values gate.right o.zero)) (is_eq g gate u)) gathers.shifted)
+              ∙ left_phase o l k gates values point w scales shifts size ls lh layer.operands
+              (gathers-same Below scales 0 gates (λ gate. gate.left) _ _ layer.operands (λ g gate u p. ap (λ (x : A). scale_of o gate x (get_or values gate.right o.zero)) (is_eq g gate u)) gathers.scaled)
+              (gathers-same Below shifts 0 gates (λ gate. gate.left) _ _ layer.operands (λ g gate u p. ap (λ (x : A). shift_of o gate x (get_or values gate.right o.zero)) (is_eq g gate u)) gathers.shifted)
               ∙ ap (λ (t : List A). o.add (o.mul (extension_at o o (λ x. x) t w) (extension_at o o (λ x. x) scales w)) (extension_at o o (λ x. x) shifts w)) (sym te);
         }
 
@@ -101,27 +101,27 @@ module _ {A : Type 0} (o : Ops A) (l : Laws A o) where
         }
 
     -- the last challenge of the first phase, with tables gathered anew by right operands
-    pub bound_middle : IsLayer A k gates values point → (bound t s h : List A) (r : A) (point_equality left_equality t' t'' s'' h'' : List A) → IsPhase A o k gates values point bound t s h → length bound + 1 ≡ k →
-        HasWeights A o point (length gates) point_equality → IsEqTable o (bound ++ r ∷ []) left_equality → IsFolded o (2 ^ 0) t r t' → t'' ≡ values →
-        GathersRight A o gates point_equality left_equality (get_or t' 0 o.zero) s'' h'' → IsPhase A o k gates values point (bound ++ r ∷ []) t'' s'' h''
-    bound_middle layer bound t s h r point_equality left_equality t' t'' s'' h'' phase u pe le ft te gathers =
+    pub bound_middle : IsLayer A k gates values point → (bound t s h : List A) (r : A) (weight : ℕ → A) (t' t'' s'' h'' : List A) → IsPhase A o k gates values point bound t s h → length bound + 1 ≡ k →
+        ((g : ℕ) → g < length gates → weight g ≡ position_weight o point g) → IsFolded o (2 ^ 0) t r t' → t'' ≡ values → length s'' ≡ 2 ^ k → length h'' ≡ 2 ^ k →
+        GathersRight A o gates weight (eq_poly o (bound ++ r ∷ [])) (get_or t' 0 o.zero) 0 s'' h'' → IsPhase A o k gates values point (bound ++ r ∷ []) t'' s'' h''
+    bound_middle layer bound t s h r weight t' t'' s'' h'' phase u pe ft te ls lh gathers =
         let n = length-bound bound r in
         let next = in_right_phase k (length (bound ++ r ∷ [])) (omega arith) in
         let b : List A = bound ++ r ∷ [] in
         let full : length b ≡ k = omega (arith, n) in
         let kept : get_or t' 0 o.zero ≡ extension_at o o (λ x. x) values b =
         sym (ext-nil o l t') ∙ ext-folded o l 0 t t' r [] refl ft ∙ phase.value (omega arith) (r ∷ []) (omega arith) in
-        let factor : (g : ℕ) (gate : CircuitGate) → g < length gates → Below gate → o.mul (get_or point_equality g o.zero) (get_or left_equality gate.left o.zero) ≡ o.mul (position_weight o point g) (eq_poly o b gate.left) =
-        λ g gate v p. ap₂ o.mul (pe g v) (le gate.left (rw full p.left)) in
+        let factor : (g : ℕ) (gate : CircuitGate) → g < length gates → Below gate → factor_of o weight (eq_poly o b) g gate ≡ o.mul (position_weight o point g) (eq_poly o b gate.left) =
+        λ g gate v p. ap (λ (x : A). o.mul x (eq_poly o b gate.left)) (pe g v) in
         record {
           value = λ w. absurd (omega (arith, n, w));
           stand = λ w e.
               let size : length w ≡ k = omega (arith, next.0, e, n) in
               ap (λ (i : ℕ). sum_cube o i (λ c. weighted_summand_at o o (λ x. x) k gates values point (b ++ (w ++ c)))) next.1
               ∙ ap (λ (v : List A). weighted_summand_at o o (λ x. x) k gates values point (b ++ v)) (append-nil w)
-              ∙ right_phase o l k gates values point b w s'' h'' full size layer.operands
-              (gathers-same Below s'' gates (λ gate. gate.right) _ _ layer.operands (λ g gate v p. ap₂ (scale_of o gate) (factor g gate v p) kept) gathers.scaled)
-              (gathers-same Below h'' gates (λ gate. gate.right) _ _ layer.operands (λ g gate v p. ap₂ (shift_of o gate) (factor g gate v p) kept) gathers.shifted)
+              ∙ right_phase o l k gates values point b w s'' h'' full size ls lh layer.operands
+              (gathers-same Below s'' 0 gates (λ gate. gate.right) _ _ layer.operands (λ g gate v p. ap₂ (scale_of o gate) (factor g gate v p) kept) gathers.scaled)
+              (gathers-same Below h'' 0 gates (λ gate. gate.right) _ _ layer.operands (λ g gate v p. ap₂ (shift_of o gate) (factor g gate v p) kept) gathers.shifted)
               ∙ ap (λ (t : List A). o.add (o.mul (extension_at o o (λ x. x) t w) (extension_at o o (λ x. x) s'' w)) (extension_at o o (λ x. x) h'' w)) (sym te);
         }
 

@@ -16,7 +16,7 @@ use Rattle.gkr_layers.specs.Places.{Place, weighted_summand_at}
 use Rattle.gkr_layers.specs.Places.Place.{At, AtBoth}
 use Rattle.gkr_layers.proofs.api.PlaceSums.{weighted_linear}
 use Rattle.round_tables.specs.Weights.{position_weight}
-use Rattle.round_tables.specs.Tables.{Gathers, scale_of, shift_of}
+use Rattle.gate_gather.specs.Gathering.{Gathers, scale_of, shift_of}
 use Rattle.round_tables.proofs.Gates.{gathered_gates}
 
 module _ {A : Type 0} (o : Ops A) (l : Laws A o) where
@@ -70,12 +70,12 @@ module _ {A : Type 0} (o : Ops A) (l : Laws A o) where
       of_kind Add = l.add_comm x y
 
   -- the first phase: the right operands are summed over
-  pub left_phase : (k : ℕ) (gates : List CircuitGate) (t : List A) (z : Place A) (b scales shifts : List A) → length b ≡ k → All (IsOver (2 ^ k)) gates →
-      Gathers o scales gates (λ gate. gate.left) (λ g gate. scale_of o gate (position_weight o z g) (get_or t gate.right o.zero)) →
-      Gathers o shifts gates (λ gate. gate.left) (λ g gate. shift_of o gate (position_weight o z g) (get_or t gate.right o.zero)) →
+  pub left_phase : (k : ℕ) (gates : List CircuitGate) (t : List A) (z : Place A) (b scales shifts : List A) → length b ≡ k → length scales ≡ 2 ^ k → length shifts ≡ 2 ^ k → All (IsOver (2 ^ k)) gates →
+      Gathers o scales 0 gates (λ gate. gate.left) (λ g gate. scale_of o gate (position_weight o z g) (get_or t gate.right o.zero)) →
+      Gathers o shifts 0 gates (λ gate. gate.left) (λ g gate. shift_of o gate (position_weight o z g) (get_or t gate.right o.zero)) →
       sum_cube o k (λ c. weighted_summand_at o o (λ x. x) k gates t z (b ++ c))
       ≡ o.add (o.mul (extension_at o o (λ x. x) t b) (extension_at o o (λ x. x) scales b)) (extension_at o o (λ x. x) shifts b)
-  left_phase k gates t z b scales shifts e below scaled shifted =
+  left_phase k gates t z b scales shifts e ls lh below scaled shifted =
       let V : List A → A = extension_at o o (λ x. x) t in
       let P : CircuitGate → Type 0 = IsOver (2 ^ k) in
       let m : 2 ^ k ≡ 2 ^ length b = ap (λ (i : ℕ). 2 ^ i) (sym e) in
@@ -83,7 +83,7 @@ module _ {A : Type 0} (o : Ops A) (l : Laws A o) where
       ∙ sum_cube-gates o l k 0 gates (λ g gate c. o.mul (o.mul (o.mul (position_weight o z g) (eq_poly o b gate.left)) (eq_poly o c gate.right)) (gate_output o gate (V b) (V c)))
       ∙ sum_gates-all o l P 0 gates _ _ below (λ g gate p. picked (o.mul (position_weight o z g) (eq_poly o b gate.left)) gate p.right)
       ∙ sym (gathered_gates o l (V b) scales shifts b gates (λ gate. gate.left) (λ g gate. position_weight o z g) (λ gate. get_or t gate.right o.zero)
-      scaled shifted (λ i d u. rw (← m) (below i d u).left))
+      (ls ∙ m) (lh ∙ m) scaled shifted (λ i d u. rw (← m) (below i d u).left))
     where
       picked : (f : A) (gate : CircuitGate) → gate.right < 2 ^ k →
           sum_cube o k (λ c. o.mul (o.mul f (eq_poly o c gate.right)) (gate_output o gate (extension_at o o (λ x. x) t b) (extension_at o o (λ x. x) t c)))
@@ -95,16 +95,16 @@ module _ {A : Type 0} (o : Ops A) (l : Laws A o) where
           ∙ ap (gate_output o gate (extension_at o o (λ x. x) t b)) (ext-bits o l k gate.right t u))
 
   -- the second phase: the left operands are bound
-  pub right_phase : (k : ℕ) (gates : List CircuitGate) (t : List A) (z : Place A) (b c scales shifts : List A) → length b ≡ k → length c ≡ k → All (IsOver (2 ^ k)) gates →
-      Gathers o scales gates (λ gate. gate.right) (λ g gate. scale_of o gate (o.mul (position_weight o z g) (eq_poly o b gate.left)) (extension_at o o (λ x. x) t b)) →
-      Gathers o shifts gates (λ gate. gate.right) (λ g gate. shift_of o gate (o.mul (position_weight o z g) (eq_poly o b gate.left)) (extension_at o o (λ x. x) t b)) →
+  pub right_phase : (k : ℕ) (gates : List CircuitGate) (t : List A) (z : Place A) (b c scales shifts : List A) → length b ≡ k → length c ≡ k → length scales ≡ 2 ^ k → length shifts ≡ 2 ^ k → All (IsOver (2 ^ k)) gates →
+      Gathers o scales 0 gates (λ gate. gate.right) (λ g gate. scale_of o gate (o.mul (position_weight o z g) (eq_poly o b gate.left)) (extension_at o o (λ x. x) t b)) →
+      Gathers o shifts 0 gates (λ gate. gate.right) (λ g gate. shift_of o gate (o.mul (position_weight o z g) (eq_poly o b gate.left)) (extension_at o o (λ x. x) t b)) →
       weighted_summand_at o o (λ x. x) k gates t z (b ++ c)
       ≡ o.add (o.mul (extension_at o o (λ x. x) t c) (extension_at o o (λ x. x) scales c)) (extension_at o o (λ x. x) shifts c)
-  right_phase k gates t z b c scales shifts e d below scaled shifted =
+  right_phase k gates t z b c scales shifts e d ls lh below scaled shifted =
       let V : List A → A = extension_at o o (λ x. x) t in
       let P : CircuitGate → Type 0 = IsOver (2 ^ k) in
       let m : 2 ^ k ≡ 2 ^ length c = ap (λ (i : ℕ). 2 ^ i) (sym d) in
       placed-parts k gates t z b c e
       ∙ sum_gates-all o l P 0 gates _ _ below (λ g gate p. ap (o.mul (o.mul (o.mul (position_weight o z g) (eq_poly o b gate.left)) (eq_poly o c gate.right))) (output-comm gate (V b) (V c)))
       ∙ sym (gathered_gates o l (V c) scales shifts c gates (λ gate. gate.right) (λ g gate. o.mul (position_weight o z g) (eq_poly o b gate.left)) (λ gate. V b)
-      scaled shifted (λ i d u. rw (← m) (below i d u).right))
+      (ls ∙ m) (lh ∙ m) scaled shifted (λ i d u. rw (← m) (below i d u).right))

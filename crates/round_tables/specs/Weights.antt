@@ -1,13 +1,27 @@
 -- The weights of a layer's positions at the place of its claim
-use Rattle.std.specs.Prelude.{◌≡◌, ℕ, ◌<◌, List, slice_index_or}
+use Rattle.std.specs.Prelude.{◌≡◌, ℕ, ◌+◌, ◌/◌, ◌%◌, take, drop, vec_len, slice_index_or}
 use Rattle.field_ext.specs.Ring.{Ops}
+use Rattle.field_ext.specs.Field.{K, k_ops, zero_k, mul_k}
 use Rattle.field_ext.specs.Multilinear.{eq_poly}
+use Rattle.mle_table.specs.Equality.{IsEqTable}
 use Rattle.gkr_layers.specs.Places.{Place, weighted}
+use Rattle.round_tables.specs.declared.kept_point.KeptPoint.{KeptPoint}
 
 -- at one point the equality polynomial's value, at two the weighted sum of its values
 abbrev pub position_weight : {A : Type 0} → Ops A → Place A → ℕ → A
 position_weight o place g = weighted o place (λ z. eq_poly o z g)
 
--- the table begins with the weights of n positions
-abbrev pub HasWeights : (A : Type 0) → Ops A → Place A → ℕ → List A → Type 0
-HasWeights A o place n t = (g : ℕ) → g < n → slice_index_or t g o.zero ≡ position_weight o place g
+-- a point's tables have values for so many positions, in rows of 1,024
+pub record HasRows (positions : ℕ) (p : KeptPoint) : Type 0 where
+  pub low : vec_len p.low ≡ 1024
+  pub high : vec_len p.high ≡ positions / 1024 + 1
+
+-- the tables are those of the equality polynomial at the point: one for the first ten coordinates and one for the others
+pub record HasTables (p : KeptPoint) : Type 0 where
+  pub low : IsEqTable k_ops (take 10 p.point.items) p.low.items
+  pub high : IsEqTable k_ops (drop 10 p.point.items) p.high.items
+
+-- the product of a value of each, by the bits of g
+abbrev pub product_at : KeptPoint → ℕ → K
+product_at p g = mul_k (slice_index_or p.low.items (g % 1024) zero_k)
+    (slice_index_or p.high.items (g / 1024) zero_k)

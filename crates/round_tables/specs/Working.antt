@@ -1,13 +1,13 @@
 -- What holds of the structures that keep a layer's tables
-use Rattle.std.specs.Prelude.{◌≡◌, ℕ, ◌+◌, ◌-◌, ◌^◌, ◌≤◌, true, false, IsTrue, List, [], ◌∷◌, ◌++◌, length, map, take, vec_len, if◌then◌else◌, All, Option, Some, None}
+use Rattle.std.specs.Prelude.{◌≡◌, ℕ, ◌+◌, ◌-◌, ◌^◌, ◌≤◌, ◌<◌, true, false, IsTrue, List, [], ◌∷◌, ◌++◌, length, map, take, vec_len, if◌then◌else◌, All, Option, Some, None}
 use Rattle.std.specs.declared.snapshot.Snapshot.{Snapshot}
-use Rattle.field_ext.specs.Field.{K, k_ops}
+use Rattle.field_ext.specs.Field.{K, k_ops, add_k, mul_k}
 use Rattle.mle_table.specs.Shape.{AreBase}
 use Rattle.round_tables.specs.declared.layer_gates.LayerGates.{LayerGates}
 use Rattle.round_tables.specs.declared.working.Working.{Working}
 use Rattle.gkr_layers.specs.Places.{Place}
 use Rattle.gkr_layers.specs.Places.Place.{At, AtBoth}
-use Rattle.round_tables.specs.Weights.{HasWeights}
+use Rattle.round_tables.specs.Weights.{position_weight, HasRows, product_at}
 use Rattle.field_ext.specs.Multilinear.{folded}
 use Rattle.round_tables.specs.PartTables.{PartTables, HasCapacity, cuts, flat_table, flat_scales, flat_shifts, folded_part, AreLaidOut}
 use Rattle.round_tables.specs.LayerSum.{left_in_phase}
@@ -15,15 +15,21 @@ use Rattle.round_tables.specs.Phase.{IsLayer, IsPhase}
 
 -- where the claim on the layer is
 abbrev pub place_of : LayerGates → Place K
-place_of layer = if layer.both then AtBoth layer.first.items layer.second.items layer.weight
-    else At layer.first.items
+place_of layer = if layer.both then AtBoth layer.first.point.items layer.second.point.items
+    layer.weight else At layer.first.point.items
+
+-- the weights of its positions by the tables that are kept
+abbrev pub weights_of : LayerGates → ℕ → K
+weights_of layer = λ g. if layer.both then add_k (product_at layer.first g)
+    (mul_k layer.weight (product_at layer.second g)) else product_at layer.first g
 
 -- the layer is one, and the weights of its positions are kept with it
 pub record IsLayerGates (layer : LayerGates) : Type 0 where
   pub layer_is : IsLayer K layer.k layer.gates.now layer.values.now.items (place_of layer)
-  pub equality : HasWeights K k_ops (place_of layer) (length layer.gates.now)
-      layer.point_equality.items
-  pub equality_size : vec_len layer.point_equality ≡ length layer.gates.now
+  pub weights : (g : ℕ) → g < length layer.gates.now
+      → weights_of layer g ≡ position_weight k_ops (place_of layer) g
+  pub first_rows : HasRows (length layer.gates.now) layer.first
+  pub second_rows : IsTrue layer.both → HasRows (length layer.gates.now) layer.second
   pub in_base : IsTrue layer.base → AreBase layer.values.now.items
 
 -- the challenges bound so far
@@ -37,7 +43,6 @@ parts_of w = if w.merged then w.one.items else w.many.items
 -- there are buffers for two phases of k challenges
 pub record HasCapacities (k : ℕ) (w : Working) : Type 0 where
   pub challenges : vec_len w.challenges ≡ k + k
-  pub left_equality : vec_len w.left_equality ≡ 2 ^ k
   pub scales : vec_len w.scales ≡ 2 ^ k
   pub shifts : vec_len w.shifts ≡ 2 ^ k
   pub many : length w.many.items ≡ 2 ^ cuts k
@@ -57,7 +62,6 @@ pub record WorksFor (layer : LayerGates) (w : Working) : Type 0 where
 pub record AreSameCapacities (old new : Working) : Type 0 where
   pub challenges : new.challenges ≡ old.challenges
   pub count : new.count ≡ old.count
-  pub left_equality : new.left_equality ≡ old.left_equality
   pub scales : new.scales ≡ old.scales
   pub shifts : new.shifts ≡ old.shifts
   pub merged : new.merged ≡ old.merged

@@ -1,8 +1,10 @@
 //! The buffers of a layer's tables.
 
-ghost use Rattle.std.specs.Prelude.{◌≡◌, ◌≤◌, IfOk, vec_len};
+ghost use Rattle.std.specs.Prelude.{◌≡◌, ◌≤◌, IfOk};
+ghost use Rattle.round_tables.specs.Weights.{HasRows};
 ghost use Rattle.round_tables.specs.Working.{HasCapacities};
 
+use crate::kept_point::KeptPoint;
 use crate::working::Working;
 use field_ext::Ext;
 use std::alloc::{AllocError, Global};
@@ -10,9 +12,8 @@ use std::alloc::{AllocError, Global};
 /// Buffers for the working tables of a layer and for the place of its claim, which one layer after another can use.
 #[derive(Drop)]
 pub struct Buffers {
-    pub(crate) first: Vec<Ext>,
-    pub(crate) second: Vec<Ext>,
-    pub(crate) point_equality: Vec<Ext>,
+    pub(crate) first: KeptPoint,
+    pub(crate) second: KeptPoint,
     pub(crate) working: Working,
 }
 
@@ -31,15 +32,10 @@ impl From<TooSmallBuffers> for AllocError {
 impl Buffers {
     /// Buffers for layers of up to so many gates over up to so many values. Err only where no memory is found.
     pub fn new(alloc: Global, gates: usize, values: usize) -> Result<Buffers, AllocError> {
-        let first = Vec::with_capacity(alloc, 20)?;
-        let second = Vec::with_capacity(alloc, 20)?;
-        let point_equality = Vec::with_capacity(alloc, gates)?;
-        let working = Working::empty(alloc, values)?;
         Ok(Buffers {
-            first,
-            second,
-            point_equality,
-            working,
+            first: KeptPoint::empty(alloc, gates)?,
+            second: KeptPoint::empty(alloc, gates)?,
+            working: Working::empty(alloc, values)?,
         })
     }
 
@@ -52,9 +48,10 @@ impl Buffers {
         second: &[Ext],
     ) -> Result<Buffers, TooSmallBuffers>
         requires { k ≤ 20 }
-        ensures first { IfOk result (λ buffers. buffers.first.items ≡ first.now) }
-        ensures second { IfOk result (λ buffers. buffers.second.items ≡ second.now) }
-        ensures equality { IfOk result (λ buffers. vec_len buffers.point_equality ≡ gates) }
+        ensures first { IfOk result (λ buffers. buffers.first.point.items ≡ first.now) }
+        ensures second { IfOk result (λ buffers. buffers.second.point.items ≡ second.now) }
+        ensures first_rows { IfOk result (λ buffers. HasRows gates buffers.first) }
+        ensures second_rows { IfOk result (λ buffers. HasRows gates buffers.second) }
         ensures capacities { IfOk result (λ buffers. HasCapacities k buffers.working) }
     {
         match self.fit(gates, k, first, second) {
@@ -72,16 +69,14 @@ impl Buffers {
         second: &[Ext],
     ) -> Result<(), AllocError>
         requires { k ≤ 20 }
-        ensures first { IfOk result (λ _. self.new.first.items ≡ first.now) }
-        ensures second { IfOk result (λ _. self.new.second.items ≡ second.now) }
-        ensures equality { IfOk result (λ _. vec_len self.new.point_equality ≡ gates) }
+        ensures first { IfOk result (λ _. self.new.first.point.items ≡ first.now) }
+        ensures second { IfOk result (λ _. self.new.second.point.items ≡ second.now) }
+        ensures first_rows { IfOk result (λ _. HasRows gates self.new.first) }
+        ensures second_rows { IfOk result (λ _. HasRows gates self.new.second) }
         ensures capacities { IfOk result (λ _. HasCapacities k self.new.working) }
     {
-        self.first.clear();
-        self.first.extend_from_slice(first)?;
-        self.second.clear();
-        self.second.extend_from_slice(second)?;
-        self.point_equality.resize(gates, Ext::zero())?;
+        self.first.fit(first, gates)?;
+        self.second.fit(second, gates)?;
         self.working.fit(k)
     }
 }

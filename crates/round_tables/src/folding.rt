@@ -1,26 +1,37 @@
 //! Folding in place.
 
-ghost use Rattle.std.specs.Prelude.{◌≡◌, ◌≤◌, ◌<◌, ◌+◌, ◌*◌, ℕ, length, slice_index_or};
+ghost use Rattle.std.specs.Prelude.{◌≡◌, ◌≤◌, ◌<◌, ◌+◌, ◌*◌, ◌/◌, ℕ, length, slice_index_or, vec_capacity};
 ghost use Rattle.field_ext.specs.Field.{k_ops, zero_k};
 ghost use Rattle.field_ext.specs.Multilinear.{folded};
+ghost use Rattle.round_tables.specs.PartTables.{halved};
 ghost use Rattle.round_tables.specs.Tables.{IsFolded};
 
-use crate::operand::Operand;
 use field_ext::Ext;
+use gate_gather::Operand;
 use std::sync::ledger::Ledger;
 use step_count::Steps;
 
 /// How many folded values are computed before they are written over the table.
 const BLOCK: usize = 128;
 
+/// Folds a table, whose values lie in the base field where V says so, and keeps the first half. One of a single value stays.
+pub(crate) fn halve<V: Operand, L: Ledger>(values: &mut Vec<Ext>, r: Ext, steps: &mut Steps<L>)
+    requires values { (i : ℕ) → V.holds (slice_index_or values.old.items i zero_k) }
+    ensures halved { values.new.items ≡ halved r values.old.items }
+    ensures capacity { vec_capacity values.new ≡ vec_capacity values.old }
+    ensures steps { steps.new ≡ steps.old + length values.old.items / 2 }
+{
+    let half = values.len() / 2;
+    if half == 0 {
+        return;
+    }
+    fold_first::<V, L>(values, half, r, steps);
+    values.truncate(half);
+}
+
 /// Binds the first coordinate of the table in the first `2 * half` values to `r`.
 /// The folded table is in the first `half` values. It takes a step for each pair.
-pub(crate) fn fold_first<V: Operand, L: Ledger>(
-    values: &mut [Ext],
-    half: usize,
-    r: Ext,
-    steps: &mut Steps<L>,
-)
+fn fold_first<V: Operand, L: Ledger>(values: &mut [Ext], half: usize, r: Ext, steps: &mut Steps<L>)
     requires pairs { 2 * half ≤ length values.old }
     requires values { (i : ℕ) → V.holds (slice_index_or values.old i zero_k) }
     ensures folded { IsFolded k_ops half values.old r values.new }

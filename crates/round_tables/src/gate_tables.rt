@@ -97,10 +97,9 @@ impl<'a> GateTables<'a> {
         let Buffers {
             first,
             second,
-            point_equality,
             working,
         } = buffers.fitted(gates.len(), values.k() as usize, point, point)?;
-        let layer = LayerGates::new(point_equality, gates, values, first, second);
+        let layer = LayerGates::new(gates, values, first, second);
         let working = working.begin(&layer);
         Ok(GateTables {
             layer,
@@ -158,10 +157,9 @@ impl<'a> GateTables<'a> {
         let Buffers {
             first,
             second,
-            point_equality,
             working,
         } = buffers.fitted(gates.len(), values.k() as usize, first, second)?;
-        let layer = LayerGates::new_two(point_equality, gates, values, first, second, weight);
+        let layer = LayerGates::new_two(gates, values, first, second, weight);
         let working = working.begin(&layer);
         Ok(GateTables {
             layer,
@@ -200,16 +198,10 @@ impl<'a> GateTables<'a> {
         requires { self.lent ≡ [] }
     {
         let GateTables { layer, working, .. } = self;
-        let LayerGates {
-            first,
-            second,
-            point_equality,
-            ..
-        } = layer;
+        let LayerGates { first, second, .. } = layer;
         Buffers {
             first,
             second,
-            point_equality,
             working,
         }
     }

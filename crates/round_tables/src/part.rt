@@ -1,18 +1,19 @@
 //! A part of a phase's tables.
 
-ghost use Rattle.std.specs.Prelude.{◌≡◌, ℕ, ◌≤◌, ◌<◌, ◌+◌, ◌*◌, ◌/◌, IfOk, IsTrue, [], ◌++◌, All, length, slice_index_or, vec_capacity};
+ghost use Rattle.std.specs.Prelude.{◌≡◌, ℕ, ◌≤◌, ◌<◌, ◌+◌, ◌*◌, IfOk, IsTrue, [], ◌++◌, All, length, slice_index_or};
 ghost use Rattle.field_ext.specs.Field.{K, k_ops, zero_k};
 ghost use Rattle.field_ext.specs.Polynomial.{value_at};
 ghost use Rattle.field_ext.specs.Sums.{sum_below};
 ghost use Rattle.mle_table.specs.Shape.{AreBase};
 ghost use Rattle.round_tables.specs.Tables.{pair_at};
-ghost use Rattle.round_tables.specs.PartTables.{HasSize, flat_table, flat_scales, flat_shifts, folded_part, halved, part_pairs, part_sum, summed_pairs};
+ghost use Rattle.round_tables.specs.PartTables.{HasSize, flat_table, flat_scales, flat_shifts, folded_part, part_pairs, part_sum, summed_pairs};
 
-use crate::folding::fold_first;
-use crate::operand::{Base, Operand, Whole};
-use crate::pairs::pair_sum;
+use crate::column::Column;
+use crate::folding::halve;
+use crate::pairs::columns_sum;
 use crate::parts::PART_VALUES;
 use field_ext::Ext;
+use gate_gather::{Base, Whole};
 use std::alloc::{AllocError, Global};
 use std::marker::{Brand, Model};
 use std::sync::ledger::{Blank, Ledger};
@@ -22,8 +23,9 @@ use step_count::Steps;
 #[derive(Drop)]
 pub struct Part {
     table: Vec<Ext>,
-    scales: Vec<Ext>,
-    shifts: Vec<Ext>,
+    // A part whose scales or shifts are all 0 doesn't keep them.
+    scales: Column,
+    shifts: Column,
     capacity: usize,
     // Whether the table's values are known to lie in the base field.
     base: bool,
@@ -44,23 +46,8 @@ impl Model for Part {
     } };
 
     ghost invariant = { λ p. (p.capacity ≤ vec_capacity p.table)
-        × (p.capacity ≤ vec_capacity p.scales) × (p.capacity ≤ vec_capacity p.shifts)
+        × (p.capacity ≤ p.scales.capacity) × (p.capacity ≤ p.shifts.capacity)
         × (IsTrue p.base → AreBase p.table.items) };
-}
-
-/// Folds a table, whose values lie in the base field where V says so, and keeps the first half. One of a single value stays.
-fn halve<V: Operand, L: Ledger>(values: &mut Vec<Ext>, r: Ext, steps: &mut Steps<L>)
-    requires values { (i : ℕ) → V.holds (slice_index_or values.old.items i zero_k) }
-    ensures halved { values.new.items ≡ halved r values.old.items }
-    ensures capacity { vec_capacity values.new ≡ vec_capacity values.old }
-    ensures steps { steps.new ≡ steps.old + length values.old.items / 2 }
-{
-    let half = values.len() / 2;
-    if half == 0 {
-        return;
-    }
-    fold_first::<V, L>(values, half, r, steps);
-    values.truncate(half);
 }
 
 impl Part {
@@ -68,8 +55,8 @@ impl Part {
     pub fn empty(alloc: Global) -> Part {
         Part {
             table: Vec::new(alloc),
-            scales: Vec::new(alloc),
-            shifts: Vec::new(alloc),
+            scales: Column::empty(alloc),
+            shifts: Column::empty(alloc),
             capacity: 0,
             base: false,
         }
@@ -81,8 +68,8 @@ impl Part {
     {
         Ok(Part {
             table: Vec::with_capacity(alloc, capacity)?,
-            scales: Vec::with_capacity(alloc, capacity)?,
-            shifts: Vec::with_capacity(alloc, capacity)?,
+            scales: Column::new(alloc, capacity)?,
+            shifts: Column::new(alloc, capacity)?,
             capacity,
             base: false,
         })
@@ -93,9 +80,11 @@ impl Part {
         ensures { IfOk result (λ _. self.new.capacity ≡ capacity) }
     {
         self.clear();
+        // Until all three tables have it the part has none.
+        self.capacity = 0;
         self.table.reserve(capacity)?;
-        self.scales.reserve(capacity)?;
-        self.shifts.reserve(capacity)?;
+        self.scales.fit(capacity)?;
+        self.shifts.fit(capacity)?;
         self.capacity = capacity;
         Ok(())
     }
@@ -146,12 +135,8 @@ impl Part {
         let Ok(()) = self.table.extend_from_slice(table) else {
             unreachable!()
         };
-        let Ok(()) = self.scales.extend_from_slice(scales) else {
-            unreachable!()
-        };
-        let Ok(()) = self.shifts.extend_from_slice(shifts) else {
-            unreachable!()
-        };
+        self.scales.write(scales);
+        self.shifts.write(shifts);
         self.base = base;
     }
 
@@ -170,12 +155,8 @@ impl Part {
         let Ok(()) = self.table.extend_from_slice(&other.table) else {
             unreachable!()
         };
-        let Ok(()) = self.scales.extend_from_slice(&other.scales) else {
-            unreachable!()
-        };
-        let Ok(()) = self.shifts.extend_from_slice(&other.shifts) else {
-            unreachable!()
-        };
+        self.scales.append(&other.scales);
+        self.shifts.append(&other.shifts);
         self.base = false;
     }
 
@@ -206,8 +187,8 @@ impl Part {
         } else {
             halve::<Whole, L>(&mut self.table, r, steps);
         }
-        halve::<Whole, L>(&mut self.scales, r, steps);
-        halve::<Whole, L>(&mut self.shifts, r, steps);
+        self.scales.halve(r, steps);
+        self.shifts.halve(r, steps);
         self.base = false;
     }
 
@@ -271,9 +252,9 @@ impl Part {
         ensures steps { steps.new ≡ steps.old + pairs }
     {
         if self.base {
-            pair_sum::<Base, L>(&self.table, &self.scales, &self.shifts, 0, pairs, steps)
+            columns_sum::<Base, L>(&self.table, &self.scales, &self.shifts, pairs, steps)
         } else {
-            pair_sum::<Whole, L>(&self.table, &self.scales, &self.shifts, 0, pairs, steps)
+            columns_sum::<Whole, L>(&self.table, &self.scales, &self.shifts, pairs, steps)
         }
     }
 }

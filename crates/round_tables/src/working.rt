@@ -2,20 +2,18 @@
 
 ghost use Rattle.std.specs.Prelude.{◌≡◌, ◌≢◌, ◌≤◌, ◌<◌, ◌+◌, ◌-◌, ◌*◌, ◌^◌, IfOk, IsTrue, false, [], ◌∷◌, ◌++◌, All, length, if◌then◌else◌, ◌==◌, slice_index_or};
 ghost use Rattle.field_ext.specs.Field.{K, k_ops, zero_k};
-ghost use Rattle.mle_table.specs.Equality.{IsEqTable};
-ghost use Rattle.round_tables.specs.Tables.{GathersLeft, GathersRight};
+ghost use Rattle.field_ext.specs.Multilinear.{eq_poly};
+ghost use Rattle.gate_gather.specs.Gathering.{GathersLeft, GathersRight};
 ghost use Rattle.round_tables.specs.PartTables.{PartTables, HasSize, flat_table, flat_scales, flat_shifts, AreLaidOut};
 ghost use Rattle.field_ext.specs.Polynomial.{coefficients};
 ghost use Rattle.round_tables.specs.LayerSum.{left_in_phase, half_size, part_of_round};
-ghost use Rattle.round_tables.specs.Working.{place_of, parts_of, IsLayerGates, HasCapacities, AreSameCapacities, AreFolded, IsAdvanced, WorksFor, bound_of};
+ghost use Rattle.round_tables.specs.Working.{place_of, weights_of, parts_of, IsLayerGates, HasCapacities, AreSameCapacities, AreFolded, IsAdvanced, WorksFor, bound_of};
 
-use crate::gathering::{gather_left, gather_right};
 use crate::layer_gates::{LayerGates, power};
-use crate::operand::{Base, Whole};
 use crate::part::Part;
 use crate::parts::{PART_VALUES, cut_count, fill_parts, fit_parts, fold_parts, merge_parts};
 use field_ext::Ext;
-use mle_table::fill_equality;
+use gate_gather::{Base, EqualityAt, Whole, gather_left, gather_right};
 use std::alloc::{AllocError, Global};
 use std::mem::replace;
 use std::snapshot::Snapshot;
@@ -29,7 +27,6 @@ pub(crate) struct Working {
     pub(crate) alloc: Global,
     pub(crate) challenges: Vec<Ext>,
     pub(crate) count: usize,
-    pub(crate) left_equality: Vec<Ext>,
     pub(crate) scales: Vec<Ext>,
     pub(crate) shifts: Vec<Ext>,
     pub(crate) many: Vec<Part>,
@@ -53,16 +50,35 @@ pub(crate) fn pair_count(k: usize, count: usize) -> usize
 fn gather_first(layer: &LayerGates<'_>, values: &[Ext], scales: &mut [Ext], shifts: &mut [Ext])
     requires layer { IsLayerGates layer.now }
     requires values { values.now ≡ layer.now.values.now.items }
-    requires scales { length values.now ≤ length scales.old }
-    requires shifts { length values.now ≤ length shifts.old }
-    ensures { GathersLeft K k_ops layer.now.gates.now layer.now.point_equality.items values.now
-        scales.new shifts.new }
+    requires same { length shifts.old ≡ length scales.old }
+    ensures { GathersLeft K k_ops layer.now.gates.now (weights_of layer.now) values.now 0 scales.new
+        shifts.new }
 {
     if layer.base {
-        gather_left::<Base>(layer.gates, &layer.point_equality, values, scales, shifts);
+        gather_left::<Base, LayerGates<'_>>(layer.gates, layer, values, 0, scales, shifts);
     } else {
-        gather_left::<Whole>(layer.gates, &layer.point_equality, values, scales, shifts);
+        gather_left::<Whole, LayerGates<'_>>(layer.gates, layer, values, 0, scales, shifts);
     }
+}
+
+/// The tables of the second phase, where the left operand is bound at this point and has this value.
+fn gather_second<L: Ledger>(
+    layer: &LayerGates<'_>,
+    bound: &[Ext],
+    value: Ext,
+    scales: &mut [Ext],
+    shifts: &mut [Ext],
+    steps: &mut Steps<L>,
+)
+    requires layer { IsLayerGates layer.now }
+    requires bound { length bound.now ≡ layer.now.k }
+    requires same { length shifts.old ≡ length scales.old }
+    ensures gathers { GathersRight K k_ops layer.now.gates.now (weights_of layer.now)
+        (eq_poly k_ops bound.now) value 0 scales.new shifts.new }
+    ensures steps { steps.new ≡ steps.old + length layer.now.gates.now }
+{
+    let left = EqualityAt::new(bound);
+    gather_right(layer.gates, layer, &left, value, 0, scales, shifts, steps);
 }
 
 impl Working {
@@ -79,7 +95,6 @@ impl Working {
             alloc,
             challenges: Vec::with_capacity(alloc, 40)?,
             count: 0,
-            left_equality: Vec::with_capacity(alloc, values)?,
             scales: Vec::with_capacity(alloc, values)?,
             shifts: Vec::with_capacity(alloc, values)?,
             many,
@@ -97,7 +112,6 @@ impl Working {
         let size = power(k);
         let cuts = cut_count(k);
         self.challenges.resize(2 * k, Ext::zero())?;
-        self.left_equality.resize(size, Ext::zero())?;
         self.scales.resize(size, Ext::zero())?;
         self.shifts.resize(size, Ext::zero())?;
         fit_parts(
@@ -229,30 +243,17 @@ impl Working {
         parts.len() > 1 && parts[0].len() == 1
     }
 
-    /// Fills the table of the equality polynomial at the left operand's challenges.
-    fn fill_left(&mut self, k: usize)
-        requires most { k ≤ 20 }
-        requires capacities { HasCapacities k self.old }
-        requires left { self.old.count ≡ k }
-        ensures equality { IsEqTable k_ops (bound_of self.old) self.new.left_equality.items }
-        ensures capacities { HasCapacities k self.new }
-        ensures challenges { self.new.challenges ≡ self.old.challenges }
-        ensures count { self.new.count ≡ self.old.count }
-        ensures parts { parts_of self.new ≡ parts_of self.old }
-    {
-        let (bound, _) = self.challenges.as_slice().split_at(k);
-        fill_equality(&mut self.left_equality, bound);
-    }
-
     /// Begins the second phase: the left operand is bound, and its value is the one value of the table.
     fn turn<L: Ledger>(&mut self, layer: &LayerGates<'_>, steps: &mut Steps<L>)
         requires layer { IsLayerGates layer.now }
         requires capacities { HasCapacities layer.now.k self.old }
+        requires left { self.old.count ≡ layer.now.k }
         requires last { AreLaidOut layer.now.k 0 (parts_of self.old) }
         ensures laid { AreLaidOut layer.now.k layer.now.k (parts_of self.new) }
         ensures table { flat_table (parts_of self.new) ≡ layer.now.values.now.items }
-        ensures gathers { GathersRight K k_ops layer.now.gates.now layer.now.point_equality.items
-            self.old.left_equality.items (slice_index_or (flat_table (parts_of self.old)) 0 zero_k)
+        ensures gathers { GathersRight K k_ops layer.now.gates.now (weights_of layer.now)
+            (eq_poly k_ops (bound_of self.old))
+            (slice_index_or (flat_table (parts_of self.old)) 0 zero_k) 0
             (flat_scales (parts_of self.new)) (flat_shifts (parts_of self.new)) }
         ensures capacities { HasCapacities layer.now.k self.new }
         ensures challenges { self.new.challenges ≡ self.old.challenges }
@@ -260,10 +261,10 @@ impl Working {
         ensures steps { steps.new ≡ steps.old + length layer.now.gates.now }
     {
         let value = self.parts()[0].table()[0];
-        gather_right(
-            layer.gates,
-            &layer.point_equality,
-            &self.left_equality,
+        let (bound, _) = self.challenges.as_slice().split_at(layer.k);
+        gather_second(
+            layer,
+            bound,
             value,
             &mut self.scales,
             &mut self.shifts,
@@ -301,7 +302,6 @@ impl Working {
         ensures steps { steps.new ≡ steps.old + length layer.now.gates.now }
     {
         self.advance(layer, old, r);
-        self.fill_left(layer.k);
         self.turn(layer, steps);
     }
 

@@ -13,6 +13,9 @@ use Rattle.std.specs.contracts.option.Option as option
 use Rattle.std.specs.contracts.snapshot.Snapshot as snapshot
 use Rattle.line_reduce.specs.contracts.parts.LinePart as line_part
 use Rattle.line_reduce.specs.contracts.parts.LinePart.TheInside as inside_line_part
+use Rattle.round_tables.specs.contracts.column.Column as column
+use Rattle.round_tables.specs.contracts.column.Column.TheInside as inside_column
+use Rattle.round_tables.specs.contracts.kept_point.KeptPoint as kept_point
 use Rattle.round_tables.specs.contracts.part.Part as part
 use Rattle.round_tables.specs.contracts.part.Part.TheInside as inside_part
 use Rattle.round_tables.specs.contracts.working.Working as working
@@ -69,8 +72,14 @@ table_inside_sync = declared_sync inside_table.the_type (word_sync, (values_sync
 table_sync : IsSync table.the_row
 table_sync = search (view_sync, table_inside_sync)
 
+column_inside_sync : IsSync inside_column.the_row
+column_inside_sync = declared_sync inside_column.the_type (values_sync, (flag_sync, (size_sync, (size_sync, tt))))
+
+column_sync : IsSync (as_row column.the_field)
+column_sync = as_row_sync column.the_field (search (view_sync, column_inside_sync))
+
 part_inside_sync : IsSync inside_part.the_row
-part_inside_sync = declared_sync inside_part.the_type (values_sync, (values_sync, (values_sync, (size_sync, (flag_sync, tt)))))
+part_inside_sync = declared_sync inside_part.the_type (values_sync, (column_sync, (column_sync, (size_sync, (flag_sync, tt)))))
 
 part_sync : IsSync part.the_row
 part_sync = search (view_sync, part_inside_sync)
@@ -79,7 +88,7 @@ parts_sync : IsSync (as_row (vec.the_field part.the_row heap.the_row heap_impl.g
 parts_sync = as_row_sync (vec.the_field part.the_row heap.the_row heap_impl.ghosts) (Vec-sync part.the_row part_sync)
 
 working_sync : IsSync working.the_row
-working_sync = declared_sync working.the_type (heap_sync, (values_sync, (size_sync, (values_sync, (values_sync, (values_sync, (parts_sync, (parts_sync, (flag_sync, (parts_sync, tt))))))))))
+working_sync = declared_sync working.the_type (heap_sync, (values_sync, (size_sync, (values_sync, (values_sync, (parts_sync, (parts_sync, (flag_sync, (parts_sync, tt)))))))))
 
 gates_sync : (κ : NamedLft) → IsSync (as_row (shr_slice_field κ gate.the_row tt))
 gates_sync κ = as_row_sync (shr_slice_field κ gate.the_row tt) (search (sendable, gate_sync) depth 6)
@@ -87,8 +96,11 @@ gates_sync κ = as_row_sync (shr_slice_field κ gate.the_row tt) (search (sendab
 lent_table_sync : (κ : NamedLft) → IsSync (as_row (shr_ref_field κ table.the_row tt))
 lent_table_sync κ = as_row_sync (shr_ref_field κ table.the_row tt) (search (sendable, table_sync) depth 6)
 
+kept_point_sync : IsSync kept_point.the_row
+kept_point_sync = declared_sync kept_point.the_type (values_sync, (values_sync, (values_sync, tt)))
+
 layer_sync : (κ : NamedLft) → IsSync (layer.the_row κ)
-layer_sync κ = declared_sync (layer.the_type κ) (size_sync, (gates_sync κ, (lent_table_sync κ, (values_sync, (values_sync, (as_row_sync ext.the_field ext_sync, (flag_sync, (values_sync, (flag_sync, tt)))))))))
+layer_sync κ = declared_sync (layer.the_type κ) (size_sync, (gates_sync κ, (lent_table_sync κ, (kept_point_sync, (kept_point_sync, (as_row_sync ext.the_field ext_sync, (flag_sync, (flag_sync, tt))))))))
 
 lent_sync : IsSync (as_row (option.the_field (snapshot.the_row working.the_row)))
 lent_sync = as_row_sync (option.the_field (snapshot.the_row working.the_row)) (search (crosses, sendable) depth 8)
@@ -129,8 +141,14 @@ ext_send = search (fixed_send, ext_inside_send)
 values_send : IsSend (as_row (vec.the_field ext.the_row heap.the_row heap_impl.ghosts))
 values_send = as_row_send (vec.the_field ext.the_row heap.the_row heap_impl.ghosts) (Vec-send ext.the_row ext_send)
 
+column_inside_send : IsSend inside_column.the_row
+column_inside_send = declared_send inside_column.the_type (values_send, (flag_send, (size_send, (size_send, tt))))
+
+column_send : IsSend (as_row column.the_field)
+column_send = as_row_send column.the_field (search (view_send, column_inside_send))
+
 part_inside_send : IsSend inside_part.the_row
-part_inside_send = declared_send inside_part.the_type (values_send, (values_send, (values_send, (size_send, (flag_send, tt)))))
+part_inside_send = declared_send inside_part.the_type (values_send, (column_send, (column_send, (size_send, (flag_send, tt)))))
 
 part_send : IsSend part.the_row
 part_send = search (view_send, part_inside_send)
@@ -139,7 +157,7 @@ parts_send : IsSend (as_row (vec.the_field part.the_row heap.the_row heap_impl.g
 parts_send = as_row_send (vec.the_field part.the_row heap.the_row heap_impl.ghosts) (Vec-send part.the_row part_send)
 
 working_send : IsSend working.the_row
-working_send = declared_send working.the_type (heap_send, (values_send, (size_send, (values_send, (values_send, (values_send, (parts_send, (parts_send, (flag_send, (parts_send, tt))))))))))
+working_send = declared_send working.the_type (heap_send, (values_send, (size_send, (values_send, (values_send, (parts_send, (parts_send, (flag_send, (parts_send, tt)))))))))
 
 gates_send : (κ : NamedLft) → IsSend (as_row (shr_slice_field κ gate.the_row tt))
 gates_send κ = as_row_send (shr_slice_field κ gate.the_row tt) (search (sendable, gate_sync) depth 6)
@@ -147,8 +165,11 @@ gates_send κ = as_row_send (shr_slice_field κ gate.the_row tt) (search (sendab
 pub lent_table_send : (κ : NamedLft) → IsSend (as_row (shr_ref_field κ table.the_row tt))
 lent_table_send κ = as_row_send (shr_ref_field κ table.the_row tt) (search (sendable, table_sync) depth 6)
 
+kept_point_send : IsSend kept_point.the_row
+kept_point_send = declared_send kept_point.the_type (values_send, (values_send, (values_send, tt)))
+
 layer_send : (κ : NamedLft) → IsSend (layer.the_row κ)
-layer_send κ = declared_send (layer.the_type κ) (size_send, (gates_send κ, (lent_table_send κ, (values_send, (values_send, (as_row_send ext.the_field ext_send, (flag_send, (values_send, (flag_send, tt)))))))))
+layer_send κ = declared_send (layer.the_type κ) (size_send, (gates_send κ, (lent_table_send κ, (kept_point_send, (kept_point_send, (as_row_send ext.the_field ext_send, (flag_send, (flag_send, tt))))))))
 
 lent_send : IsSend (as_row (option.the_field (snapshot.the_row working.the_row)))
 lent_send = as_row_send (option.the_field (snapshot.the_row working.the_row)) (search (crosses, sendable) depth 8)

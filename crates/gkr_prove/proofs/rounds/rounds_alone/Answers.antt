@@ -1,9 +1,17 @@
 -- One message more
-use Rattle.std.proofs.Common.{◌≡◌, ℕ, ◌+◌, arith, subst}
+use Rattle.std.proofs.Common.{◌≡◌, ℕ, ◌+◌, rules, arith, subst}
 use Rattle.gkr_prove.specs.Rounds.{AreBegun}
 use Rattle.gkr_prove.proofs.HasSteps.{has_next}
-use Rattle.gkr_prove.proofs.Begun.{bound_more, has_more, begun_more}
+use Rattle.gkr_prove.proofs.Begun.{has_all, bound_more, has_more, begun_more}
 use Rattle.gkr_prove.proofs.rounds.rounds_alone.Goals as goal
+
+pub loop-number-init : goal.loop-number-init
+loop-number-init g c = record {
+  all = search rules;
+  tables = search rules;
+  begun = search rules;
+  has = has_all g.C.Challenges.source c.args.tables (g.C.Challenges.state c.args.challenges.now) c.rounds_left-count.result c.requires.begun c.rounds_left-count.ensures c.requires.has;
+}
 
 pub note-requires : goal.note-requires
 note-requires g c = record {

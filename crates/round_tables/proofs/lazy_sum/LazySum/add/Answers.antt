@@ -1,7 +1,0 @@
--- A sum of numbers is one of elements
-use Rattle.std.proofs.Common.{◌+◌, refl}
-use Rattle.round_tables.proofs.LazySums.{sum_is}
-use Rattle.round_tables.proofs.lazy_sum.LazySum.add.Goals as goal
-
-pub returns-clause-element : goal.returns-clause-element
-returns-clause-element c = sum_is c.args.self c.args.other (record { re = c.args.self.re + c.args.other.re; im = c.args.self.im + c.args.other.im }) refl refl
