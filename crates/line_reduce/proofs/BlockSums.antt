@@ -125,15 +125,15 @@ four_elements a b c d w x y z re im ha hb hc hd hre him =
     ∙ sym (ap₂ add_k (ap₂ add_k (ap₂ add_k (zero_add k_ops k_laws (mul_k a w) ∙ base_product a w ha) (base_product b x hb)) (base_product c y hc)) (base_product d z hd))
 
 -- a table folded by all coordinates to one row is the line's polynomial
-pub line_of_row : (t row b c : List K) → length c ≡ length b → length b ≤ 20 → length row ≡ length b + 1 →
-    ((e : K) → HaveFolds k_ops (length b) 1 row t b c e) → row ≡ coefficients k_ops (length b + 1) (line_polynomial k_ops t b c)
-line_of_row t row b c v most size folds =
+pub line_of_row : (t one_row b c : List K) → length c ≡ length b → length b ≤ 20 → length one_row ≡ length b + 1 →
+    ((e : K) → HaveFolds k_ops (length b) 1 one_row t b c e) → one_row ≡ coefficients k_ops (length b + 1) (line_polynomial k_ops t b c)
+line_of_row t one_row b c v most size folds =
     let small : length b + 1 < prime = omega arith in
-    from_values (length b + 1) row (line_polynomial k_ops t b c) small size (length-line_polynomial k_ops t b c) (λ e.
+    from_values (length b + 1) one_row (line_polynomial k_ops t b c) small size (length-line_polynomial k_ops t b c) (λ e.
     let first : 0 ≡ 0 * (length b + 1) = omega arith in
-    sym (row-whole k_ops k_laws row e)
-    ∙ (λ i. row_value k_ops row 0 (size i) e)
-    ∙ (λ i. row_value k_ops row (first i) (length b + 1) e)
+    sym (row-whole k_ops k_laws one_row e)
+    ∙ (λ i. row_value k_ops one_row 0 (size i) e)
+    ∙ (λ i. row_value k_ops one_row (first i) (length b + 1) e)
     ∙ folds e 0 (omega arith)
     ∙ folded_all-value k_ops k_laws t b c e (length b) v (omega arith)
     ∙ sym (value-line_polynomial k_ops k_laws t b c e))

@@ -8,7 +8,8 @@ ghost use Rattle.field_ext.specs.Field.{k_ops, zero_k};
 ghost use Rattle.field_ext.specs.Polynomial.{coefficients};
 ghost use Rattle.gkr_layers.specs.Sumcheck.{line_polynomial};
 ghost use Rattle.mle_table.specs.Shape.{AreBase};
-ghost use Rattle.line_reduce.specs.Rows.{weighted_sum};
+ghost use Rattle.line_reduce.specs.Parts.{most_coordinates};
+ghost use Rattle.line_reduce.specs.Rows.{most_known, weighted_sum};
 
 use crate::rows::fold_by_line;
 use crate::weights::fill_weights;
@@ -95,7 +96,7 @@ fn fill_rows(
     rows: &mut [Ext],
 )
     requires base { AreBase values.now }
-    requires few { n ≤ 17 }
+    requires few { n ≤ most_known + 1 }
     requires some { 1 ≤ fours }
     requires values { length values.now ≡ count * (4 * fours) }
     requires weights { 4 * fours * n ≤ length weights.now }
@@ -118,12 +119,12 @@ pub(crate) fn fill_line(
     weights: &mut [Ext],
     rows: &mut [Ext],
 )
-    requires most { length b.now ≤ 20 }
+    requires most { length b.now ≤ most_coordinates }
     requires end { length c.now ≡ length b.now }
     requires size { length values.now ≡ 2 ^ length b.now }
     requires base { AreBase values.now }
     requires some { 2 ≤ known }
-    requires few { known ≤ 6 }
+    requires few { known ≤ most_known }
     requires known { known ≤ length b.now }
     requires weights { 2 ^ known * (known + 1) ≤ length weights.old }
     requires rows { 2 ^ (length b.now - known) * (known + 1) ≤ length rows.old }

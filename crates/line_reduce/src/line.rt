@@ -5,6 +5,8 @@ ghost use Rattle.field_ext.specs.Field.{k_ops};
 ghost use Rattle.field_ext.specs.Polynomial.{value_at, coefficients};
 ghost use Rattle.gkr_layers.specs.Sumcheck.{line_polynomial};
 ghost use Rattle.mle_table.specs.Shape.{AreBase};
+ghost use Rattle.line_reduce.specs.Parts.{most_coordinates};
+ghost use Rattle.line_reduce.specs.Rows.{most_known};
 
 use crate::blocks::fill_line;
 use crate::rows::fold_by_line;
@@ -19,7 +21,7 @@ const MOST_KNOWN: usize = 6;
 /// The restriction of a table's extension to the line from `b`, at 0, to `c`, at 1: one coefficient more than the table
 /// has coordinates, constant first. Err only where no memory is found.
 pub fn line_poly(alloc: Global, table: &Table, b: &[Ext], c: &[Ext]) -> Result<Poly, AllocError>
-    requires most { table.now.k ≤ 20 }
+    requires most { table.now.k ≤ most_coordinates }
     requires start { length b.now ≡ table.now.k }
     requires end { length c.now ≡ table.now.k }
     ensures { IfOk result (λ line. line ≡ coefficients k_ops (table.now.k + 1)
@@ -44,7 +46,7 @@ pub fn claim_at(line: &Poly, t: Ext) -> Ext
 
 /// A table as rows of one coefficient, folded by the line's polynomials one after another to one row.
 fn by_rows(rows: Vec<Ext>, b: &[Ext], c: &[Ext]) -> Vec<Ext>
-    requires most { length b.now ≤ 20 }
+    requires most { length b.now ≤ most_coordinates }
     requires end { length c.now ≡ length b.now }
     requires size { length rows.items ≡ 2 ^ length b.now }
     ensures { result.items ≡ coefficients k_ops (length b.now + 1)
@@ -64,12 +66,12 @@ fn by_blocks(
     b: &[Ext],
     c: &[Ext],
 ) -> Result<Vec<Ext>, AllocError>
-    requires most { length b.now ≤ 20 }
+    requires most { length b.now ≤ most_coordinates }
     requires end { length c.now ≡ length b.now }
     requires size { length values.now ≡ 2 ^ length b.now }
     requires base { AreBase values.now }
     requires some { 2 ≤ known }
-    requires few { known ≤ 6 }
+    requires few { known ≤ most_known }
     requires known { known ≤ length b.now }
     ensures { IfOk result (λ line. line.items ≡ coefficients k_ops (length b.now + 1)
         (line_polynomial k_ops values.now b.now c.now)) }

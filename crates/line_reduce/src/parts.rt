@@ -1,11 +1,11 @@
 //! The line by parts of the table, each of which can be worked by itself.
 
-ghost use Rattle.std.specs.Prelude.{◌≡◌, ◌≤◌, ◌<◌, ◌+◌, ◌-◌, ◌^◌, length, take, MatchOption, IfOk};
+ghost use Rattle.std.specs.Prelude.{◌≡◌, ◌≤◌, ◌<◌, ◌+◌, length, take, MatchOption, IfOk};
 ghost use Rattle.field_ext.specs.Field.{k_ops};
 ghost use Rattle.field_ext.specs.Polynomial.{coefficients};
 ghost use Rattle.gkr_layers.specs.Sumcheck.{line_polynomial};
 ghost use Rattle.mle_table.specs.Shape.{AreBase};
-ghost use Rattle.line_reduce.specs.Parts.{worked_part, part_lines};
+ghost use Rattle.line_reduce.specs.Parts.{most_coordinates, part_coordinates, parts_of, worked_part, part_lines};
 
 use crate::blocks::fill_line;
 use crate::rows::fold_by_line;
@@ -41,22 +41,23 @@ pub struct LinePart {
 
 impl Model for LinePart {
     ghost use Rattle.std.specs.Prelude.{◌≡◌, take, vec_len};
-    ghost use Rattle.line_reduce.specs.Parts.{PartOfLine};
+    ghost use Rattle.line_reduce.specs.Parts.{PartOfLine, part_coordinates, part_coefficients, part_weights, part_rows};
 
     ghost Value = { PartOfLine };
 
     ghost view = { λ p. record {
       b = p.b.items;
       c = p.c.items;
-      line = take 12 p.rows.items;
+      line = take part_coefficients p.rows.items;
     } };
 
-    ghost invariant = { λ p. (vec_len p.b ≡ 11) × (vec_len p.c ≡ 11) × (vec_len p.weights ≡ 80)
-        × (vec_len p.rows ≡ 640) };
+    ghost invariant = { λ p. (vec_len p.b ≡ part_coordinates) × (vec_len p.c ≡ part_coordinates)
+        × (vec_len p.weights ≡ part_weights) × (vec_len p.rows ≡ part_rows) };
 }
 
 impl LinePart {
-    /// The buffers of a part. Err only where no memory is found; no later call takes any.
+    /// The buffers of a part. Its points and its line mean nothing yet: `aim` and `work` set them. Err only where no memory is
+    /// found; no later call takes any.
     pub fn new(alloc: Global) -> Result<LinePart, AllocError> {
         Ok(LinePart {
             b: vec![in alloc; Ext::zero(); COORDINATES]?,
@@ -68,9 +69,12 @@ impl LinePart {
 
     /// Takes the first coordinates of the line's points.
     pub fn aim(&mut self, b: &[Ext], c: &[Ext])
-        requires start { 11 ≤ length b.now }
-        requires end { 11 ≤ length c.now }
-        ensures { self.new ≡ record self.old { b = take 11 b.now; c = take 11 c.now } }
+        requires start { part_coordinates ≤ length b.now }
+        requires end { part_coordinates ≤ length c.now }
+        ensures { self.new ≡ record self.old {
+          b = take part_coordinates b.now;
+          c = take part_coordinates c.now;
+        } }
     {
         self.b.copy_from_slice(b.split_at(COORDINATES).0);
         self.c.copy_from_slice(c.split_at(COORDINATES).0);
@@ -106,8 +110,9 @@ impl LinePart {
 
 /// How many parts the line of a table of `2^k` values has, if any.
 pub fn part_count(k: u32) -> Option<usize>
-    requires { k ≤ 20 }
-    ensures { MatchOption result (k < 11) (λ n. (11 ≤ k) × (n ≡ 2 ^ (k - 11))) }
+    requires { k ≤ most_coordinates }
+    ensures { MatchOption result (k < part_coordinates)
+        (λ n. (part_coordinates ≤ k) × (n ≡ parts_of k)) }
 {
     let more = (k as usize).checked_sub(COORDINATES)?;
     Some(1usize << more)
@@ -116,12 +121,12 @@ pub fn part_count(k: u32) -> Option<usize>
 /// The line from `b`, at 0, to `c`, at 1, as `line_poly` gives it, from the lines of all parts of the table, one after another. It
 /// takes no memory.
 pub fn line_of_parts(table: &Table, lines: Vec<Ext>, b: &[Ext], c: &[Ext]) -> Vec<Ext>
-    requires least { 11 ≤ table.now.k }
-    requires most { table.now.k ≤ 20 }
+    requires least { part_coordinates ≤ table.now.k }
+    requires most { table.now.k ≤ most_coordinates }
     requires start { length b.now ≡ table.now.k }
     requires end { length c.now ≡ table.now.k }
-    requires lines { lines.items
-        ≡ part_lines table.now.items (take 11 b.now) (take 11 c.now) (2 ^ (table.now.k - 11)) }
+    requires lines { lines.items ≡ part_lines table.now.items
+        (take part_coordinates b.now) (take part_coordinates c.now) (parts_of table.now.k) }
     ensures { result.items ≡ coefficients k_ops (table.now.k + 1)
         (line_polynomial k_ops table.now.items b.now c.now) }
 {

@@ -2,6 +2,7 @@
 
 ghost use Rattle.std.specs.Prelude.{◌≡◌, ◌≤◌, ◌<◌, ◌+◌, ◌-◌, ◌*◌, ◌^◌, ℕ, List, length, slice_index_or};
 ghost use Rattle.field_ext.specs.Field.{K, k_ops, add_k, mul_k, zero_k};
+ghost use Rattle.line_reduce.specs.Parts.{most_coordinates};
 ghost use Rattle.line_reduce.specs.Rows.{row_value, between, AreFolded, HaveFolds};
 
 use field_ext::Ext;
@@ -32,7 +33,7 @@ fn fold_row(rows: &mut [Ext], at: usize, n: usize, start: Ext, step: Ext, to: us
 /// Folds the first `count` pairs of rows of `n` coefficients by the polynomial `start + step X`, into as many rows of `n + 1`.
 fn fold_rows(rows: &mut [Ext], n: usize, count: usize, start: Ext, step: Ext)
     requires some { 1 ≤ n }
-    requires few { n ≤ 20 }
+    requires few { n ≤ most_coordinates }
     requires size { 2 * count * n ≤ length rows.old }
     ensures { AreFolded k_ops count n start step rows.old rows.new }
 {
@@ -43,7 +44,7 @@ fn fold_rows(rows: &mut [Ext], n: usize, count: usize, start: Ext, step: Ext)
 
 /// Folds rows for the coordinates before `from` by the line's polynomials at those from there on, to one row. It lies first.
 pub(crate) fn fold_by_line(rows: &mut [Ext], from: usize, b: &[Ext], c: &[Ext])
-    requires most { length b.now ≤ 20 }
+    requires most { length b.now ≤ most_coordinates }
     requires end { length c.now ≡ length b.now }
     requires from { from ≤ length b.now }
     requires size { 2 ^ (length b.now - from) * (from + 1) ≤ length rows.old }

@@ -2,7 +2,7 @@
 
 ghost use Rattle.std.specs.Prelude.{◌≡◌, ◌≤◌, ◌<◌, ◌+◌, ◌*◌, ◌^◌, ℕ, length, slice_index_or};
 ghost use Rattle.field_ext.specs.Field.{K, k_ops, add_k, sub_k, mul_k, zero_k};
-ghost use Rattle.line_reduce.specs.Rows.{row_value, AreWeights};
+ghost use Rattle.line_reduce.specs.Rows.{most_known, row_value, AreWeights};
 
 use field_ext::Ext;
 
@@ -50,7 +50,7 @@ fn split_rows(rows: &mut [Ext], size: usize, width: usize, n: usize, start: Ext,
 
 /// Writes the weights for the first `known` coordinates of the line: `2^known` rows of `known + 1` coefficients.
 pub(crate) fn fill_weights(weights: &mut [Ext], known: usize, b: &[Ext], c: &[Ext])
-    requires few { known ≤ 6 }
+    requires few { known ≤ most_known }
     requires known { known ≤ length b.now }
     requires end { length c.now ≡ length b.now }
     requires size { 2 ^ known * (known + 1) ≤ length weights.old }
