@@ -1,9 +1,10 @@
 -- The rounds of a layer, proved one after another
-use Rattle.std.specs.Prelude.{◌≡◌, ℕ, ◌+◌, ◌-◌, ◌^◌, ◌≤◌, List, [], ◌∷◌, ◌++◌, length, take, drop, Option, IfSome}
+use Rattle.std.specs.Prelude.{◌≡◌, ℕ, ◌+◌, ◌≤◌, List, [], ◌∷◌, ◌++◌, length, take, drop, Option, IfSome}
 use Rattle.std.specs.Global.{Vec}
 use Rattle.field_ext.specs.Field.{K, k_ops}
 use Rattle.field_ext.specs.Polynomial.{coefficients}
 use Rattle.round_tables.specs.LayerSum.{LayerSum}
+use Rattle.line_reduce.specs.Parts.{part_coordinates, parts_of}
 use Rattle.transcript_fs.specs.Source.{Source, draws, state_after}
 use Rattle.proof_wire.specs.declared.messages.Round.{Round}
 use Rattle.proof_wire.specs.Lists.{round_messages}
@@ -29,7 +30,7 @@ pub record AreBegun (source : Source) (sum : LayerSum) (before : List ℕ) (n : 
 
 -- the line over 2 ^ k values has n parts, which are not too many for a crew
 abbrev pub IsLineFor : ℕ → ℕ → ℕ → Type 0
-IsLineFor n k parts = (11 ≤ k) × (n ≡ 2 ^ (k - 11)) × (n ≤ parts)
+IsLineFor n k parts = (part_coordinates ≤ k) × (n ≡ parts_of k) × (n ≤ parts)
 
 -- what is known of the line of a layer over these values, after these challenges of its rounds, are its coefficients
 abbrev pub IsLineAhead : ℕ → List K → List K → Option (Vec K) → Type 0

@@ -1,7 +1,7 @@
 -- What a crew does in a layer: with the parts of its tables, and with the parts of its line
 use Rattle.std.specs.Prelude.{ℕ, Bool, List, [], Option, Some, None, IsSome, take, if◌then◌else◌}
 use Rattle.field_ext.specs.Field.{K}
-use Rattle.line_reduce.specs.Parts.{PartOfLine, worked_part}
+use Rattle.line_reduce.specs.Parts.{PartOfLine, part_coordinates, worked_part}
 use Rattle.round_tables.specs.PartTables.{PartTables, folded_part, part_sum}
 use Rattle.sumcheck_prove.specs.declared.jobs.Job.{Job}
 
@@ -30,7 +30,7 @@ HasLine job = IsSome job.line
 -- this part of the line, if any, with the first coordinates of the points b and c
 abbrev pub aimed_line : List K → List K → Option PartOfLine → Option PartOfLine
 aimed_line b c None = None
-aimed_line b c (Some part) = Some (record part { b = take 11 b; c = take 11 c })
+aimed_line b c (Some part) = Some (record part { b = take part_coordinates b; c = take part_coordinates c })
 
 abbrev pub aimed : List K → List K → Job → Job
 aimed b c job = record job { line = aimed_line b c job.line }

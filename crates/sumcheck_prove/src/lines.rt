@@ -1,10 +1,10 @@
 //! The line of a layer by a crew.
 
-ghost use Rattle.std.specs.Prelude.{◌≡◌, ℕ, ◌+◌, ◌-◌, ◌*◌, ◌^◌, ◌<◌, ◌≤◌, ◌++◌, [], All, IfOk, length, map, slice_index_or, vec_len, vec_capacity};
+ghost use Rattle.std.specs.Prelude.{◌≡◌, ℕ, ◌+◌, ◌*◌, ◌<◌, ◌≤◌, ◌++◌, [], All, IfOk, length, map, slice_index_or, vec_len, vec_capacity};
 ghost use Rattle.field_ext.specs.Field.{k_ops};
 ghost use Rattle.field_ext.specs.Polynomial.{coefficients};
 ghost use Rattle.gkr_layers.specs.Sumcheck.{line_polynomial};
-ghost use Rattle.line_reduce.specs.Parts.{joined};
+ghost use Rattle.line_reduce.specs.Parts.{joined, most_coordinates, part_coefficients, part_coordinates, parts_of};
 ghost use Rattle.sumcheck_prove.specs.Jobs.{HasLine, aimed, line_of};
 
 use crate::jobs::{Job, Jobs, job_with};
@@ -25,6 +25,7 @@ pub struct LineJobs {
 
 impl Model for LineJobs {
     ghost use Rattle.std.specs.Prelude.{◌≡◌, ℕ, ◌*◌, ◌≤◌, All, vec_len, vec_capacity};
+    ghost use Rattle.line_reduce.specs.Parts.{part_coefficients};
     ghost use Rattle.sumcheck_prove.specs.Jobs.{HasLine};
 
     ghost Value = { ℕ };
@@ -32,7 +33,7 @@ impl Model for LineJobs {
     ghost view = { λ l. vec_len l.jobs };
 
     ghost invariant = { λ l. All HasLine l.jobs.items × (vec_len l.lines ≡ 0)
-        × (12 * vec_len l.jobs ≤ vec_capacity l.lines) };
+        × (part_coefficients * vec_len l.jobs ≤ vec_capacity l.lines) };
 }
 
 impl LineJobs {
@@ -62,8 +63,8 @@ fn line_jobs(alloc: Global, parts: usize) -> Result<Vec<Job>, AllocError>
 
 /// Gives a job the points of the line.
 fn aim(job: &mut Job, b: &[Ext], c: &[Ext])
-    requires start { 11 ≤ length b.now }
-    requires end { 11 ≤ length c.now }
+    requires start { part_coordinates ≤ length b.now }
+    requires end { part_coordinates ≤ length c.now }
     ensures { job.new ≡ aimed b.now c.now job.old }
 {
     if let Some(mut line) = job.line.take() {
@@ -74,8 +75,8 @@ fn aim(job: &mut Job, b: &[Ext], c: &[Ext])
 
 /// Gives each job the points of the line.
 fn aim_all(jobs: &mut [Job], b: &[Ext], c: &[Ext])
-    requires start { 11 ≤ length b.now }
-    requires end { 11 ≤ length c.now }
+    requires start { part_coordinates ≤ length b.now }
+    requires end { part_coordinates ≤ length c.now }
     ensures { jobs.new ≡ map (aimed b.now c.now) jobs.old }
 {
     for k in 0..jobs.len() {
@@ -100,8 +101,8 @@ fn add_line(job: &Job, lines: &mut Vec<Ext>)
 fn collected(jobs: &[Job], mut lines: Vec<Ext>) -> Vec<Ext>
     requires none { vec_len lines ≡ 0 }
     requires sizes { (k : ℕ) → k < length jobs.now
-        → length (slice_index_or (map line_of jobs.now) k []) ≡ 12 }
-    requires capacity { 12 * length jobs.now ≤ vec_capacity lines }
+        → length (slice_index_or (map line_of jobs.now) k []) ≡ part_coefficients }
+    requires capacity { part_coefficients * length jobs.now ≤ vec_capacity lines }
     ensures { result.items
         ≡ joined (λ k. slice_index_or (map line_of jobs.now) k []) (length jobs.now) }
 {
@@ -121,12 +122,12 @@ pub fn line_by<R: Wait>(
     crew: &mut Crew<'_, Jobs<'_>>,
     jobs: LineJobs,
 ) -> Vec<Ext>
-    requires least { 11 ≤ table.now.k }
-    requires most { table.now.k ≤ 20 }
+    requires least { part_coordinates ≤ table.now.k }
+    requires most { table.now.k ≤ most_coordinates }
     requires start { length b.now ≡ table.now.k }
     requires end { length c.now ≡ table.now.k }
     requires values { crew.old.work ≡ table.now.items }
-    requires parts { jobs ≡ 2 ^ (table.now.k - 11) }
+    requires parts { jobs ≡ parts_of table.now.k }
     requires few { jobs ≤ crew.old.parts }
     ensures line { result.items ≡ coefficients k_ops (table.now.k + 1)
         (line_polynomial k_ops table.now.items b.now c.now) }
