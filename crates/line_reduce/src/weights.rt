@@ -37,7 +37,8 @@ fn split_row(rows: &mut [Ext], at: usize, n: usize, start: Ext, step: Ext, to: u
 fn split_rows(rows: &mut [Ext], size: usize, width: usize, n: usize, start: Ext, step: Ext)
     requires wide { n < width }
     requires fits { 2 * size * width ≤ length rows.old }
-    ensures high { (e : K) (q : ℕ) → q < size → row_value k_ops rows.new ((size + q) * width) (n + 1) e
+    ensures high { (e : K) (q : ℕ) → q < size
+        → row_value k_ops rows.new ((size + q) * width) (n + 1) e
         ≡ mul_k (add_k start (mul_k e step)) (row_value k_ops rows.old (q * width) n e) }
     ensures low { (e : K) (q : ℕ) → q < size → row_value k_ops rows.new (q * width) (n + 1) e
         ≡ sub_k (row_value k_ops rows.old (q * width) n e)

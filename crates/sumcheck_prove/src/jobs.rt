@@ -159,7 +159,8 @@ pub(crate) fn worked<R: Wait>(
     requires few { vec_len jobs ≤ crew.old.parts }
     ensures crew { crew.new ≡ crew.old }
     ensures parts { vec_len parts.new ≡ vec_len parts.old }
-    ensures jobs { result.items ≡ map (λ part. round_of (job_of folds r none part)) parts.old.items }
+    ensures jobs { result.items
+        ≡ map (λ part. round_of (job_of folds r none part)) parts.old.items }
 {
     load(parts, &mut jobs, folds, r, none);
     crew.round(rt, jobs)
