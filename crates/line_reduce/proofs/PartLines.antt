@@ -9,6 +9,7 @@ use Rattle.field_ext.specs.Multilinear.{eq_poly, folded_all}
 use Rattle.field_ext.proofs.api.KLaws.{k_laws}
 use Rattle.mle_table.specs.Shape.{AreBase}
 use Rattle.mle_table.proofs.api.SumLaws.{sum_below-same}
+use Rattle.mle_table.proofs.api.Written.{base_range}
 use Rattle.gkr_layers.specs.Sumcheck.{point_between, line_polynomial}
 use Rattle.gkr_layers.proofs.api.Lines.{value-line_polynomial}
 use Rattle.gkr_layers.proofs.api.Degree.{length-line_polynomial}
@@ -99,11 +100,3 @@ parts_fold values b c n e v w p u =
     part_row values (take 11 b) (take 11 c) n p e u
     ∙ part_folds values (take 11 b) (take 11 c) p e (omega (arith, length-take 11 b)) (omega (arith, length-take 11 c))
     ∙ ap (λ (rs : List K). get_or (folded_all k_ops values rs) p zero_k) (points_cut k_ops k_laws 11 b c e v)
-
--- a range of values of the base field
-pub base_range : (values : List K) (from size : ℕ) → AreBase values → AreBase (take size (drop from values))
-base_range values from size base i = by_size (cases_lt i size)
-  where
-    by_size : (i < size) ⊎ (size ≤ i) → (get_or (take size (drop from values)) i zero_k).im ≡ of 0
-    by_size (inl u) = ap (λ (x : K). x.im) (get_or-take size (drop from values) i zero_k u ∙ get_or-drop from values i zero_k) ∙ base (from + i)
-    by_size (inr u) = let past : length (take size (drop from values)) ≤ i = omega (arith, length-take size (drop from values)) in ap (λ (x : K). x.im) (get_or_past (take size (drop from values)) i zero_k past)

@@ -1,7 +1,8 @@
 -- Lists that are written element by element, and values of the base field as elements of K
-use Rattle.std.proofs.Common.{◌≡◌, ℕ, zero, suc, ◌<◌, List, [], ◌∷◌, length, map, get_or, refl, sym, ◌∙◌, arith}
-use Rattle.std.proofs.lemmas.List.{get_or_default, get_or-map, length-map, same_lists}
-use Rattle.field_ext.specs.Field.{F, embed_k}
+use Rattle.std.proofs.Common.{◌≡◌, ℕ, zero, suc, ◌+◌, ◌<◌, ◌≤◌, ◌⊎◌, inl, inr, List, [], ◌∷◌, length, map, take, drop, get_or, get_or-take, get_or-drop, length-take, refl, sym, ◌∙◌, ap, arith}
+use Rattle.std.proofs.lemmas.Bool.{cases_lt}
+use Rattle.std.proofs.lemmas.List.{get_or_default, get_or-map, get_or_past, length-map, same_lists}
+use Rattle.field_ext.specs.Field.{F, K, embed_k, of, zero_k}
 use Rattle.mle_table.specs.Shape.{AreBase}
 
 -- a list that was written element by element
@@ -14,3 +15,11 @@ pub embedded_base : (xs : List F) → AreBase (map embed_k xs)
 embedded_base [] i = refl
 embedded_base (x ∷ xs) zero = refl
 embedded_base (x ∷ xs) (suc i) = embedded_base xs i
+
+-- a range of values of the base field
+pub base_range : (values : List K) (from size : ℕ) → AreBase values → AreBase (take size (drop from values))
+base_range values from size base i = by_size (cases_lt i size)
+  where
+    by_size : (i < size) ⊎ (size ≤ i) → (get_or (take size (drop from values)) i zero_k).im ≡ of 0
+    by_size (inl u) = ap (λ (x : K). x.im) (get_or-take size (drop from values) i zero_k u ∙ get_or-drop from values i zero_k) ∙ base (from + i)
+    by_size (inr u) = let past : length (take size (drop from values)) ≤ i = omega (arith, length-take size (drop from values)) in ap (λ (x : K). x.im) (get_or_past (take size (drop from values)) i zero_k past)
