@@ -6,7 +6,7 @@ use Rattle.field_ext.specs.Ring.{Ops, Laws}
 use Rattle.field_ext.proofs.api.Rings.{zero_add}
 use Rattle.circuit_core.specs.declared.gate.CircuitGate.{CircuitGate}
 use Rattle.wiring_poly.specs.Wiring.{sum_gates}
-use Rattle.gate_gather.specs.Gathering.{given_from, Gathers, AreSent}
+use Rattle.gate_gather.specs.Gathering.{given_from, Gathers}
 
 -- a place of a table is the place from its first on
 same_place : (i place from x : ℕ) → from + i ≡ place → (i == x) ≡ (place == from + x)
@@ -47,23 +47,6 @@ module _ {A : Type 0} (o : Ops A) (l : Laws A o) where
     abbrev given : ℕ → List CircuitGate → ℕ → A
     given g gates x = sum_gates o g gates (λ g gate. if place gate == from + x then weight g gate else o.zero)
 
-    pub sent_none : (t : List A) (g g' : ℕ) → g' ≡ g → AreSent o t t from gates g g' place weight
-    sent_none t g g' e x u = ap (λ (n : ℕ). o.add (get_or t x o.zero) (given_from o n gates place weight (from + x))) e
-
-    -- one gate more
-    pub sent_more : (old now new : List A) (first g next : ℕ) (d : CircuitGate) → g < length gates → next ≡ g + 1 → length now ≡ length old →
-        ((x : ℕ) → x < length now → get_or new x o.zero ≡ o.add (get_or now x o.zero) (if place (get_or gates g d) == from + x then weight g (get_or gates g d) else o.zero)) →
-        AreSent o old now from gates first g place weight → AreSent o old new from gates first next place weight
-    sent_more old now new first g next d u n same e before x v =
-        ap (λ (m : ℕ). o.add (get_or new x o.zero) (given_from o m gates place weight (from + x))) n
-        ∙ ap (λ (y : A). o.add y (given_from o (g + 1) gates place weight (from + x))) (e x (omega (arith, v, same)))
-        ∙ l.add_assoc (get_or now x o.zero) (if place (get_or gates g d) == from + x then weight g (get_or gates g d) else o.zero) (given_from o (g + 1) gates place weight (from + x))
-        ∙ ap (λ (gs : List CircuitGate). o.add (get_or now x o.zero) (given g gs x)) (sym (drop_more gates g d u))
-        ∙ before x v
-
-    pub sent_to : (old new : List A) (first g g' : ℕ) → g' ≡ g → AreSent o old new from gates first g place weight → AreSent o old new from gates first g' place weight
-    sent_to old new first g g' e sent x u = ap (λ (n : ℕ). o.add (get_or new x o.zero) (given_from o n gates place weight (from + x))) e ∙ sent x u
-
     -- what is there and what the gates from position g on give is what all gates give
     abbrev pub AreSentBefore : List A → ℕ → Type 0
     AreSentBefore t g = (x : ℕ) → x < length t → o.add (get_or t x o.zero) (given_from o g gates place weight (from + x)) ≡ given_from o 0 gates place weight (from + x)
@@ -73,13 +56,17 @@ module _ {A : Type 0} (o : Ops A) (l : Laws A o) where
         ap₂ (λ (y : A) (n : ℕ). o.add y (given_from o n gates place weight (from + x))) (none x) e
         ∙ zero_add o l (given_from o 0 gates place weight (from + x))
 
-    pub gone_on : (t new : List A) (g h h' g' : ℕ) → g ≡ h → g' ≡ h' → length new ≡ length t → AreSentBefore t g → AreSent o t new from gates h h' place weight → AreSentBefore new g'
-    gone_on t new g h h' g' e e' same before sent x u =
-        let v : x < length t = omega (arith, u, same) in
-        ap (λ (n : ℕ). o.add (get_or new x o.zero) (given_from o n gates place weight (from + x))) e'
-        ∙ sent x v
-        ∙ ap (λ (n : ℕ). o.add (get_or t x o.zero) (given_from o n gates place weight (from + x))) (sym e)
-        ∙ before x v
+    -- one gate more
+    pub sent_next : (now new : List A) (g next : ℕ) (d : CircuitGate) → g < length gates → next ≡ g + 1 → length new ≡ length now →
+        ((x : ℕ) → x < length now → get_or new x o.zero ≡ o.add (get_or now x o.zero) (if place (get_or gates g d) == from + x then weight g (get_or gates g d) else o.zero)) →
+        AreSentBefore now g → AreSentBefore new next
+    sent_next now new g next d u n same e before x v =
+        let w : x < length now = omega (arith, v, same) in
+        ap (λ (m : ℕ). o.add (get_or new x o.zero) (given_from o m gates place weight (from + x))) n
+        ∙ ap (λ (y : A). o.add y (given_from o (g + 1) gates place weight (from + x))) (e x w)
+        ∙ l.add_assoc (get_or now x o.zero) (if place (get_or gates g d) == from + x then weight g (get_or gates g d) else o.zero) (given_from o (g + 1) gates place weight (from + x))
+        ∙ ap (λ (gs : List CircuitGate). o.add (get_or now x o.zero) (given g gs x)) (sym (drop_more gates g d u))
+        ∙ before x w
 
     pub all_sent : (t : List A) (g : ℕ) → length gates ≤ g → AreSentBefore t g → Gathers o t from gates place weight
     all_sent t g u before x v =

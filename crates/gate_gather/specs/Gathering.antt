@@ -4,6 +4,10 @@ use Rattle.field_ext.specs.Ring.{Ops}
 use Rattle.circuit_core.specs.declared.gate.CircuitGate.{CircuitGate}
 use Rattle.wiring_poly.specs.Wiring.{by_kind, sum_gates}
 
+-- the equality polynomial is read at points of at most so many coordinates
+abbrev pub most_coordinates : ℕ
+most_coordinates = 20
+
 -- the place of a gate's left operand, and of its right one
 abbrev pub left_of : CircuitGate → ℕ
 left_of gate = gate.left
@@ -55,14 +59,6 @@ module _ {A : Type 0} (o : Ops A) where
   Gathers t from gates place weight =
       (x : ℕ) → x < length t
       → slice_index_or t x o.zero ≡ given_from 0 gates place weight (from + x)
-
-  -- the gates from position g to before g' have given to the new table what they give
-  abbrev pub AreSent : List A → List A → ℕ → List CircuitGate → ℕ → ℕ → (CircuitGate → ℕ)
-      → (ℕ → CircuitGate → A) → Type 0
-  AreSent old new from gates g g' place weight =
-      (x : ℕ) → x < length old
-      → slice_index_or new x o.zero ⊕ given_from g' gates place weight (from + x)
-      ≡ slice_index_or old x o.zero ⊕ given_from g gates place weight (from + x)
 
 -- the tables of the first phase, by left operands
 pub record GathersLeft (A : Type 0) (o : Ops A) (gates : List CircuitGate) (weight : ℕ → A)

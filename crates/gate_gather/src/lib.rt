@@ -23,5 +23,5 @@ mod zeros;
 pub use gathering::{gather_left, gather_right};
 pub use lazy_sum::LazySum;
 pub use operand::{Base, Operand, Whole};
-pub use weights::{EqualityAt, ROW, Weights};
+pub use weights::{EqualityAt, Weights};
 pub use zeros::{clear, is_zero};

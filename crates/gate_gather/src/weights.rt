@@ -1,17 +1,15 @@
 //! The weights of positions.
 
-ghost use Rattle.std.specs.Prelude.{◌≡◌, ◌≤◌, ◌<◌, ◌+◌, ◌*◌, ◌^◌, ℕ, length, slice_index_or};
-ghost use Rattle.field_ext.specs.Field.{K, k_ops, zero_k};
+ghost use Rattle.std.specs.Prelude.{◌≡◌, ◌≤◌, ◌<◌, ◌^◌, ℕ, length};
+ghost use Rattle.field_ext.specs.Field.{K, k_ops};
 ghost use Rattle.field_ext.specs.Multilinear.{eq_poly};
+ghost use Rattle.gate_gather.specs.Gathering.{most_coordinates};
 
 use field_ext::Ext;
 use mle_table::SplitEquality;
 use std::marker::Model;
 
-/// How many positions a row has.
-pub const ROW: usize = 1024;
-
-/// A weight for each of so many positions, which are written row by row.
+/// A weight for each of so many positions.
 pub trait Weights {
     /// What has to hold of the weights, for how many positions there are some, and what they are.
     ghost holds: { Self → Type 0 };
@@ -20,15 +18,11 @@ pub trait Weights {
 
     ghost weight: { Self → ℕ → K };
 
-    /// Writes the weights of `count` positions, one to 1,024 of them, from `1024 * row` on.
-    fn write_row(&self, row: usize, count: usize, values: &mut [Ext])
+    /// The weight of a position.
+    fn at(&self, position: usize) -> Ext
         requires holds { holds self.now }
-        requires some { 0 < count }
-        requires few { count ≤ 1024 }
-        requires within { 1024 * row + count ≤ positions self.now }
-        requires capacity { count ≤ length values.old }
-        ensures { (i : ℕ) → i < count
-            → slice_index_or values.new i zero_k ≡ weight self.now (1024 * row + i) };
+        requires within { position < positions self.now }
+        ensures { result ≡ weight self.now position };
 }
 
 /// The equality polynomial at a point of at most 20 coordinates.
@@ -42,18 +36,20 @@ impl<'a> Model for EqualityAt<'a> {
     ghost use Rattle.std.specs.Prelude.{◌≤◌, List, length};
     ghost use Rattle.field_ext.specs.Field.{K};
     ghost use Rattle.mle_table.specs.SplitEquality.{IsSplitAt};
+    ghost use Rattle.gate_gather.specs.Gathering.{most_coordinates};
 
     ghost Value = { List K };
 
     ghost view = { λ e. e.point.now };
 
-    ghost invariant = { λ e. (length e.point.now ≤ 20) × IsSplitAt e.point.now e.tables };
+    ghost invariant = { λ e. (length e.point.now ≤ most_coordinates)
+        × IsSplitAt e.point.now e.tables };
 }
 
 impl<'a> EqualityAt<'a> {
     /// The polynomial at this point.
     pub fn new(point: &'a [Ext]) -> EqualityAt<'a>
-        requires { length point.now ≤ 20 }
+        requires { length point.now ≤ most_coordinates }
         ensures { result ≡ point.now }
     {
         EqualityAt {

@@ -1,6 +1,6 @@
 //! Tables of zeros.
 
-ghost use Rattle.std.specs.Prelude.{◌≡◌, ◌≤◌, ◌+◌, ℕ, IsTrue, length, slice_index_or};
+ghost use Rattle.std.specs.Prelude.{◌≡◌, ◌≤◌, ◌+◌, ◌↔◌, ℕ, IsTrue, length, slice_index_or};
 ghost use Rattle.field_ext.specs.Field.{zero_k};
 ghost use Rattle.gate_gather.specs.Scaling.{AreZeros};
 
@@ -18,7 +18,7 @@ pub fn clear(table: &mut [Ext])
 /// Whether `count` values of a table, from the place `from` on, are all 0.
 pub fn is_zero(table: &[Ext], from: usize, count: usize) -> bool
     requires { from + count ≤ length table.now }
-    ensures { IsTrue result → AreZeros table.now from count }
+    ensures { IsTrue result ↔ AreZeros table.now from count }
 {
     let mut most: u32 = 0;
     for i in 0..count {

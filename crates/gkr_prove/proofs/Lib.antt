@@ -2,4 +2,3 @@ pub mod api
 mod HasSteps
 mod HonestSteps
 mod Begun
-mod Crossing

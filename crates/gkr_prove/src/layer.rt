@@ -10,21 +10,16 @@ ghost use Rattle.gkr_layers.specs.Honest.{IsHonestLayer};
 ghost use Rattle.gkr_layers.specs.Layers.{next_place};
 ghost use Rattle.gkr_layers.specs.ClaimPlace.{place_of};
 ghost use Rattle.gkr_prove.specs.Kept.{kept_place};
-ghost use Rattle.phase_run.specs.Work.{IsWorkerCount};
 
 use crate::kept::KeptPlace;
 use crate::last::last_with;
-use crate::rounds::{ProvedRounds, prove_rounds};
+use crate::rounds::{ProvedRounds, Rounds};
 use circuit_core::CircuitGate;
 use gkr_layers::ClaimPlace;
-use io_edge::Gate;
 use mle_table::Table;
 use proof_wire::{LayerMessages, Listed, ProofForm};
-use round_tables::{Buffers, GateTables};
+use round_tables::{Buffers, OpenTables};
 use std::alloc::{AllocError, Global};
-use std::marker::{Send, Sync};
-use std::sync::Wait;
-use std::thread::Threads;
 use transcript_fs::Challenges;
 
 /// A layer's messages, the place of the claim that they lead to, and the buffers that it used.
@@ -37,19 +32,17 @@ pub(crate) struct ProvedLayer {
 
 /// Proves a layer of at most 1,048,576 gates over the values of the layer below, which are of the base field, at the place of the
 /// claim on it.
-pub(crate) fn prove_layer<R: Threads + Wait + Sync, C: Challenges + Send, G: Gate>(
-    rt: &R,
+pub(crate) fn prove_layer<'a, C: Challenges, P: Rounds<'a>>(
     alloc: Global,
     form: ProofForm,
     buffers: Buffers,
-    gates: &[CircuitGate],
-    values: &Table,
+    gates: &'a [CircuitGate],
+    values: &'a Table,
     place: &ClaimPlace<'_>,
     challenges: &mut C,
-    workers: u32,
-    gate: &G,
+    prover: &mut P,
 ) -> Result<ProvedLayer, AllocError>
-    requires workers { IsWorkerCount workers }
+    requires ready { P.ready prover.old }
     requires layer { IsLayer K values.now.k gates.now values.now.items (place_of place.now) }
     requires base { AreBase values.now.items }
     requires few { length gates.now ≤ 1048576 }
@@ -65,15 +58,16 @@ pub(crate) fn prove_layer<R: Threads + Wait + Sync, C: Challenges + Send, G: Gat
     ensures state { IfOk result
         (λ proved. C.state challenges.new ≡ state_after C.source (C.state challenges.old)
         (messages_of proved.messages)) }
+    ensures ready { IfOk result (λ _. P.ready prover.new) }
 {
     let k = values.k() as usize;
-    let tables = GateTables::start_at(buffers, gates, values, place)?;
+    let tables = OpenTables::start_at(buffers, gates, values, place)?;
     let ProvedRounds {
         messages,
         drawn,
         buffers,
         line,
-    } = prove_rounds(rt, alloc, form, tables, values, challenges, workers, gate)?;
+    } = prover.rounds(alloc, form, tables, values, challenges)?;
     let (left, right) = drawn.as_slice().split_at(k);
     let last = last_with(alloc, form, values, left, right, line)?;
     challenges.absorb(&last);

@@ -10,8 +10,8 @@ ghost use Rattle.phase_run.specs.Work.{IsWorkerCount};
 ghost use Rattle.proof_wire.specs.Lists.{all_messages, HaveShape};
 ghost use Rattle.gkr_layers.specs.Honest.{AreHonestMessages, IsHonestProof};
 
+use crate::crewed::{prove_layers, widest_layer};
 use crate::kept::KeptPlace;
-use crate::layers::prove_layers;
 use circuit_core::Circuit;
 use circuit_eval::Values;
 use field_ext::Ext;
@@ -141,9 +141,6 @@ pub fn prove_as<R: Threads + Wait + Sync, C: Challenges + Send, G: Gate>(
 
 /// Buffers for the working tables of any layer of a circuit. Err only where no memory is found.
 pub fn buffers_for(alloc: Global, circuit: &Circuit) -> Result<Buffers, AllocError> {
-    let mut widest = 0;
-    for layer in 0..circuit.height() + 1 {
-        widest = widest.max(circuit.width(layer));
-    }
+    let widest = widest_layer(circuit);
     Buffers::new(alloc, widest, widest)
 }

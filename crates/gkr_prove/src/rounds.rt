@@ -1,30 +1,17 @@
 //! The rounds of a layer.
 
-ghost use Rattle.std.specs.Prelude.{◌≡◌, ◌+◌, ◌<◌, ◌≤◌, IfOk, IfSome, None, [], IsTrue};
+ghost use Rattle.std.specs.Prelude.{◌≡◌, ◌+◌, ◌≤◌, IfOk, None, [], IsTrue};
 ghost use Rattle.mle_table.specs.Shape.{AreBase};
 ghost use Rattle.transcript_fs.specs.Source.{Source};
-ghost use Rattle.phase_run.specs.Work.{IsWorkerCount};
-ghost use Rattle.gkr_prove.specs.Rounds.{IsNoted, AreBegun, IsLineFor, IsLineAhead};
+ghost use Rattle.gkr_prove.specs.Rounds.{IsNoted, AreBegun, IsLineAhead};
 
-use crate::crewed::{LayerLead, LedRounds, run_crew};
 use field_ext::Ext;
-use io_edge::Gate;
-use line_reduce::part_count;
 use mle_table::Table;
 use proof_wire::{ProofForm, Round};
-use round_tables::{Buffers, GateTables};
+use round_tables::{Buffers, GateTables, OpenTables};
 use std::alloc::{AllocError, Global};
-use std::marker::{Send, Sync};
-use std::sync::Wait;
-use std::thread::Threads;
-use sumcheck_prove::{LineJobs, bind_round, jobs_for, round};
+use sumcheck_prove::{Entry, round_alone};
 use transcript_fs::Challenges;
-
-/// The first round of a layer has so many pairs where a crew pays.
-const PAIRS_FOR_A_CREW: usize = 2048;
-
-/// The most parts that the tables of a layer have.
-const PARTS: usize = 512;
 
 /// The messages of all rounds of a layer, the challenge after each, the buffers that the layer used, and the coefficients of its
 /// line, where a crew has worked it.
@@ -36,87 +23,64 @@ pub(crate) struct ProvedRounds {
     pub(crate) line: Option<Vec<Ext>>,
 }
 
-/// Proves all rounds of a layer over values of the base field: by a crew where there are workers for one and the layer is wide
-/// enough, which then works the line too.
-pub(crate) fn prove_rounds<'a, R: Threads + Wait + Sync, C: Challenges + Send, G: Gate>(
-    rt: &R,
-    alloc: Global,
-    form: ProofForm,
-    tables: GateTables<'a>,
-    values: &'a Table,
-    challenges: &mut C,
-    workers: u32,
-    gate: &G,
-) -> Result<ProvedRounds, AllocError>
-    requires workers { IsWorkerCount workers }
-    requires begun { tables.bound ≡ [] }
-    requires here { tables.lent ≡ [] }
-    requires most { values.now.k ≤ 20 }
-    requires k { tables.k ≡ values.now.k }
-    requires base { AreBase values.now.items }
-    requires has { IsTrue (C.source.has (C.state challenges.old) (tables.k + tables.k)) }
-    ensures rounds { IfOk result (λ rounds. AreBegun C.source tables.entry
-        (C.state challenges.old) (tables.entry.k + tables.entry.k) rounds.messages.items
-        rounds.drawn.items (C.state challenges.new)) }
-    ensures line { IfOk result (λ rounds. IsLineAhead values.now.k values.now.items
-        rounds.drawn.items rounds.line) }
-{
-    if workers == 1 || tables.rounds_left() == 0 || tables.pairs() < PAIRS_FOR_A_CREW {
-        return rounds_alone(rt, alloc, tables, challenges, workers, gate);
-    }
-    let parts = tables.pieces().clamp(1, PARTS);
-    let lead = LayerLead {
-        alloc,
-        jobs: jobs_for(alloc, parts)?,
-        tables,
-        values,
-        line: line_jobs(alloc, form, values, parts)?,
-        challenges,
-    };
-    let LedRounds {
-        challenges: back,
-        rounds,
-    } = run_crew(rt, alloc, parts as u32, workers, gate, lead);
-    let _ = back;
-    match rounds {
-        Some(rounds) => Ok(rounds),
-        None => Err(AllocError),
+/// What proves the rounds of one layer after another.
+pub(crate) trait Rounds<'a> {
+    /// What has to hold of it before a layer, and holds after.
+    ghost ready: { Self → Type 0 };
+
+    /// Proves all rounds of a layer over values of the base field, and may work the layer's line too. Err only where no memory is found.
+    fn rounds<C: Challenges>(
+        &mut self,
+        alloc: Global,
+        form: ProofForm,
+        tables: OpenTables<'a>,
+        values: &'a Table,
+        challenges: &mut C,
+    ) -> Result<ProvedRounds, AllocError>
+        requires ready { ready self.old }
+        requires begun { tables.bound ≡ [] }
+        requires most { values.now.k ≤ 20 }
+        requires k { tables.k ≡ values.now.k }
+        requires base { AreBase values.now.items }
+        requires has { IsTrue (C.source.has (C.state challenges.old) (tables.k + tables.k)) }
+        ensures rounds { IfOk result (λ rounds. AreBegun C.source tables.entry
+            (C.state challenges.old) (tables.entry.k + tables.entry.k) rounds.messages.items
+            rounds.drawn.items (C.state challenges.new)) }
+        ensures line { IfOk result (λ rounds. IsLineAhead values.now.k values.now.items
+            rounds.drawn.items rounds.line) }
+        ensures ready { IfOk result (λ _. ready self.new) };
+}
+
+/// The calling thread, which passes an entry with each piece of a round.
+#[derive(Drop)]
+pub(crate) struct Alone<E> {
+    pub(crate) entry: E,
+}
+
+impl<'a, E: Entry> Rounds<'a> for Alone<E> {
+    ghost use Rattle.std.specs.Prelude.{⊤};
+
+    ghost ready = { λ a. ⊤ };
+
+    fn rounds<C: Challenges>(
+        &mut self,
+        alloc: Global,
+        _form: ProofForm,
+        tables: OpenTables<'a>,
+        _values: &'a Table,
+        challenges: &mut C,
+    ) -> Result<ProvedRounds, AllocError> {
+        rounds_alone(alloc, tables.gathered(), challenges, &self.entry)
     }
 }
 
-/// What a crew for so many parts takes for the line of a layer, if the layer ends in one that has parts.
-fn line_jobs(
-    alloc: Global,
-    form: ProofForm,
-    values: &Table,
-    parts: usize,
-) -> Result<Option<LineJobs>, AllocError>
-    requires most { values.now.k ≤ 20 }
-    requires few { parts ≤ 512 }
-    ensures { IfOk result (λ line. IfSome line (λ n. IsLineFor n values.now.k parts)) }
-{
-    let Some(count) = part_count(values.k()) else {
-        return Ok(None);
-    };
-    if parts < count {
-        return Ok(None);
-    }
-    match form {
-        ProofForm::Line => Ok(Some(LineJobs::new(alloc, count)?)),
-        ProofForm::Pair => Ok(None),
-    }
-}
-
-/// Proves all rounds of a layer, with threads that are started for a round, if any.
-fn rounds_alone<R: Threads + Sync, C: Challenges, G: Gate>(
-    rt: &R,
+/// Proves all rounds of a layer on the calling thread.
+fn rounds_alone<C: Challenges, E: Entry>(
     alloc: Global,
     mut tables: GateTables<'_>,
     challenges: &mut C,
-    workers: u32,
-    gate: &G,
+    entry: &E,
 ) -> Result<ProvedRounds, AllocError>
-    requires workers { IsWorkerCount workers }
     requires begun { tables.bound ≡ [] }
     requires here { tables.lent ≡ [] }
     requires has { IsTrue (C.source.has (C.state challenges.old) (tables.k + tables.k)) }
@@ -129,9 +93,9 @@ fn rounds_alone<R: Threads + Sync, C: Challenges, G: Gate>(
     let mut drawn = Vec::new(alloc);
     let count = tables.rounds_left();
     for _number in 0..count {
-        let message = round(rt, alloc, &tables, workers, gate)?;
+        let message = round_alone(&tables, entry);
         let challenge = note(challenges, message, &mut messages, &mut drawn)?;
-        bind_round(rt, alloc, &mut tables, challenge, workers, gate)?;
+        tables.bind(challenge);
     }
     let buffers = tables.into_buffers();
     Ok(ProvedRounds {

@@ -67,6 +67,12 @@ noted old self r size capacity u same =
     ∙ ap (λ (l : List K). l ++ r ∷ []) (λ i. take (same.count i) ((same.challenges i).items))
 
 -- tests on numbers of challenges
+pub same-number : (n k x : ℕ) → n ≡ k → x ≡ (if n == k then x else 0)
+same-number n k x e = grind (arith, nat_tests)
+
+pub other-number : (n k x : ℕ) → n ≢ k → 0 ≡ (if n == k then x else 0)
+other-number n k x e = grind (arith, nat_tests)
+
 pub gates-now : (n k x : ℕ) → n + 1 ≡ k → x ≡ (if n + 1 == k then x else 0)
 gates-now n k x e = grind (arith, nat_tests)
 

@@ -126,11 +126,11 @@ folded-more r ps now i p q u before is after =
 pub behind-read : (r : K) (ps now : List PartTables) (i : ℕ) (p : PartTables) → i < length ps → now ≡ map (folded_part r) (take i ps) ++ drop i ps → p ≡ get_or now i p → p ≡ get_or ps i p
 behind-read r ps now i p u before is = is ∙ ap (λ (l : List PartTables). get_or l i p) before ∙ read-behind r ps i p u
 
-flat-append : (f : PartTables → List K) (a b : List PartTables) → flat f (a ++ b) ≡ flat f a ++ flat f b
+pub flat-append : (f : PartTables → List K) (a b : List PartTables) → flat f (a ++ b) ≡ flat f a ++ flat f b
 flat-append f [] b = refl
 flat-append f (p ∷ a) b = ap (λ (l : List K). f p ++ l) (flat-append f a b) ∙ sym (append_assoc (f p) (flat f a) (flat f b))
 
-front-more : {A : Type 0} (t : List A) (a n : ℕ) → take a t ++ take n (drop a t) ≡ take (a + n) t
+pub front-more : {A : Type 0} (t : List A) (a n : ℕ) → take a t ++ take n (drop a t) ≡ take (a + n) t
 front-more t zero n = ap (λ (k : ℕ). take k t) (omega arith)
 front-more {A} [] (suc a) n = take-nothing n ∙ sym (take-nothing (suc a + n)) where
   take-nothing : (n : ℕ) → take n (let l : List A = [] in l) ≡ []

@@ -18,7 +18,7 @@ use Rattle.round_tables.proofs.PieceValues.{in_left_phase, in_right_phase}
 use Rattle.round_tables.proofs.Halves.{flat-halved, flat-read, length-flat, length-halved}
 
 -- so long as a part has two values it is one of all
-in_many : (k m : ℕ) → cuts k < m → cuts_left k m ≡ cuts k
+pub in_many : (k m : ℕ) → cuts k < m → cuts_left k m ≡ cuts k
 in_many k m u = ap (λ (b : Bool). if b then cuts k else 0) (lt-ltb (cuts k) m u)
 
 in_one : (k m : ℕ) → m ≤ cuts k → cuts_left k m ≡ 0

@@ -100,30 +100,45 @@ module _ {A : Type 0} (o : Ops A) (l : Laws A o) where
           stand = stand-bound bound r m t s h t' s' h' is (omega (arith, now.0, is, next.0, n)) (next.1 ∙ sym now.1) ft fs fh phase.stand;
         }
 
-    -- the last challenge of the first phase, with tables gathered anew by right operands
-    pub bound_middle : IsLayer A k gates values point → (bound t s h : List A) (r : A) (weight : ℕ → A) (t' t'' s'' h'' : List A) → IsPhase A o k gates values point bound t s h → length bound + 1 ≡ k →
-        ((g : ℕ) → g < length gates → weight g ≡ position_weight o point g) → IsFolded o (2 ^ 0) t r t' → t'' ≡ values → length s'' ≡ 2 ^ k → length h'' ≡ 2 ^ k →
-        GathersRight A o gates weight (eq_poly o (bound ++ r ∷ [])) (get_or t' 0 o.zero) 0 s'' h'' → IsPhase A o k gates values point (bound ++ r ∷ []) t'' s'' h''
-    bound_middle layer bound t s h r weight t' t'' s'' h'' phase u pe ft te ls lh gathers =
-        let n = length-bound bound r in
-        let next = in_right_phase k (length (bound ++ r ∷ [])) (omega arith) in
-        let b : List A = bound ++ r ∷ [] in
-        let full : length b ≡ k = omega (arith, n) in
-        let kept : get_or t' 0 o.zero ≡ extension_at o o (λ x. x) values b =
-        sym (ext-nil o l t') ∙ ext-folded o l 0 t t' r [] refl ft ∙ phase.value (omega arith) (r ∷ []) (omega arith) in
+    -- after the last challenge of the first phase the one value of its table is the left operand's
+    pub kept_value : (bound t s h : List A) (r : A) (t' : List A) → IsPhase A o k gates values point bound t s h → length bound + 1 ≡ k → IsFolded o (2 ^ 0) t r t' →
+        get_or t' 0 o.zero ≡ extension_at o o (λ x. x) values (bound ++ r ∷ [])
+    kept_value bound t s h r t' phase u ft = sym (ext-nil o l t') ∙ ext-folded o l 0 t t' r [] refl ft ∙ phase.value (omega arith) (r ∷ []) (omega arith)
+
+    -- the tables that are gathered by right operands begin the second phase
+    pub entered : IsLayer A k gates values point → (b : List A) → length b ≡ k → (weight : ℕ → A) (table scales shifts : List A) →
+        ((g : ℕ) → g < length gates → weight g ≡ position_weight o point g) → table ≡ values → length scales ≡ 2 ^ k → length shifts ≡ 2 ^ k →
+        GathersRight A o gates weight (eq_poly o b) (extension_at o o (λ x. x) values b) 0 scales shifts → IsPhase A o k gates values point b table scales shifts
+    entered layer b full weight table scales shifts pe te ls lh gathers =
+        let next = in_right_phase k (length b) (omega arith) in
         let factor : (g : ℕ) (gate : CircuitGate) → g < length gates → Below gate → factor_of o weight (eq_poly o b) g gate ≡ o.mul (position_weight o point g) (eq_poly o b gate.left) =
         λ g gate v p. ap (λ (x : A). o.mul x (eq_poly o b gate.left)) (pe g v) in
         record {
-          value = λ w. absurd (omega (arith, n, w));
+          value = λ w. absurd (omega (arith, full, w));
           stand = λ w e.
-              let size : length w ≡ k = omega (arith, next.0, e, n) in
+              let size : length w ≡ k = omega (arith, next.0, e, full) in
               ap (λ (i : ℕ). sum_cube o i (λ c. weighted_summand_at o o (λ x. x) k gates values point (b ++ (w ++ c)))) next.1
               ∙ ap (λ (v : List A). weighted_summand_at o o (λ x. x) k gates values point (b ++ v)) (append-nil w)
-              ∙ right_phase o l k gates values point b w s'' h'' full size ls lh layer.operands
-              (gathers-same Below s'' 0 gates (λ gate. gate.right) _ _ layer.operands (λ g gate v p. ap₂ (scale_of o gate) (factor g gate v p) kept) gathers.scaled)
-              (gathers-same Below h'' 0 gates (λ gate. gate.right) _ _ layer.operands (λ g gate v p. ap₂ (shift_of o gate) (factor g gate v p) kept) gathers.shifted)
-              ∙ ap (λ (t : List A). o.add (o.mul (extension_at o o (λ x. x) t w) (extension_at o o (λ x. x) s'' w)) (extension_at o o (λ x. x) h'' w)) (sym te);
+              ∙ right_phase o l k gates values point b w scales shifts full size ls lh layer.operands
+              (gathers-same Below scales 0 gates (λ gate. gate.right) _ _ layer.operands (λ g gate v p. ap (λ (f : A). scale_of o gate f (extension_at o o (λ x. x) values b)) (factor g gate v p)) gathers.scaled)
+              (gathers-same Below shifts 0 gates (λ gate. gate.right) _ _ layer.operands (λ g gate v p. ap (λ (f : A). shift_of o gate f (extension_at o o (λ x. x) values b)) (factor g gate v p)) gathers.shifted)
+              ∙ ap (λ (t : List A). o.add (o.mul (extension_at o o (λ x. x) t w) (extension_at o o (λ x. x) scales w)) (extension_at o o (λ x. x) shifts w)) (sym te);
         }
+
+    -- weights that agree gather the same
+    pub left_weighed : All Below gates → (weight weight' : ℕ → A) (from : ℕ) (scales shifts : List A) → ((g : ℕ) → g < length gates → weight g ≡ weight' g) →
+        GathersLeft A o gates weight values from scales shifts → GathersLeft A o gates weight' values from scales shifts
+    left_weighed operands weight weight' from scales shifts same gathers = record {
+      scaled = gathers-same Below scales from gates (λ gate. gate.left) _ _ operands (λ g gate u p. ap (λ (x : A). scale_of o gate x (get_or values gate.right o.zero)) (same g u)) gathers.scaled;
+      shifted = gathers-same Below shifts from gates (λ gate. gate.left) _ _ operands (λ g gate u p. ap (λ (x : A). shift_of o gate x (get_or values gate.right o.zero)) (same g u)) gathers.shifted;
+    }
+
+    pub right_weighed : All Below gates → (weight weight' left : ℕ → A) (value : A) (from : ℕ) (scales shifts : List A) → ((g : ℕ) → g < length gates → weight g ≡ weight' g) →
+        GathersRight A o gates weight left value from scales shifts → GathersRight A o gates weight' left value from scales shifts
+    right_weighed operands weight weight' left value from scales shifts same gathers = record {
+      scaled = gathers-same Below scales from gates (λ gate. gate.right) _ _ operands (λ g gate u p. ap (λ (x : A). scale_of o gate (o.mul x (left gate.left)) value) (same g u)) gathers.scaled;
+      shifted = gathers-same Below shifts from gates (λ gate. gate.right) _ _ operands (λ g gate u p. ap (λ (x : A). shift_of o gate (o.mul x (left gate.left)) value) (same g u)) gathers.shifted;
+    }
 
 -- the pairs of a round fit the tables
 pub half_fits : (k n size : ℕ) → 1 ≤ k → n < k + k → size ≡ 2 ^ k → 2 * 2 ^ (left_in_phase k n - 1) ≤ size

@@ -1,14 +1,16 @@
 -- What holds of the structures that keep a layer's tables
-use Rattle.std.specs.Prelude.{◌≡◌, ℕ, ◌+◌, ◌-◌, ◌^◌, ◌≤◌, ◌<◌, true, false, IsTrue, List, [], ◌∷◌, ◌++◌, length, map, take, vec_len, if◌then◌else◌, All, Option, Some, None}
+use Rattle.std.specs.Prelude.{◌≡◌, ⊤, ℕ, ◌+◌, ◌-◌, ◌^◌, ◌≤◌, ◌<◌, true, false, IsTrue, List, [], ◌∷◌, ◌++◌, length, map, take, vec_len, if◌then◌else◌, All, Option, Some, None}
 use Rattle.std.specs.declared.snapshot.Snapshot.{Snapshot}
-use Rattle.field_ext.specs.Field.{K, k_ops, add_k, mul_k}
+use Rattle.field_ext.specs.Field.{K, k_ops, add_k}
 use Rattle.mle_table.specs.Shape.{AreBase}
+use Rattle.circuit_core.specs.declared.gate.CircuitGate.{CircuitGate}
 use Rattle.round_tables.specs.declared.layer_gates.LayerGates.{LayerGates}
 use Rattle.round_tables.specs.declared.working.Working.{Working}
 use Rattle.gkr_layers.specs.Places.{Place}
 use Rattle.gkr_layers.specs.Places.Place.{At, AtBoth}
 use Rattle.round_tables.specs.Weights.{position_weight, HasRows, product_at}
-use Rattle.field_ext.specs.Multilinear.{folded}
+use Rattle.field_ext.specs.Multilinear.{eq_poly, extension_at, folded}
+use Rattle.gate_gather.specs.Gathering.{GathersLeft, GathersRight}
 use Rattle.round_tables.specs.PartTables.{PartTables, HasCapacity, cuts, flat_table, flat_scales, flat_shifts, folded_part, AreLaidOut}
 use Rattle.round_tables.specs.LayerSum.{left_in_phase}
 use Rattle.round_tables.specs.Phase.{IsLayer, IsPhase}
@@ -21,7 +23,7 @@ place_of layer = if layer.both then AtBoth layer.first.point.items layer.second.
 -- the weights of its positions by the tables that are kept
 abbrev pub weights_of : LayerGates → ℕ → K
 weights_of layer = λ g. if layer.both then add_k (product_at layer.first g)
-    (mul_k layer.weight (product_at layer.second g)) else product_at layer.first g
+    (product_at layer.second g) else product_at layer.first g
 
 -- the layer is one, and the weights of its positions are kept with it
 pub record IsLayerGates (layer : LayerGates) : Type 0 where
@@ -49,6 +51,26 @@ pub record HasCapacities (k : ℕ) (w : Working) : Type 0 where
   pub many_capacity : All (HasCapacity (2 ^ (k - cuts k))) w.many.items
   pub one : length w.one.items ≡ 1
   pub one_capacity : All (HasCapacity (2 ^ cuts k)) w.one.items
+
+-- no challenge is bound yet, or all of the first phase are and this is the left operand's value
+abbrev pub IsBeginning : ℕ → List K → K → List K → Type 0
+IsBeginning k values value [] = ⊤
+IsBeginning k values value (r ∷ rs) =
+    (length (r ∷ rs) ≡ k) × (value ≡ extension_at k_ops k_ops (λ x. x) values (r ∷ rs))
+
+-- what the gates give in the phase that begins, to the places from `from` on
+abbrev pub GathersPhase : List CircuitGate → List K → Place K → List K → ℕ → List K → List K → Type 0
+GathersPhase gates values place [] from scales shifts =
+    GathersLeft K k_ops gates (position_weight k_ops place) values from scales shifts
+GathersPhase gates values place (r ∷ rs) from scales shifts =
+    GathersRight K k_ops gates (position_weight k_ops place) (eq_poly k_ops (r ∷ rs))
+    (extension_at k_ops k_ops (λ x. x) values (r ∷ rs)) from scales shifts
+
+-- a phase begins, for which there are buffers
+pub record Begins (layer : LayerGates) (w : Working) (value : K) : Type 0 where
+  pub capacities : HasCapacities layer.k w
+  pub counted : w.count ≤ layer.k
+  pub beginning : IsBeginning layer.k layer.values.now.items value (bound_of w)
 
 -- with m coordinates of the phase left, the tables are laid out in parts
 pub record WorksFor (layer : LayerGates) (w : Working) : Type 0 where

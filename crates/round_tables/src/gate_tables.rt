@@ -14,6 +14,7 @@ ghost use Rattle.round_tables.specs.PartTables.{PartTables, folded_part, part_su
 
 use crate::buffers::{Buffers, TooSmallBuffers};
 use crate::layer_gates::LayerGates;
+use crate::open::OpenTables;
 use crate::part::Part;
 use crate::working::{Working, pair_count};
 use circuit_core::{Circuit, CircuitGate};
@@ -30,10 +31,10 @@ use step_count::Steps;
 /// The sumcheck of a layer, with some of its challenges bound. Its tables are in parts, which can be lent.
 #[derive(Drop)]
 pub struct GateTables<'a> {
-    layer: LayerGates<'a>,
-    working: Working,
+    pub(crate) layer: LayerGates<'a>,
+    pub(crate) working: Working,
     // The tables as they were when their parts were lent.
-    lent: Option<Snapshot<Working>>,
+    pub(crate) lent: Option<Snapshot<Working>>,
 }
 
 impl<'a> Model for GateTables<'a> {
@@ -94,18 +95,7 @@ impl<'a> GateTables<'a> {
         ensures place { IfOk result (λ sum. sum.place ≡ At point.now) }
         ensures bound { IfOk result (λ sum. (sum.bound ≡ []) × (sum.lent ≡ [])) }
     {
-        let Buffers {
-            first,
-            second,
-            working,
-        } = buffers.fitted(gates.len(), values.k() as usize, point, point)?;
-        let layer = LayerGates::new(gates, values, first, second);
-        let working = working.begin(&layer);
-        Ok(GateTables {
-            layer,
-            working,
-            lent: None,
-        })
+        Ok(OpenTables::start_in(buffers, gates, values, point)?.gathered())
     }
 
     /// The sumcheck of a layer of a circuit whose claim is at two points, the first with weight 1 and the second with
@@ -154,18 +144,7 @@ impl<'a> GateTables<'a> {
         ensures place { IfOk result (λ sum. sum.place ≡ AtBoth first.now second.now weight) }
         ensures bound { IfOk result (λ sum. (sum.bound ≡ []) × (sum.lent ≡ [])) }
     {
-        let Buffers {
-            first,
-            second,
-            working,
-        } = buffers.fitted(gates.len(), values.k() as usize, first, second)?;
-        let layer = LayerGates::new_two(gates, values, first, second, weight);
-        let working = working.begin(&layer);
-        Ok(GateTables {
-            layer,
-            working,
-            lent: None,
-        })
+        Ok(OpenTables::start_two_in(buffers, gates, values, first, second, weight)?.gathered())
     }
 
     /// The sumcheck of a layer of at most 1,048,576 gates in buffers that are there, wherever the claim is. Err only where they
@@ -185,12 +164,7 @@ impl<'a> GateTables<'a> {
         ensures place { IfOk result (λ sum. sum.place ≡ claim_place.place_of place.now) }
         ensures bound { IfOk result (λ sum. (sum.bound ≡ []) × (sum.lent ≡ [])) }
     {
-        match *place {
-            ClaimPlace::One(point) => GateTables::start_in(buffers, gates, values, point),
-            ClaimPlace::Both(first, second, weight) => {
-                GateTables::start_two_in(buffers, gates, values, first, second, weight)
-            }
-        }
+        Ok(OpenTables::start_at(buffers, gates, values, place)?.gathered())
     }
 
     /// The buffers, for another layer.
@@ -220,6 +194,14 @@ impl<'a> GateTables<'a> {
         ensures { IsTrue result ↔ (length self.now.bound ≡ 0) }
     {
         self.rounds_left() == 2 * self.layer.k
+    }
+
+    /// Whether the next challenge is the last of the first phase.
+    pub fn ends_first(&self) -> bool
+        requires { self.now.lent ≡ [] }
+        ensures { IsTrue result ↔ (length self.now.bound + 1 ≡ self.now.k) }
+    {
+        self.working.count + 1 == self.layer.k
     }
 
     /// How many pieces the next round has: the parts of the tables, each of at least one pair.
@@ -304,6 +286,37 @@ impl<'a> GateTables<'a> {
     {
         let mut steps = Steps::<L>::start(blank);
         self.bind_counted(r, &mut steps);
+    }
+
+    /// Binds the last coordinate of the first phase to the challenge `r`, and leaves the second phase to be gathered.
+    pub fn bind_open(self, r: Ext) -> OpenTables<'a>
+        requires here { self.lent ≡ [] }
+        requires last { length self.bound + 1 ≡ self.k }
+        ensures { result ≡ record self.entry { bound = self.entry.bound ++ r ∷ [] } }
+    {
+        self.bind_open_from::<Brand>(r, Blank::new(1))
+    }
+
+    fn bind_open_from<L: Ledger>(self, r: Ext, blank: Blank) -> OpenTables<'a>
+        requires here { self.lent ≡ [] }
+        requires last { length self.bound + 1 ≡ self.k }
+        requires name { blank.name ≡ L.name }
+        requires parts { blank.parts ≡ L.parts }
+        requires some { 0 < L.parts }
+        ensures { result ≡ record self.entry { bound = self.entry.bound ++ r ∷ [] } }
+    {
+        let mut steps = Steps::<L>::start(blank);
+        let GateTables {
+            layer,
+            mut working,
+            lent: _,
+        } = self;
+        let value = working.bind_last(&layer, r, &mut steps);
+        OpenTables {
+            layer,
+            working,
+            value,
+        }
     }
 
     /// Whether the parts of the tables are lent.

@@ -1,16 +1,17 @@
 //! A point of a layer's positions, with the equality polynomial there.
 
-ghost use Rattle.std.specs.Prelude.{◌≡◌, ◌≤◌, ◌<◌, ◌+◌, ◌*◌, ◌^◌, ℕ, IfOk, length, slice_index_or, vec_len};
-ghost use Rattle.field_ext.specs.Field.{add_k, mul_k, zero_k};
-ghost use Rattle.round_tables.specs.Weights.{HasRows, HasTables, product_at};
+ghost use Rattle.std.specs.Prelude.{◌≡◌, ◌<◌, ◌/◌, ◌^◌, IfOk, vec_len};
+ghost use Rattle.round_tables.specs.Weights.{HasRows, HasTables, IsSamePoint, IsScaled, product_at, row_positions};
 
 use field_ext::Ext;
-use gate_gather::ROW;
 use mle_table::fill_equality;
 use std::alloc::{AllocError, Global};
 
-/// A point, and the equality polynomial's values there, each a product of one value of each of two tables, so that a row of 1,024
-/// positions shares one of them.
+/// So many positions share a value of the high table.
+const ROW: usize = 1024;
+
+/// A point, and the values of the positions there: those of the equality polynomial, or these by a weight. Each is a product of one
+/// value of each of two tables.
 #[derive(Drop)]
 pub(crate) struct KeptPoint {
     pub(crate) point: Vec<Ext>,
@@ -55,34 +56,37 @@ impl KeptPoint {
         fill_equality(&mut self.high, rest);
     }
 
-    /// Writes the polynomial's values at `count` positions of a row.
-    pub(crate) fn write_row(&self, row: usize, count: usize, values: &mut [Ext])
-        requires low { vec_len self.now.low ≡ 1024 }
-        requires row { row < vec_len self.now.high }
-        requires few { count ≤ 1024 }
-        requires capacity { count ≤ length values.old }
-        ensures { (i : ℕ) → i < count
-            → slice_index_or values.new i zero_k ≡ product_at self.now (1024 * row + i) }
+    /// Multiplies all values by a weight.
+    pub(crate) fn scale(&mut self, weight: Ext)
+        ensures point { self.new.point ≡ self.old.point }
+        ensures low { self.new.low ≡ self.old.low }
+        ensures high { vec_len self.new.high ≡ vec_len self.old.high }
+        ensures scaled { IsScaled weight self.old.high.items self.new.high.items }
     {
-        let high = self.high[row];
-        for i in 0..count {
-            values[i] = self.low[i] * high;
+        for i in 0..self.high.len() {
+            self.high[i] = weight * self.high[i];
         }
     }
 
-    /// Adds the weighted values at `count` positions of a row.
-    pub(crate) fn add_row(&self, row: usize, count: usize, weight: Ext, values: &mut [Ext])
-        requires low { vec_len self.now.low ≡ 1024 }
-        requires row { row < vec_len self.now.high }
-        requires few { count ≤ 1024 }
-        requires capacity { count ≤ length values.old }
-        ensures { (i : ℕ) → i < count
-            → slice_index_or values.new i zero_k ≡ add_k (slice_index_or values.old i zero_k)
-            (mul_k weight (product_at self.now (1024 * row + i))) }
+    /// Keeps the point and the values of another.
+    pub(crate) fn copy(&mut self, other: &KeptPoint) -> Result<(), AllocError>
+        ensures { IfOk result (λ _. IsSamePoint other.now self.new) }
     {
-        let high = weight * self.high[row];
-        for i in 0..count {
-            values[i] = values[i] + self.low[i] * high;
-        }
+        self.point.clear();
+        self.low.clear();
+        self.high.clear();
+        self.point.extend_from_slice(&other.point)?;
+        self.low.extend_from_slice(&other.low)?;
+        self.high.extend_from_slice(&other.high)
+    }
+
+    /// The value of a position.
+    #[inline]
+    pub(crate) fn at(&self, position: usize) -> Ext
+        requires low { vec_len self.now.low ≡ row_positions }
+        requires high { position / row_positions < vec_len self.now.high }
+        ensures { result ≡ product_at self.now position }
+    {
+        self.low[position % ROW] * self.high[position / ROW]
     }
 }

@@ -14,7 +14,7 @@ use gate_gather::Weights;
 use mle_table::Table;
 
 /// The gates of a layer over the `2^k` values of the layer below, and where the claim on it is: at `first`, or at
-/// `first` with weight 1 and `second` with the weight given.
+/// `first` with weight 1 and `second` with the weight given, by which its values are multiplied.
 #[derive(Drop)]
 pub(crate) struct LayerGates<'a> {
     pub(crate) k: usize,
@@ -87,6 +87,7 @@ impl<'a> LayerGates<'a> {
     {
         first.fill();
         second.fill();
+        second.scale(weight);
         LayerGates {
             k: values.k() as usize,
             gates,
@@ -107,10 +108,13 @@ impl<'a> Weights for LayerGates<'a> {
 
     ghost weight = { weights_of };
 
-    fn write_row(&self, row: usize, count: usize, values: &mut [Ext]) {
-        self.first.write_row(row, count, values);
+    #[inline]
+    fn at(&self, position: usize) -> Ext {
+        let first = self.first.at(position);
         if self.both {
-            self.second.add_row(row, count, self.weight, values);
+            first + self.second.at(position)
+        } else {
+            first
         }
     }
 }

@@ -1,13 +1,13 @@
 //! The working tables of a layer's sumcheck.
 
-ghost use Rattle.std.specs.Prelude.{◌≡◌, ◌≢◌, ◌≤◌, ◌<◌, ◌+◌, ◌-◌, ◌*◌, ◌^◌, IfOk, IsTrue, false, [], ◌∷◌, ◌++◌, All, length, if◌then◌else◌, ◌==◌, slice_index_or};
+ghost use Rattle.std.specs.Prelude.{◌≡◌, ◌≢◌, ℕ, ◌≤◌, ◌<◌, ◌+◌, ◌-◌, ◌*◌, ◌^◌, IfOk, IsTrue, false, [], ◌∷◌, ◌++◌, All, length, if◌then◌else◌, ◌==◌, slice_index_or};
 ghost use Rattle.field_ext.specs.Field.{K, k_ops, zero_k};
 ghost use Rattle.field_ext.specs.Multilinear.{eq_poly};
 ghost use Rattle.gate_gather.specs.Gathering.{GathersLeft, GathersRight};
 ghost use Rattle.round_tables.specs.PartTables.{PartTables, HasSize, flat_table, flat_scales, flat_shifts, AreLaidOut};
 ghost use Rattle.field_ext.specs.Polynomial.{coefficients};
 ghost use Rattle.round_tables.specs.LayerSum.{left_in_phase, half_size, part_of_round};
-ghost use Rattle.round_tables.specs.Working.{place_of, weights_of, parts_of, IsLayerGates, HasCapacities, AreSameCapacities, AreFolded, IsAdvanced, WorksFor, bound_of};
+ghost use Rattle.round_tables.specs.Working.{place_of, weights_of, parts_of, IsLayerGates, HasCapacities, AreSameCapacities, AreFolded, IsAdvanced, IsBeginning, GathersPhase, Begins, WorksFor, bound_of};
 
 use crate::layer_gates::{LayerGates, power};
 use crate::part::Part;
@@ -46,26 +46,33 @@ pub(crate) fn pair_count(k: usize, count: usize) -> usize
     power(left - 1)
 }
 
-/// The tables of the first phase, over these values of the layer.
-fn gather_first(layer: &LayerGates<'_>, values: &[Ext], scales: &mut [Ext], shifts: &mut [Ext])
+/// The tables of the first phase, of the places from `from` on, over these values of the layer.
+fn gather_first(
+    layer: &LayerGates<'_>,
+    values: &[Ext],
+    from: usize,
+    scales: &mut [Ext],
+    shifts: &mut [Ext],
+)
     requires layer { IsLayerGates layer.now }
     requires values { values.now ≡ layer.now.values.now.items }
     requires same { length shifts.old ≡ length scales.old }
-    ensures { GathersLeft K k_ops layer.now.gates.now (weights_of layer.now) values.now 0 scales.new
-        shifts.new }
+    ensures { GathersLeft K k_ops layer.now.gates.now (weights_of layer.now) values.now from
+        scales.new shifts.new }
 {
     if layer.base {
-        gather_left::<Base, LayerGates<'_>>(layer.gates, layer, values, 0, scales, shifts);
+        gather_left::<Base, LayerGates<'_>>(layer.gates, layer, values, from, scales, shifts);
     } else {
-        gather_left::<Whole, LayerGates<'_>>(layer.gates, layer, values, 0, scales, shifts);
+        gather_left::<Whole, LayerGates<'_>>(layer.gates, layer, values, from, scales, shifts);
     }
 }
 
-/// The tables of the second phase, where the left operand is bound at this point and has this value.
+/// The tables of the second phase, of the places from `from` on, where the left operand is bound at this point and has this value.
 fn gather_second<L: Ledger>(
     layer: &LayerGates<'_>,
     bound: &[Ext],
     value: Ext,
+    from: usize,
     scales: &mut [Ext],
     shifts: &mut [Ext],
     steps: &mut Steps<L>,
@@ -74,11 +81,46 @@ fn gather_second<L: Ledger>(
     requires bound { length bound.now ≡ layer.now.k }
     requires same { length shifts.old ≡ length scales.old }
     ensures gathers { GathersRight K k_ops layer.now.gates.now (weights_of layer.now)
-        (eq_poly k_ops bound.now) value 0 scales.new shifts.new }
+        (eq_poly k_ops bound.now) value from scales.new shifts.new }
     ensures steps { steps.new ≡ steps.old + length layer.now.gates.now }
 {
     let left = EqualityAt::new(bound);
-    gather_right(layer.gates, layer, &left, value, 0, scales, shifts, steps);
+    gather_right(
+        layer.gates,
+        layer,
+        &left,
+        value,
+        from,
+        scales,
+        shifts,
+        steps,
+    );
+}
+
+/// What the gates give in the phase that begins, to the places from `from` on, where these challenges are bound, if any, and the left
+/// operand has this value then. It takes a step for each gate in the second phase.
+pub(crate) fn gather<L: Ledger>(
+    layer: &LayerGates<'_>,
+    bound: &[Ext],
+    value: Ext,
+    from: usize,
+    scales: &mut [Ext],
+    shifts: &mut [Ext],
+    steps: &mut Steps<L>,
+)
+    requires layer { IsLayerGates layer.now }
+    requires begins { IsBeginning layer.now.k layer.now.values.now.items value bound.now }
+    requires same { length shifts.old ≡ length scales.old }
+    ensures gathers { GathersPhase layer.now.gates.now layer.now.values.now.items
+        (place_of layer.now) bound.now from scales.new shifts.new }
+    ensures steps { steps.new ≡ steps.old
+        + (if length bound.now == layer.now.k then length layer.now.gates.now else 0) }
+{
+    if bound.is_empty() {
+        gather_first(layer, layer.values.values(), from, scales, shifts);
+    } else {
+        gather_second(layer, bound, value, from, scales, shifts, steps);
+    }
 }
 
 impl Working {
@@ -124,22 +166,41 @@ impl Working {
         fit_parts(self.alloc, &mut self.one, &mut self.spare, 1, power(cuts))
     }
 
-    /// Begins the first phase in these buffers, with no challenge bound.
-    pub(crate) fn begin(mut self, layer: &LayerGates<'_>) -> Working
-        requires layer { IsLayerGates layer.now }
-        requires capacities { HasCapacities layer.now.k self }
-        ensures works { WorksFor layer.now result }
-        ensures bound { bound_of result ≡ [] }
+    /// The same buffers with no challenge bound.
+    pub(crate) fn unbound(mut self) -> Working
+        ensures capacities { (k : ℕ) → HasCapacities k self → HasCapacities k result }
+        ensures count { result.count ≡ 0 }
     {
-        gather_first(
+        self.count = 0;
+        self
+    }
+
+    /// Gathers the gates of the phase that begins, where the left operand has this value if it is bound. It takes a step for each
+    /// gate in the second phase.
+    pub(crate) fn gather<L: Ledger>(
+        &mut self,
+        layer: &LayerGates<'_>,
+        value: Ext,
+        steps: &mut Steps<L>,
+    )
+        requires layer { IsLayerGates layer.now }
+        requires begins { Begins layer.now self.old value }
+        ensures works { WorksFor layer.now self.new }
+        ensures bound { bound_of self.new ≡ bound_of self.old }
+        ensures steps { steps.new ≡ steps.old
+            + (if self.old.count == layer.now.k then length layer.now.gates.now else 0) }
+    {
+        let (bound, _) = self.challenges.as_slice().split_at(self.count);
+        gather(
             layer,
-            layer.values.values(),
+            bound,
+            value,
+            0,
             &mut self.scales,
             &mut self.shifts,
+            steps,
         );
-        self.count = 0;
         self.lay_out(layer);
-        self
     }
 
     /// Cuts the values of the layer and what was gathered into parts.
@@ -214,6 +275,20 @@ impl Working {
         }
     }
 
+    /// Folds the parts in use by the next challenge.
+    fn fold_round<L: Ledger>(&mut self, layer: &LayerGates<'_>, r: Ext, steps: &mut Steps<L>)
+        requires layer { IsLayerGates layer.now }
+        requires works { WorksFor layer.now self.old }
+        requires left { self.old.count < layer.now.k + layer.now.k }
+        ensures folded { AreFolded self.old r self.new }
+        ensures steps { steps.new
+            ≡ steps.old + 3 * 2 ^ (left_in_phase layer.now.k self.old.count - 1) }
+    {
+        let _ = layer;
+        let half = self.parts()[0].len() / 2;
+        self.fold(half, r, steps);
+    }
+
     /// Notes a challenge as bound, once the parts are folded by it, and gathers them into one where each has one value.
     fn advance(&mut self, layer: &LayerGates<'_>, old: Snapshot<Working>, r: Ext)
         requires layer { IsLayerGates layer.now }
@@ -243,34 +318,45 @@ impl Working {
         parts.len() > 1 && parts[0].len() == 1
     }
 
-    /// Begins the second phase: the left operand is bound, and its value is the one value of the table.
-    fn turn<L: Ledger>(&mut self, layer: &LayerGates<'_>, steps: &mut Steps<L>)
+    /// Ends the first phase, once the parts are folded, and gives the left operand's value.
+    fn reach(&mut self, layer: &LayerGates<'_>, old: Snapshot<Working>, r: Ext) -> Ext
         requires layer { IsLayerGates layer.now }
-        requires capacities { HasCapacities layer.now.k self.old }
-        requires left { self.old.count ≡ layer.now.k }
-        requires last { AreLaidOut layer.now.k 0 (parts_of self.old) }
-        ensures laid { AreLaidOut layer.now.k layer.now.k (parts_of self.new) }
-        ensures table { flat_table (parts_of self.new) ≡ layer.now.values.now.items }
-        ensures gathers { GathersRight K k_ops layer.now.gates.now (weights_of layer.now)
-            (eq_poly k_ops (bound_of self.old))
-            (slice_index_or (flat_table (parts_of self.old)) 0 zero_k) 0
-            (flat_scales (parts_of self.new)) (flat_shifts (parts_of self.new)) }
-        ensures capacities { HasCapacities layer.now.k self.new }
-        ensures challenges { self.new.challenges ≡ self.old.challenges }
-        ensures count { self.new.count ≡ self.old.count }
-        ensures steps { steps.new ≡ steps.old + length layer.now.gates.now }
+        requires works { WorksFor layer.now old.value }
+        requires folded { AreFolded old.value r self.old }
+        requires left { old.value.count + 1 ≡ layer.now.k }
+        ensures begins { Begins layer.now self.new result }
+        ensures bound { bound_of self.new ≡ bound_of old.value ++ r ∷ [] }
+        ensures count { self.new.count ≡ layer.now.k }
     {
-        let value = self.parts()[0].table()[0];
-        let (bound, _) = self.challenges.as_slice().split_at(layer.k);
-        gather_second(
-            layer,
-            bound,
-            value,
-            &mut self.scales,
-            &mut self.shifts,
-            steps,
-        );
-        self.lay_out(layer);
+        self.advance(layer, old, r);
+        self.only_value(layer)
+    }
+
+    /// The one value of the table that is left at the end of the first phase.
+    fn only_value(&self, layer: &LayerGates<'_>) -> Ext
+        requires { AreLaidOut layer.now.k 0 (parts_of self.now) }
+        ensures { result ≡ slice_index_or (flat_table (parts_of self.now)) 0 zero_k }
+    {
+        let _ = layer;
+        self.parts()[0].table()[0]
+    }
+
+    /// Binds the last challenge of the first phase, and gives the left operand's value.
+    pub(crate) fn bind_last<L: Ledger>(
+        &mut self,
+        layer: &LayerGates<'_>,
+        r: Ext,
+        steps: &mut Steps<L>,
+    ) -> Ext
+        requires layer { IsLayerGates layer.now }
+        requires works { WorksFor layer.now self.old }
+        requires left { self.old.count + 1 ≡ layer.now.k }
+        ensures begins { Begins layer.now self.new result }
+        ensures bound { bound_of self.new ≡ bound_of self.old ++ r ∷ [] }
+    {
+        let old = Snapshot::of(self);
+        self.fold_round(layer, r, steps);
+        self.reach(layer, old, r)
     }
 
     /// Ends a round of the first phase that is not its last, once the parts are folded.
@@ -301,8 +387,8 @@ impl Working {
         ensures bound { bound_of self.new ≡ bound_of old.value ++ r ∷ [] }
         ensures steps { steps.new ≡ steps.old + length layer.now.gates.now }
     {
-        self.advance(layer, old, r);
-        self.turn(layer, steps);
+        let value = self.reach(layer, old, r);
+        self.gather(layer, value, steps);
     }
 
     /// Ends a round of the second phase, once the parts are folded.
@@ -356,8 +442,7 @@ impl Working {
             + (if self.old.count + 1 == layer.now.k then length layer.now.gates.now else 0)) }
     {
         let old = Snapshot::of(self);
-        let half = self.parts()[0].len() / 2;
-        self.fold(half, r, steps);
+        self.fold_round(layer, r, steps);
         self.close_round(layer, old, r, steps);
     }
 

@@ -5,3 +5,4 @@ mod Handed
 mod Ahead
 mod FoldedParts
 mod LineParts
+mod RangeJobs

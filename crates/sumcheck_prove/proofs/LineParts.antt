@@ -3,30 +3,32 @@ use Rattle.std.proofs.Common.{◌≡◌, ℕ, zero, suc, ◌+◌, ◌-◌, ◌*�
 use Rattle.std.proofs.lemmas.Nat.{pow-add}
 use Rattle.std.proofs.lemmas.List.Elements.{All-head, All-tail}
 use Rattle.field_ext.specs.Field.{K}
-use Rattle.line_reduce.specs.Parts.{PartOfLine, values_of, part_line, joined}
+use Rattle.line_reduce.specs.Parts.{PartOfLine, values_of, part_line, worked_part, joined}
+use Rattle.sumcheck_prove.specs.Lines.{LineView}
 use Rattle.phase_run.specs.Work.{IsEachWorked}
 use Rattle.sumcheck_prove.specs.declared.jobs.Job.{Job}
-use Rattle.sumcheck_prove.specs.Jobs.{HasLine, aimed, aimed_line, work_with, work_of, line_of}
+use Rattle.sumcheck_prove.specs.Jobs.{HasLine, IsLineOver, aimed, aimed_option, work_with, work_of, line_of}
 
 pub joined-same : (f g : ℕ → List K) (n : ℕ) → ((k : ℕ) → k < n → f k ≡ g k) → joined f n ≡ joined g n
 joined-same f g zero h = refl
 joined-same f g (suc n) h = ap₂ (λ (xs ys : List K). xs ++ ys) (joined-same f g n (λ k u. h k (omega arith))) (h n (omega arith))
 
 module _ (values b c : List K) where
-  line_worked : (k : ℕ) (job : Job) (o : Option PartOfLine) → IsSome o → k * 2048 + 2048 ≤ length values → line_of (work_with values k job (aimed_line b c o)) ≡ part_line (values_of values k) (take 11 b) (take 11 c)
-  line_worked k job None s u = absurd (cc)
-  line_worked k job (Some part) s u =
-      let p : PartOfLine = record part { b = take 11 b; c = take 11 c } in
-      ap (λ (t : Bool). (if t then p else record p { line = part_line (values_of values k) (take 11 b) (take 11 c) }).line) (le-ltb (length values) (k * 2048 + 2048) u)
+  line_worked : (k : ℕ) (job : Job) (o : Option LineView) → IsLineOver values o → k * 2048 + 2048 ≤ length values → line_of (work_with k job (aimed_option b c o)) ≡ part_line (values_of values k) (take 11 b) (take 11 c)
+  line_worked k job None s u = absurd s
+  line_worked k job (Some line) s u =
+      let p : PartOfLine = record line.part { b = take 11 b; c = take 11 c } in
+      ap (λ (vs : List K). (worked_part vs k p).line) s
+      ∙ ap (λ (t : Bool). (if t then p else record p { line = part_line (values_of values k) (take 11 b) (take 11 c) }).line) (le-ltb (length values) (k * 2048 + 2048) u)
 
   -- a job that has a part of the line gives that part's line
-  job_worked : (k : ℕ) (job : Job) → HasLine job → k * 2048 + 2048 ≤ length values → line_of (work_of values k (aimed b c job)) ≡ part_line (values_of values k) (take 11 b) (take 11 c)
+  job_worked : (k : ℕ) (job : Job) → HasLine values job → k * 2048 + 2048 ≤ length values → line_of (work_of k (aimed b c job)) ≡ part_line (values_of values k) (take 11 b) (take 11 c)
   job_worked k job s u = line_worked k (aimed b c job) job.line s u
 
-  found : (jobs : List Job) → All HasLine jobs → (k : ℕ) → k < length jobs → (job : Job) × HasLine job × (slice_get (map (aimed b c) jobs) k ≡ Some (aimed b c job))
+  found : (jobs : List Job) → All (HasLine values) jobs → (k : ℕ) → k < length jobs → (job : Job) × HasLine values job × (slice_get (map (aimed b c) jobs) k ≡ Some (aimed b c job))
   found [] all k u = absurd (omega arith)
-  found (job ∷ jobs) all zero u = (job, All-head HasLine job jobs all, refl)
-  found (job ∷ jobs) all (suc k) u = found jobs (All-tail HasLine job jobs all) k (omega arith)
+  found (job ∷ jobs) all zero u = (job, All-head (HasLine values) job jobs all, refl)
+  found (job ∷ jobs) all (suc k) u = found jobs (All-tail (HasLine values) job jobs all) k (omega arith)
 
   read : (jobs : List Job) (k : ℕ) (job : Job) → slice_get jobs k ≡ Some job → get_or (map line_of jobs) k [] ≡ line_of job
   read [] k job e = absurd (cc)
@@ -37,19 +39,19 @@ module _ (values b c : List K) where
   read (j ∷ jobs) (suc k) job e = read jobs k job e
 
   -- all jobs give the lines of their parts
-  lines_worked : (jobs worked : List Job) → All HasLine jobs → IsEachWorked (work_of values) (map (aimed b c) jobs) worked → length jobs * 2048 ≤ length values →
+  lines_worked : (jobs worked : List Job) → All (HasLine values) jobs → IsEachWorked work_of (map (aimed b c) jobs) worked → length jobs * 2048 ≤ length values →
       (k : ℕ) → k < length jobs → get_or (map line_of worked) k [] ≡ part_line (values_of values k) (take 11 b) (take 11 c)
   lines_worked jobs worked all each fits k u =
       let h = found jobs all k u in
-      read worked k (work_of values k (aimed b c h.0)) (each k (aimed b c h.0) h.2)
+      read worked k (work_of k (aimed b c h.0)) (each k (aimed b c h.0) h.2)
       ∙ job_worked k h.0 h.1 (omega arith)
 
   -- what a crew was given, by whatever name
-  pub jobs_worked : (values' : List K) (jobs given worked : List Job) → values' ≡ values → given ≡ map (aimed b c) jobs → All HasLine jobs →
-      IsEachWorked (work_of values') given worked → length jobs * 2048 ≤ length values → (k : ℕ) → k < length jobs →
+  pub jobs_worked : (jobs given worked : List Job) → given ≡ map (aimed b c) jobs → All (HasLine values) jobs →
+      IsEachWorked work_of given worked → length jobs * 2048 ≤ length values → (k : ℕ) → k < length jobs →
       get_or (map line_of worked) k [] ≡ part_line (values_of values k) (take 11 b) (take 11 c)
-  jobs_worked values' jobs given worked over is all each fits k u =
-      lines_worked jobs worked all (subst (λ (vs : List K). IsEachWorked (work_of vs) (map (aimed b c) jobs) worked) over (subst (λ (js : List Job). IsEachWorked (work_of values') js worked) is each)) fits k u
+  jobs_worked jobs given worked is all each fits k u =
+      lines_worked jobs worked all (subst (λ (js : List Job). IsEachWorked work_of js worked) is each) fits k u
 
 -- parts of 2 ^ 11 of 2 ^ k values
 pub parts_cover : (k n m size : ℕ) → 11 ≤ k → size ≡ 2 ^ k → n ≡ m → m ≡ 2 ^ (k - 11) → n * 2048 ≤ size

@@ -1,44 +1,73 @@
--- What a crew does in a layer: with the parts of its tables, and with the parts of its line
-use Rattle.std.specs.Prelude.{ℕ, Bool, List, [], Option, Some, None, IsSome, take, if◌then◌else◌}
+-- What a crew does: with parts of a layer's tables, with parts of its line, and with ranges of places
+use Rattle.std.specs.Prelude.{◌≡◌, ℕ, ◌<◌, Bool, List, [], Option, Some, None, take, if◌then◌else◌, length, slice_index_or}
 use Rattle.field_ext.specs.Field.{K}
 use Rattle.line_reduce.specs.Parts.{PartOfLine, part_coordinates, worked_part}
+use Rattle.round_tables.specs.LayerSum.{LayerSum}
 use Rattle.round_tables.specs.PartTables.{PartTables, folded_part, part_sum}
+use Rattle.round_tables.specs.Ranges.{RangeView, range_of, gathered_range}
+use Rattle.sumcheck_prove.specs.Lines.{LineView, worked_line, aimed_line}
 use Rattle.sumcheck_prove.specs.declared.jobs.Job.{Job}
 
 -- the job of a part of the tables before it is worked
 abbrev pub job_of : Bool → K → List K → PartTables → Job
-job_of folds r none part = record { part = part; folds = folds; r = r; sum = none; line = None }
+job_of folds r none part = record {
+  part = part;
+  folds = folds;
+  r = r;
+  sum = none;
+  line = None;
+  share = None;
+}
 
 -- the job after it: the part is folded, or its sum is noted
 abbrev pub round_of : Job → Job
 round_of job = if job.folds then record job { part = folded_part job.r job.part }
     else record job { sum = part_sum job.part }
 
+-- the job after it, with this range, if any
+abbrev pub gather_with : Job → Option RangeView → Job
+gather_with job None = round_of job
+gather_with job (Some range) = record job { share = Some (gathered_range range) }
+
 -- the job after it, with this part of the line, if any
-abbrev pub work_with : List K → ℕ → Job → Option PartOfLine → Job
-work_with values k job None = round_of job
-work_with values k job (Some part) = record job { line = Some (worked_part values k part) }
+abbrev pub work_with : ℕ → Job → Option LineView → Job
+work_with k job None = gather_with job job.share
+work_with k job (Some line) = record job { line = Some (worked_line k line) }
 
--- job k after it, over these values
-abbrev pub work_of : List K → ℕ → Job → Job
-work_of values k job = work_with values k job job.line
+-- job k after it
+abbrev pub work_of : ℕ → Job → Job
+work_of k job = work_with k job job.line
 
--- a job for a part of the line
-abbrev pub HasLine : Job → Type 0
-HasLine job = IsSome job.line
+-- a job for a part of the line over these values
+abbrev pub IsLineOver : List K → Option LineView → Type 0
+IsLineOver values None = ⊥
+IsLineOver values (Some line) = line.values ≡ values
+
+abbrev pub HasLine : List K → Job → Type 0
+HasLine values job = IsLineOver values job.line
 
 -- this part of the line, if any, with the first coordinates of the points b and c
-abbrev pub aimed_line : List K → List K → Option PartOfLine → Option PartOfLine
-aimed_line b c None = None
-aimed_line b c (Some part) = Some (record part { b = take part_coordinates b; c = take part_coordinates c })
+abbrev pub aimed_option : List K → List K → Option LineView → Option LineView
+aimed_option b c None = None
+aimed_option b c (Some line) = Some (aimed_line b c line)
 
 abbrev pub aimed : List K → List K → Job → Job
-aimed b c job = record job { line = aimed_line b c job.line }
+aimed b c job = record job { line = aimed_option b c job.line }
 
 -- the coefficients of this part of the line, if any
-abbrev pub coefficients_in : Option PartOfLine → List K
+abbrev pub coefficients_in : Option LineView → List K
 coefficients_in None = []
-coefficients_in (Some part) = part.line
+coefficients_in (Some line) = line.part.line
 
 abbrev pub line_of : Job → List K
 line_of job = coefficients_in job.line
+
+-- the job is to gather this range, or has gathered it
+pub record HasRange (range : RangeView) (job : Job) : Type 0 where
+  pub line : job.line ≡ None
+  pub share : job.share ≡ Some range
+
+-- the first n jobs have the first n ranges
+abbrev pub HaveRanges : LayerSum → ℕ → ℕ → Bool → ℕ → List Job → Type 0
+HaveRanges sum parts size done n jobs = (k : ℕ) (job : Job) → k < n
+    → HasRange (range_of sum parts size done k) (slice_index_or jobs k job)

@@ -6,6 +6,7 @@ ghost use Rattle.field_ext.specs.Polynomial.{coefficients, value_at};
 ghost use Rattle.field_ext.specs.Sums.{sum_below};
 ghost use Rattle.round_tables.specs.LayerSum.{next_poly};
 
+use crate::entry::Entry;
 use field_ext::Ext;
 use round_tables::GateTables;
 
@@ -33,14 +34,16 @@ pub(crate) fn plus(total: [Ext; 3], message: [Ext; 3]) -> [Ext; 3]
     ]
 }
 
-/// The message of the next round, summed piece by piece on the calling thread.
-pub(crate) fn summed_alone(tables: &GateTables<'_>) -> [Ext; 3]
+/// The coefficients of 1, X and X² of the next round's polynomial, where a round is left, as `round` gives them, summed piece by piece on
+/// the calling thread, which passes the entry with each. It takes no memory.
+pub fn round_alone<E: Entry>(tables: &GateTables<'_>, entry: &E) -> [Ext; 3]
     requires here { tables.now.lent ≡ [] }
     requires left { length tables.now.bound < tables.now.k + tables.now.k }
     ensures { result ≡ coefficients k_ops 3 (next_poly tables.now) }
 {
     let mut total = no_message();
     for piece in 0..tables.pieces() {
+        entry.pass(piece);
         total = plus(total, tables.piece_sum(piece));
     }
     total

@@ -5,7 +5,9 @@ ghost use Rattle.field_ext.specs.Field.{k_ops};
 ghost use Rattle.field_ext.specs.Polynomial.{coefficients};
 ghost use Rattle.round_tables.specs.LayerSum.{next_poly, pieces_of};
 
-use crate::adding::{no_message, summed_alone};
+use crate::adding::{no_message, round_alone};
+use crate::entry::OpenEntry;
+use crate::gathering::{GatherJobs, gather_by};
 use crate::jobs::{Job, Jobs, added, unload, worked};
 use crew::Crew;
 use field_ext::Ext;
@@ -16,7 +18,7 @@ use std::sync::Wait;
 const PAIRS_FOR_A_CREW: usize = 2048;
 
 /// Whether a round is for the crew: it is wide, and there is a job for each part of its tables.
-fn is_for_crew(tables: &GateTables<'_>, jobs: &[Job]) -> bool
+fn is_for_crew(tables: &GateTables<'_>, jobs: &[Job<'_>]) -> bool
     requires here { tables.now.lent ≡ [] }
     requires left { length tables.now.bound < tables.now.k + tables.now.k }
     ensures { IsTrue result → length jobs.now ≡ pieces_of tables.now }
@@ -26,30 +28,30 @@ fn is_for_crew(tables: &GateTables<'_>, jobs: &[Job]) -> bool
 
 /// A round's message, and the jobs for the next one.
 #[derive(Drop)]
-pub struct Summed {
+pub struct Summed<'a> {
     pub message: [Ext; 3],
-    pub jobs: Vec<Job>,
+    pub jobs: Vec<Job<'a>>,
 }
 
 /// The coefficients of 1, X and X² of the next round's polynomial, where a round is left, as `round` gives them: a crew sums the
 /// parts of the tables, in any order. A round that doesn't pay for a crew, or whose parts are not as many as the jobs, is summed
 /// by the lead alone. It takes no memory.
-pub fn round_by<R: Wait>(
+pub fn round_by<'a, R: Wait>(
     rt: &R,
     tables: &mut GateTables<'_>,
-    crew: &mut Crew<'_, Jobs<'_>>,
-    jobs: Vec<Job>,
-) -> Summed
+    crew: &mut Crew<'_, Jobs<'a>>,
+    jobs: Vec<Job<'a>>,
+) -> Summed<'a>
     requires here { tables.old.lent ≡ [] }
     requires left { length tables.old.bound < tables.old.k + tables.old.k }
     requires few { vec_len jobs ≤ crew.old.parts }
     ensures message { result.message ≡ coefficients k_ops 3 (next_poly tables.old) }
-    ensures jobs { vec_len result.jobs ≡ vec_len jobs }
+    ensures jobs { vec_len result.jobs ≡ vec_len jobs.entry }
     ensures tables { tables.new ≡ tables.old }
     ensures crew { crew.new ≡ crew.old }
 {
     if !is_for_crew(tables, &jobs) {
-        let message = summed_alone(tables);
+        let message = round_alone(tables, &OpenEntry);
         return Summed { message, jobs };
     }
     let mut parts = tables.parts_out();
@@ -63,18 +65,18 @@ pub fn round_by<R: Wait>(
 /// Binds the next coordinate to the challenge `r`, where a round is left, as `GateTables::bind` does: a crew folds the parts of
 /// the tables, in any order, and the lead alone where `round_by` leaves a round to it. The jobs are back then. It takes no
 /// memory.
-pub fn bind_by<R: Wait>(
+pub fn bind_by<'a, R: Wait>(
     rt: &R,
     tables: &mut GateTables<'_>,
     r: Ext,
-    crew: &mut Crew<'_, Jobs<'_>>,
-    jobs: Vec<Job>,
-) -> Vec<Job>
+    crew: &mut Crew<'_, Jobs<'a>>,
+    jobs: Vec<Job<'a>>,
+) -> Vec<Job<'a>>
     requires here { tables.old.lent ≡ [] }
     requires left { length tables.old.bound < tables.old.k + tables.old.k }
     requires few { vec_len jobs ≤ crew.old.parts }
     ensures bound { tables.new ≡ record tables.old { bound = tables.old.bound ++ r ∷ [] } }
-    ensures jobs { vec_len result ≡ vec_len jobs }
+    ensures jobs { vec_len result ≡ vec_len jobs.entry }
     ensures crew { crew.new ≡ crew.old }
 {
     if !is_for_crew(tables, &jobs) {
@@ -86,4 +88,39 @@ pub fn bind_by<R: Wait>(
     unload(&mut jobs, &mut parts);
     tables.parts_in(parts, r);
     jobs
+}
+
+/// The tables with one coordinate more bound, and the jobs.
+#[derive(Drop)]
+pub struct Advanced<'a> {
+    pub tables: GateTables<'a>,
+    pub jobs: Vec<Job<'a>>,
+}
+
+/// Binds the next coordinate as `bind_by` does, and lets the crew gather the second phase where that begins. It takes no memory but as
+/// `gather_by` does.
+pub fn advance_by<'a, R: Wait>(
+    rt: &R,
+    mut tables: GateTables<'a>,
+    r: Ext,
+    crew: &mut Crew<'_, Jobs<'a>>,
+    jobs: Vec<Job<'a>>,
+    gather: &mut GatherJobs<'a>,
+) -> Advanced<'a>
+    requires here { tables.lent ≡ [] }
+    requires left { length tables.bound < tables.k + tables.k }
+    requires few { vec_len jobs ≤ crew.old.parts }
+    requires ranges { gather.old ≤ crew.old.parts }
+    ensures bound { result.tables
+        ≡ record tables.entry { bound = tables.entry.bound ++ r ∷ [] } }
+    ensures jobs { vec_len result.jobs ≡ vec_len jobs.entry }
+    ensures gather { gather.new ≡ gather.old }
+    ensures crew { crew.new ≡ crew.old }
+{
+    if tables.ends_first() {
+        let tables = gather_by(rt, tables.bind_open(r), crew, gather);
+        return Advanced { tables, jobs };
+    }
+    let jobs = bind_by(rt, &mut tables, r, crew, jobs);
+    Advanced { tables, jobs }
 }

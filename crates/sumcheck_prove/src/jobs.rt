@@ -1,62 +1,47 @@
-//! What a crew works in a layer: parts of its tables, and parts of its line.
+//! What a crew works: parts of a layer's tables, parts of its line, and ranges of places to which its gates are gathered.
 
 ghost use Rattle.std.specs.Prelude.{◌≡◌, ℕ, ◌+◌, ◌<◌, ◌≤◌, [], IfOk, length, map, slice_index_or, vec_len};
 ghost use Rattle.field_ext.specs.Field.{K, k_ops};
 ghost use Rattle.field_ext.specs.Polynomial.{value_at};
 ghost use Rattle.field_ext.specs.Sums.{sum_below};
-ghost use Rattle.mle_table.specs.Shape.{AreBase};
 ghost use Rattle.round_tables.specs.PartTables.{PartTables};
 ghost use Rattle.sumcheck_prove.specs.Jobs.{job_of, round_of};
 
 use crate::adding::{no_message, plus};
+use crate::lines::LineShare;
 use crew::Crew;
 use field_ext::Ext;
-use line_reduce::LinePart;
 use mle_table::Table;
 use phase_run::PartWork;
-use round_tables::Part;
+use round_tables::{Part, Share};
 use std::alloc::{AllocError, Global};
-use std::marker::Model;
+use std::marker::PhantomData;
 use std::mem::swap;
 use std::sync::Wait;
 
-/// What a worker is to do: to work a part of the line, where there is one, or else to fold a part of the tables by a challenge or
-/// to sum it.
+/// What a worker is to do: to work a part of the line, where there is one, or to gather a range of places, where there is one, or
+/// else to fold a part of the tables by a challenge or to sum it.
 #[derive(Drop)]
-pub struct Job {
+pub struct Job<'a> {
     part: Part,
     folds: bool,
     r: Ext,
     sum: [Ext; 3],
-    pub(crate) line: Option<LinePart>,
+    pub(crate) line: Option<LineShare<'a>>,
+    pub(crate) share: Option<Share<'a>>,
 }
 
-/// The work of a crew in a layer, over the values of the layer below: each job is done as it says.
+/// The work of a crew: each job is done as it says.
 #[derive(Drop)]
 pub struct Jobs<'a> {
-    values: &'a [Ext],
-}
-
-impl<'a> Model for Jobs<'a> {
-    ghost use Rattle.std.specs.Prelude.{List};
-    ghost use Rattle.field_ext.specs.Field.{K};
-    ghost use Rattle.mle_table.specs.Shape.{AreBase};
-
-    ghost Value = { List K };
-
-    ghost view = { λ w. w.values.now };
-
-    ghost invariant = { λ w. AreBase w.values.now };
+    tables: PhantomData<&'a Table>,
 }
 
 impl<'a> Jobs<'a> {
-    /// The work of a layer over this table of the base field.
-    pub fn over(table: &'a Table) -> Jobs<'a>
-        requires { AreBase table.now.items }
-        ensures { result ≡ table.now.items }
-    {
+    /// The work of jobs that are over tables of this lifetime.
+    pub fn new() -> Jobs<'a> {
         Jobs {
-            values: table.values(),
+            tables: PhantomData,
         }
     }
 }
@@ -64,14 +49,17 @@ impl<'a> Jobs<'a> {
 impl<'a> PartWork for Jobs<'a> {
     ghost use Rattle.sumcheck_prove.specs.Jobs.{work_of};
 
-    type Part = Job;
+    type Part = Job<'a>;
 
-    ghost part_of = { λ values k job. work_of values k job };
+    ghost part_of = { λ work k job. work_of k job };
 
-    fn work(&self, k: u32, job: &mut Job) {
+    fn work(&self, k: u32, job: &mut Job<'a>) {
         if let Some(mut line) = job.line.take() {
-            line.work(self.values, k);
+            line.work(k);
             job.line = Some(line);
+        } else if let Some(mut share) = job.share.take() {
+            share.gather();
+            job.share = Some(share);
         } else if job.folds {
             job.part.fold(job.r);
         } else {
@@ -81,8 +69,8 @@ impl<'a> PartWork for Jobs<'a> {
 }
 
 /// A job with no part of the tables in it yet.
-pub(crate) fn job_with(alloc: Global, line: Option<LinePart>) -> Job
-    ensures { result.line ≡ line }
+pub(crate) fn job_with<'a>(alloc: Global, line: Option<LineShare<'a>>) -> Job<'a>
+    ensures { result.line ≡ line.entry }
 {
     Job {
         part: Part::empty(alloc),
@@ -90,11 +78,12 @@ pub(crate) fn job_with(alloc: Global, line: Option<LinePart>) -> Job
         r: Ext::zero(),
         sum: no_message(),
         line,
+        share: None,
     }
 }
 
 /// Jobs for so many parts of the tables, with none in them yet. Err only where no memory is found.
-pub fn jobs_for(alloc: Global, parts: usize) -> Result<Vec<Job>, AllocError>
+pub fn jobs_for<'a>(alloc: Global, parts: usize) -> Result<Vec<Job<'a>>, AllocError>
     ensures { IfOk result (λ jobs. vec_len jobs ≡ parts) }
 {
     let mut jobs = Vec::with_capacity(alloc, parts)?;
@@ -105,7 +94,7 @@ pub fn jobs_for(alloc: Global, parts: usize) -> Result<Vec<Job>, AllocError>
 }
 
 /// Puts a part into a job, in exchange for the part that is there.
-fn take_in(job: &mut Job, part: &mut Part, folds: bool, r: Ext, none: [Ext; 3])
+fn take_in(job: &mut Job<'_>, part: &mut Part, folds: bool, r: Ext, none: [Ext; 3])
     ensures job { job.new ≡ job_of folds r none part.old }
     ensures part { part.new ≡ job.old.part }
 {
@@ -114,17 +103,18 @@ fn take_in(job: &mut Job, part: &mut Part, folds: bool, r: Ext, none: [Ext; 3])
     job.r = r;
     job.sum = none;
     job.line = None;
+    job.share = None;
 }
 
 /// Takes the part of a job out, in exchange for another.
-fn give_back(job: &mut Job, part: &mut Part)
+fn give_back(job: &mut Job<'_>, part: &mut Part)
     ensures { part.new ≡ job.old.part }
 {
     swap(&mut job.part, part);
 }
 
 /// Puts each part into the job of its place, in exchange for the part that is there.
-fn load(parts: &mut [Part], jobs: &mut [Job], folds: bool, r: Ext, none: [Ext; 3])
+fn load(parts: &mut [Part], jobs: &mut [Job<'_>], folds: bool, r: Ext, none: [Ext; 3])
     requires same { length jobs.old ≡ length parts.old }
     ensures parts { length parts.new ≡ length parts.old }
     ensures jobs { jobs.new ≡ map (job_of folds r none) parts.old }
@@ -135,7 +125,7 @@ fn load(parts: &mut [Part], jobs: &mut [Job], folds: bool, r: Ext, none: [Ext; 3
 }
 
 /// Takes the part of each job out to its place, in exchange for the part that is there.
-pub(crate) fn unload(jobs: &mut [Job], parts: &mut [Part])
+pub(crate) fn unload(jobs: &mut [Job<'_>], parts: &mut [Part])
     requires same { length parts.old ≡ length jobs.old }
     ensures jobs { length jobs.new ≡ length jobs.old }
     ensures parts { parts.new ≡ map (λ job. job.part) jobs.old }
@@ -146,15 +136,15 @@ pub(crate) fn unload(jobs: &mut [Job], parts: &mut [Part])
 }
 
 /// Lets a crew work each part, by the job of its place. The parts are in the jobs then.
-pub(crate) fn worked<R: Wait>(
+pub(crate) fn worked<'a, R: Wait>(
     rt: &R,
-    crew: &mut Crew<'_, Jobs<'_>>,
+    crew: &mut Crew<'_, Jobs<'a>>,
     parts: &mut Vec<Part>,
-    mut jobs: Vec<Job>,
+    mut jobs: Vec<Job<'a>>,
     folds: bool,
     r: Ext,
     none: [Ext; 3],
-) -> Vec<Job>
+) -> Vec<Job<'a>>
     requires same { vec_len jobs ≡ vec_len parts.old }
     requires few { vec_len jobs ≤ crew.old.parts }
     ensures crew { crew.new ≡ crew.old }
@@ -167,7 +157,7 @@ pub(crate) fn worked<R: Wait>(
 }
 
 /// What the sums of the jobs add to.
-pub(crate) fn added(jobs: &[Job]) -> [Ext; 3]
+pub(crate) fn added(jobs: &[Job<'_>]) -> [Ext; 3]
     requires { (k : ℕ) → k < length jobs.now
         → length (slice_index_or (map (λ job. job.sum) jobs.now) k []) ≡ 3 }
     ensures three { length result ≡ 3 }

@@ -19,13 +19,18 @@
 mod adding;
 mod binding;
 mod crewed;
+mod entry;
+mod gathering;
 mod jobs;
 mod lines;
 mod message;
 mod pieces;
 
+pub use adding::round_alone;
 pub use binding::bind_round;
-pub use crewed::{Summed, bind_by, round_by};
+pub use crewed::{Advanced, Summed, advance_by, bind_by, round_by};
+pub use entry::{AtGate, Entry};
+pub use gathering::{GatherJobs, gather_by};
 pub use jobs::{Job, Jobs, jobs_for};
 pub use lines::{LineJobs, line_by};
 pub use message::round;

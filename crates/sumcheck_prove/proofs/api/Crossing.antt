@@ -16,17 +16,23 @@ use Rattle.line_reduce.specs.contracts.parts.LinePart.TheInside as inside_line_p
 use Rattle.round_tables.specs.contracts.column.Column as column
 use Rattle.round_tables.specs.contracts.column.Column.TheInside as inside_column
 use Rattle.round_tables.specs.contracts.kept_point.KeptPoint as kept_point
+use Rattle.round_tables.specs.contracts.buffers.Buffers as buffers
 use Rattle.round_tables.specs.contracts.part.Part as part
 use Rattle.round_tables.specs.contracts.part.Part.TheInside as inside_part
+use Rattle.round_tables.specs.contracts.room.Room as room
+use Rattle.round_tables.specs.contracts.room.Rooms as rooms
+use Rattle.round_tables.specs.contracts.room.Rooms.TheInside as inside_rooms
+use Rattle.round_tables.specs.contracts.share.Share as share
+use Rattle.round_tables.specs.contracts.share.Share.TheInside as inside_share
 use Rattle.round_tables.specs.contracts.working.Working as working
 use Rattle.round_tables.specs.contracts.gate_tables.GateTables as tables
 use Rattle.round_tables.specs.contracts.gate_tables.GateTables.TheInside as inside_tables
 use Rattle.round_tables.specs.contracts.layer_gates.LayerGates as layer
 use Rattle.sumcheck_prove.specs.contracts.jobs.Job as job
-use Rattle.sumcheck_prove.specs.contracts.jobs.Jobs as jobs
-use Rattle.sumcheck_prove.specs.contracts.jobs.Jobs.TheInside as inside_jobs
-use Rattle.sumcheck_prove.specs.contracts.lines.LineJobs as line_jobs
-use Rattle.sumcheck_prove.specs.contracts.lines.LineJobs.TheInside as inside_line_jobs
+use Rattle.sumcheck_prove.specs.contracts.gathering.GatherJobs as gather
+use Rattle.sumcheck_prove.specs.contracts.gathering.GatherJobs.TheInside as inside_gather
+use Rattle.sumcheck_prove.specs.contracts.lines.LineShare as line_share
+use Rattle.sumcheck_prove.specs.contracts.lines.LineShare.TheInside as inside_line_share
 use Rattle.sumcheck_prove.specs.contracts.pieces.PieceSums as sums
 use Rattle.circuit_core.specs.contracts.gate.CircuitGate as gate
 use Rattle.mle_table.specs.contracts.table.Table as table
@@ -171,41 +177,53 @@ kept_point_send = declared_send kept_point.the_type (values_send, (values_send, 
 layer_send : (κ : NamedLft) → IsSend (layer.the_row κ)
 layer_send κ = declared_send (layer.the_type κ) (size_send, (gates_send κ, (lent_table_send κ, (kept_point_send, (kept_point_send, (as_row_send ext.the_field ext_send, (flag_send, (flag_send, tt))))))))
 
-lent_send : IsSend (as_row (option.the_field (snapshot.the_row working.the_row)))
-lent_send = as_row_send (option.the_field (snapshot.the_row working.the_row)) (search (crosses, sendable) depth 8)
-
-tables_inside_send : (κ : NamedLft) → IsSend (inside_tables.the_row κ)
-tables_inside_send κ = declared_send (inside_tables.the_type κ) (layer_send κ, (working_send, (lent_send, tt)))
-
-pub tables_send : (κ : NamedLft) → IsSend (tables.the_row κ)
-tables_send κ = search (view_send, tables_inside_send)
-
 line_part_inside_send : IsSend inside_line_part.the_row
 line_part_inside_send = declared_send inside_line_part.the_type (values_send, (values_send, (values_send, (values_send, tt))))
 
 line_part_send : IsSend line_part.the_row
 line_part_send = search (view_send, line_part_inside_send)
 
-line_send : IsSend (as_row (option.the_field line_part.the_row))
-line_send = as_row_send (option.the_field line_part.the_row) (search (crosses, sendable, line_part_send) depth 8)
+line_share_inside_send : (κ : NamedLft) → IsSend (inside_line_share.the_row κ)
+line_share_inside_send κ = declared_send (inside_line_share.the_type κ) (as_row_send line_part.the_field line_part_send, (lent_table_send κ, tt))
 
-job_send : IsSend job.the_row
-job_send =
-    declared_send job.the_type
-    (as_row_send part.the_field part_send, (flag_send, (as_row_send ext.the_field ext_send, (as_row_send (row_field (Array ext.the_row tt 3)) (search (sendable, ext_send) depth 6), (line_send, tt)))))
+line_share_send : (κ : NamedLft) → IsSend (line_share.the_row κ)
+line_share_send κ = search (view_send, line_share_inside_send)
 
-pub jobs_send : IsSend (as_row (vec.the_field job.the_row heap.the_row heap_impl.ghosts))
-jobs_send = as_row_send (vec.the_field job.the_row heap.the_row heap_impl.ghosts) (Vec-send job.the_row job_send)
+line_send : (κ : NamedLft) → IsSend (as_row (option.the_field (line_share.the_row κ)))
+line_send κ = as_row_send (option.the_field (line_share.the_row κ)) (search (crosses, sendable, line_share_send) depth 8)
 
-line_jobs_inside_send : IsSend inside_line_jobs.the_row
-line_jobs_inside_send = declared_send inside_line_jobs.the_type (jobs_send, (values_send, tt))
+share_inside_send : (κ : NamedLft) → IsSend (inside_share.the_row κ)
+share_inside_send κ =
+    declared_send (inside_share.the_type κ) (layer_send κ, (values_send, (as_row_send ext.the_field ext_send, (size_send, (size_send, (values_send, (values_send, (parts_send, (flag_send, tt)))))))))
 
-pub line_jobs_send : IsSend line_jobs.the_row
-line_jobs_send = search (view_send, line_jobs_inside_send)
+share_send : (κ : NamedLft) → IsSend (share.the_row κ)
+share_send κ = search (view_send, share_inside_send)
 
--- what a crew works may be shared
-work_inside_sync : (κ : NamedLft) → IsSync (inside_jobs.the_row κ)
-work_inside_sync κ = declared_sync (inside_jobs.the_type κ) (as_row_sync (shr_slice_field κ ext.the_row tt) (search (sendable, ext_sync) depth 6), tt)
+range_send : (κ : NamedLft) → IsSend (as_row (option.the_field (share.the_row κ)))
+range_send κ = as_row_send (option.the_field (share.the_row κ)) (search (crosses, sendable, share_send) depth 8)
 
-pub work_sync : (κ : NamedLft) → IsSync (jobs.the_row κ)
-work_sync κ = search (view_sync, work_inside_sync)
+job_send : (κ : NamedLft) → IsSend (job.the_row κ)
+job_send κ =
+    declared_send (job.the_type κ)
+    (as_row_send part.the_field part_send, (flag_send, (as_row_send ext.the_field ext_send, (as_row_send (row_field (Array ext.the_row tt 3)) (search (sendable, ext_send) depth 6), (line_send κ, (range_send κ, tt))))))
+
+pub jobs_send : (κ : NamedLft) → IsSend (as_row (vec.the_field (job.the_row κ) heap.the_row heap_impl.ghosts))
+jobs_send κ = as_row_send (vec.the_field (job.the_row κ) heap.the_row heap_impl.ghosts) (Vec-send (job.the_row κ) (job_send κ))
+
+room_send : IsSend room.the_row
+room_send = declared_send room.the_type (kept_point_send, (kept_point_send, (values_send, (values_send, (values_send, (parts_send, tt))))))
+
+rooms_inside_send : IsSend inside_rooms.the_row
+rooms_inside_send = declared_send inside_rooms.the_type (as_row_send (vec.the_field room.the_row heap.the_row heap_impl.ghosts) (Vec-send room.the_row room_send), tt)
+
+rooms_send : IsSend rooms.the_row
+rooms_send = search (view_send, rooms_inside_send)
+
+gather_inside_send : (κ : NamedLft) → IsSend (inside_gather.the_row κ)
+gather_inside_send κ = declared_send (inside_gather.the_type κ) (heap_send, (jobs_send κ, (as_row_send rooms.the_field rooms_send, tt)))
+
+pub gather_send : (κ : NamedLft) → IsSend (gather.the_row κ)
+gather_send κ = search (view_send, gather_inside_send)
+
+pub buffers_send : IsSend buffers.the_row
+buffers_send = declared_send buffers.the_type (kept_point_send, (kept_point_send, (working_send, tt)))

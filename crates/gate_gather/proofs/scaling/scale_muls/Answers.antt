@@ -6,7 +6,7 @@ use Rattle.gate_gather.proofs.scaling.scale_muls.Goals as goal
 
 pub returns-then-is_zero : goal.returns-then-is_zero
 returns-then-is_zero c =
-    let none = c.is_zero.ensures c.if-is_zero.true in
+    let none = c.is_zero.ensures.0 c.if-is_zero.true in
     made_kept c.args.from c.args.count c.args.scales.now _ (λ x u v. zero_times c.args.value (get_or c.args.scales.now x zero_k) (none x u v))
 
 pub loop-i-init : goal.loop-i-init

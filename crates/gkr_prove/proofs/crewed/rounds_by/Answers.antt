@@ -1,5 +1,6 @@
 -- One message more
-use Rattle.std.proofs.Common.{◌≡◌, ℕ, ◌+◌, rules, arith, subst, ◌∙◌}
+use Rattle.std.proofs.Common.{◌≡◌, ℕ, ◌+◌, length, rules, arith, subst, ◌∙◌}
+use Rattle.round_tables.specs.LayerSum.{LayerSum}
 use Rattle.gkr_prove.specs.Rounds.{AreBegun}
 use Rattle.gkr_prove.proofs.HasSteps.{has_next}
 use Rattle.gkr_prove.proofs.Begun.{has_all, bound_more, has_more, begun_more}
@@ -10,8 +11,10 @@ loop-number-init g c = record {
   all = search rules;
   tables = search rules;
   begun = search rules;
-  has = has_all g.C.Challenges.source c.args.tables (g.C.Challenges.state c.args.challenges.now) c.rounds_left-count.result c.requires.begun c.rounds_left-count.ensures c.requires.has;
+  has = has_all g.C.Challenges.source c.args.tables (g.C.Challenges.state c.args.challenges.now) c.rounds_left-count.result c.requires.begun
+      (subst (λ (t : LayerSum). c.rounds_left-count.result + length t.bound ≡ t.k + t.k) c.gather_by-tables.ensures.tables c.rounds_left-count.ensures) c.requires.has;
   jobs = search rules;
+  gather = search rules;
   crew = search rules;
 }
 
@@ -26,11 +29,12 @@ loop-number-preserved g c =
     let noted = c.in_ok-challenge.ensures in
     record {
       all = before.all;
-      tables = bound_more g.C.Challenges.source c.args.tables (g.C.Challenges.state c.args.challenges.now) c.loop-number._number _ _ _ _ _ _ _ _ c.round_by-message.new.tables (c.round_by-message.ensures.tables ∙ before.tables) noted _ c.bind_by-jobs.ensures.bound;
+      tables = bound_more g.C.Challenges.source c.args.tables (g.C.Challenges.state c.args.challenges.now) c.loop-number._number _ _ _ _ _ _ _ _ c.round_by-message.new.tables (c.round_by-message.ensures.tables ∙ before.tables) noted _ c.advance_by-next.ensures.bound;
       begun = begun_more g.C.Challenges.source c.args.tables (g.C.Challenges.state c.args.challenges.now) c.loop-number._number _ _ _ _ _ _ _ _ c.loop-number.tables before.tables noted c.round_by-message.ensures.message before.begun;
       has = has_more g.C.Challenges.source c.args.tables (g.C.Challenges.state c.args.challenges.now) c.loop-number._number _ _ _ _ _ _ _ _ c.loop-number.tables before.tables noted c.rounds_left-count.result c.loop-number-test.true before.has;
-      jobs = c.bind_by-jobs.ensures.jobs ∙ c.round_by-message.ensures.jobs ∙ before.jobs;
-      crew = c.bind_by-jobs.ensures.crew ∙ c.round_by-message.ensures.crew ∙ before.crew;
+      jobs = c.advance_by-next.ensures.jobs ∙ c.round_by-message.ensures.jobs ∙ before.jobs;
+      gather = c.advance_by-next.ensures.gather ∙ before.gather;
+      crew = c.advance_by-next.ensures.crew ∙ c.round_by-message.ensures.crew ∙ before.crew;
     }
 
 pub returns-clause-rounds : goal.returns-clause-rounds

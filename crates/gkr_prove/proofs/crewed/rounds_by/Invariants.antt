@@ -10,5 +10,6 @@ invariant-loop-number g l = record {
   begun : AreBegun g.C.Challenges.source l.fn.tables (g.C.Challenges.state l.fn.challenges) l._number l.messages.items l.drawn.items (g.C.Challenges.state l.challenges);
   has : IsTrue (g.C.Challenges.source.has (g.C.Challenges.state l.challenges) (l.count - l._number));
   jobs : vec_len l.jobs ≡ vec_len l.fn.jobs;
+  gather : l.gather ≡ l.fn.gather;
   crew : l.crew ≡ l.fn.crew;
 }

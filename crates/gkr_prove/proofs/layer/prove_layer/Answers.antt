@@ -1,5 +1,5 @@
 -- The rounds and the line make a layer's messages
-use Rattle.std.proofs.Common.{◌≡◌, ℕ, ◌+◌, ◌++◌, List, [], ◌∷◌, IsTrue, IfSome, length, take, drop, arith, ◌∙◌, ap, sym, subst}
+use Rattle.std.proofs.Common.{◌≡◌, ℕ, ◌+◌, ◌++◌, List, [], ◌∷◌, IsTrue, IfSome, length, take, drop, arith, refl, ◌∙◌, ap, sym, subst}
 use Rattle.std.proofs.lemmas.List.{length-map}
 use Rattle.field_ext.specs.Field.{K, k_ops}
 use Rattle.field_ext.specs.Polynomial.{coefficients}
@@ -18,12 +18,29 @@ use Rattle.gkr_layers.specs.Layers.{next_place}
 use Rattle.gkr_prove.proofs.HonestSteps.{honest_layer, layer_place, state-more}
 use Rattle.gkr_prove.proofs.layer.prove_layer.Goals as goal
 
-pub prove_rounds-requires-clause-has : goal.prove_rounds-requires-clause-has
-prove_rounds-requires-clause-has g c κs within =
+pub rounds-requires : goal.rounds-requires
+rounds-requires g c κs =
     let source : Source = g.C.Challenges.source in
     let s = g.C.Challenges.state c.args.challenges.now in
-    let k = c.args.values.now.k in
-    subst (λ (n : ℕ). IsTrue (source.has s (n + n))) (sym c.in_ok-tables.ensures.k) (has_front source s (k + k) 1 c.requires.has)
+    let k = c.args.values.now.k in (
+      (refl, tt),
+      (
+        c.requires.ready,
+        (
+          c.in_ok-tables.ensures.bound.0,
+          (
+            c.requires.layer.most,
+            (
+              c.in_ok-tables.ensures.k,
+              (
+                c.requires.base,
+                subst (λ (n : ℕ). IsTrue (source.has s (n + n))) (sym c.in_ok-tables.ensures.k) (has_front source s (k + k) 1 c.requires.has),
+              ),
+            ),
+          ),
+        ),
+      ),
+    )
 
 pub challenge-challenge-requires : goal.challenge-challenge-requires
 challenge-challenge-requires g c =

@@ -21,20 +21,19 @@ draw_point-requires g c =
     let p : Parts = c.args.circuit.now.parts in
     subst (λ (n : ℕ). IsTrue (source.has s n)) (sym (c.deref_mut.ensures.len ∙ c.in_ok-point.ensures.len ∙ c.coordinates.ensures.value)) (has_front source s (exponent_at p 0) (message_count (layers_of p)) c.requires.has)
 
-pub prove_layers-requires-clause-position : goal.prove_layers-requires-clause-position
-prove_layers-requires-clause-position g c κs within =
-    let count : length c.deref_mut.result.now ≡ exponent_at c.args.circuit.now.parts 0 = c.deref_mut.ensures.len ∙ c.in_ok-point.ensures.len ∙ c.coordinates.ensures.value in
-    subst (IsOver (exponent_at c.args.circuit.now.parts 0)) (sym c.at-place.ensures)
-    (ap length (written_back c.in_ok-point.point.items c.draw_point.new.point c.in_ok-point.point.len (c.draw_point.auto.point ∙ c.deref_mut.ensures.len)) ∙ c.draw_point.auto.point ∙ count)
-
-pub prove_layers-requires-clause-has : goal.prove_layers-requires-clause-has
-prove_layers-requires-clause-has g c κs within =
+pub prove_layers-requires-clause-can : goal.prove_layers-requires-clause-can
+prove_layers-requires-clause-can g c κs within =
     let source : Source = g.C.Challenges.source in
     let s : List ℕ = g.C.Challenges.state c.args.challenges.now in
     let p : Parts = c.args.circuit.now.parts in
-    let count = c.deref_mut.ensures.len ∙ c.in_ok-point.ensures.len ∙ c.coordinates.ensures.value in
+    let count : length c.deref_mut.result.now ≡ exponent_at c.args.circuit.now.parts 0 = c.deref_mut.ensures.len ∙ c.in_ok-point.ensures.len ∙ c.coordinates.ensures.value in
     let after = c.draw_point.ensures.state ∙ ap (state_after_point source s) count in
-    subst (λ (t : List ℕ). IsTrue (source.has t (message_count (layers_of p)))) (sym after) (has_after_point source s (exponent_at p 0) (message_count (layers_of p)) c.requires.has)
+    record {
+      values_are = c.requires.values;
+      position = subst (IsOver (exponent_at c.args.circuit.now.parts 0)) (sym c.at-place.ensures)
+          (ap length (written_back c.in_ok-point.point.items c.draw_point.new.point c.in_ok-point.point.len (c.draw_point.auto.point ∙ c.deref_mut.ensures.len)) ∙ c.draw_point.auto.point ∙ count);
+      has = subst (λ (t : List ℕ). IsTrue (source.has t (message_count (layers_of p)))) (sym after) (has_after_point source s (exponent_at p 0) (message_count (layers_of p)) c.requires.has);
+    }
 
 pub returns-clause-honest : goal.returns-clause-honest
 returns-clause-honest g c inputs tables =

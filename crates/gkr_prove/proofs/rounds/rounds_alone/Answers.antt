@@ -15,7 +15,7 @@ loop-number-init g c = record {
 
 pub note-requires : goal.note-requires
 note-requires g c = record {
-  has = has_next g.C.Challenges.source (g.C.Challenges.state c.loop-number.challenges) c.in_ok-message.message c.rounds_left-count.result c.loop-number._number c.loop-number-test.true c.loop-number.invariant.has;
+  has = has_next g.C.Challenges.source (g.C.Challenges.state c.loop-number.challenges) c.round_alone-message.result c.rounds_left-count.result c.loop-number._number c.loop-number-test.true c.loop-number.invariant.has;
 }
 
 pub loop-number-preserved : goal.loop-number-preserved
@@ -24,8 +24,8 @@ loop-number-preserved g c =
     let noted = c.in_ok-challenge.ensures in
     record {
       all = before.all;
-      tables = bound_more g.C.Challenges.source c.args.tables (g.C.Challenges.state c.args.challenges.now) c.loop-number._number _ _ _ _ _ _ _ _ c.loop-number.tables before.tables noted _ c.in_ok-bind_round.ensures.bound;
-      begun = begun_more g.C.Challenges.source c.args.tables (g.C.Challenges.state c.args.challenges.now) c.loop-number._number _ _ _ _ _ _ _ _ c.loop-number.tables before.tables noted c.in_ok-message.ensures before.begun;
+      tables = bound_more g.C.Challenges.source c.args.tables (g.C.Challenges.state c.args.challenges.now) c.loop-number._number _ _ _ _ _ _ _ _ c.loop-number.tables before.tables noted _ c.bind.ensures;
+      begun = begun_more g.C.Challenges.source c.args.tables (g.C.Challenges.state c.args.challenges.now) c.loop-number._number _ _ _ _ _ _ _ _ c.loop-number.tables before.tables noted c.round_alone-message.ensures before.begun;
       has = has_more g.C.Challenges.source c.args.tables (g.C.Challenges.state c.args.challenges.now) c.loop-number._number _ _ _ _ _ _ _ _ c.loop-number.tables before.tables noted c.rounds_left-count.result c.loop-number-test.true before.has;
     }
 

@@ -11,10 +11,10 @@ loop-k-preserved c =
     let job = c.index-jobs-k.result in
     let before = c.loop-k.invariant in
     record {
-      len = length-set c.loop-k.jobs c.loop-k.k c.aim.new.job ∙ before.len;
-      rest = rest_kept c.args.jobs.now c.loop-k.jobs k c.aim.new.job before.rest;
-      jobs = more_placed f c.args.jobs.now c.args.jobs.now c.loop-k.jobs k job c.aim.new.job c.loop-k-test.true c.loop-k-test.true
-          (c.index-jobs-k.is ∙ before.rest k job (omega arith)) (c.aim.ensures ∙ ap f (sym c.index-jobs-k.is)) before.jobs;
+      len = length-set c.loop-k.jobs c.loop-k.k c.aim_job.new.job ∙ before.len;
+      rest = rest_kept c.args.jobs.now c.loop-k.jobs k c.aim_job.new.job before.rest;
+      jobs = more_placed f c.args.jobs.now c.args.jobs.now c.loop-k.jobs k job c.aim_job.new.job c.loop-k-test.true c.loop-k-test.true
+          (c.index-jobs-k.is ∙ before.rest k job (omega arith)) (c.aim_job.ensures ∙ ap f (sym c.index-jobs-k.is)) before.jobs;
     }
 
 pub returns : goal.returns

@@ -6,5 +6,5 @@ use Rattle.sumcheck_prove.proofs.lines.line_jobs.Given as goal
 abbrev pub invariant-loop : goal.invariant-loop
 invariant-loop l = record {
   count : vec_len l.jobs ≡ l.counter;
-  lines : All HasLine l.jobs.items;
+  lines : All (HasLine l.table.items) l.jobs.items;
 }

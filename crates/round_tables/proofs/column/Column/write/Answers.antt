@@ -5,6 +5,6 @@ use Rattle.round_tables.proofs.column.Column.write.Goals as goal
 
 pub returns-then-is_zero : goal.returns-then-is_zero
 returns-then-is_zero c = λ i. record {
-  items = sym (all-zeros c.args.values.now (c.is_zero.ensures c.if-is_zero.true)) i;
+  items = sym (all-zeros c.args.values.now (c.is_zero.ensures.0 c.if-is_zero.true)) i;
   capacity = (c.self.view_is i).capacity;
 }

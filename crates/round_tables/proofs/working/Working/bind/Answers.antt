@@ -1,42 +1,14 @@
--- Each part has the pairs of the round
-use Rattle.std.proofs.Common.{◌≡◌, ℕ, ◌+◌, ◌-◌, ◌*◌, ◌/◌, ◌^◌, ◌<◌, length, get_or, refl, sym, ◌∙◌, ap, ap₂, arith, subst, All, add_assoc, if◌then◌else◌, ◌==◌}
-use Rattle.std.proofs.lemmas.Nat.{pow_pos}
+-- The steps of folding, and those of gathering
+use Rattle.std.proofs.Common.{◌≡◌, ℕ, ◌+◌, ◌-◌, ◌*◌, ◌^◌, length, ◌∙◌, ap, add_assoc, if◌then◌else◌, ◌==◌}
 use Rattle.round_tables.specs.LayerSum.{left_in_phase}
-use Rattle.round_tables.specs.PartTables.{PartTables, HasSize, cuts_left}
 use Rattle.round_tables.specs.declared.working.Working.{Working}
-use Rattle.round_tables.specs.Working.{parts_of}
-use Rattle.round_tables.proofs.PhaseSteps.{some_left}
-use Rattle.round_tables.proofs.LaidOut.{half, halves, all-pairs}
-use Rattle.round_tables.proofs.Advances.{half-of}
 use Rattle.round_tables.proofs.working.Working.bind.Goals as goal
-
-pub fold-requires : goal.fold-requires
-fold-requires g c =
-    let k = c.args.layer.now.k in
-    let w = c.args.self.now in
-    let ps = parts_of w in
-    let m = left_in_phase k w.count in
-    let laid = c.requires.works.laid in
-    let some : 0 < m = omega (arith, some_left k w.count w.count refl c.requires.left) in
-    let h : ℕ = half k m ps some laid in
-    let first : c.index-parts-0.result ≡ get_or ps 0 c.index-parts-0.result = c.index-parts-0.is ∙ ap (λ l. get_or l 0 c.index-parts-0.result) c.parts.ensures in
-    let is : c.len-half.result / 2 ≡ h = half-of c.len-half.result h (c.len-half.ensures ∙ ap (λ (p : PartTables). length p.table) first ∙ (halves k m ps some laid 0 c.index-parts-0.result (omega (arith, laid.number, pow_pos (cuts_left k m)))).table) in
-    subst (λ (x : ℕ). All (HasSize (2 * x)) ps) (sym is) (halves k m ps some laid)
 
 pub returns-clause-steps : goal.returns-clause-steps
 returns-clause-steps g c =
-    let k = c.args.layer.now.k in
     let w = c.args.self.now in
-    let ps = parts_of w in
-    let m = left_in_phase k w.count in
-    let laid = c.requires.works.laid in
-    let some : 0 < m = omega (arith, some_left k w.count w.count refl c.requires.left) in
-    let h : ℕ = half k m ps some laid in
-    let first : c.index-parts-0.result ≡ get_or ps 0 c.index-parts-0.result = c.index-parts-0.is ∙ ap (λ l. get_or l 0 c.index-parts-0.result) c.parts.ensures in
-    let is : c.len-half.result / 2 ≡ h = half-of c.len-half.result h (c.len-half.ensures ∙ ap (λ (p : PartTables). length p.table) first ∙ (halves k m ps some laid 0 c.index-parts-0.result (omega (arith, laid.number, pow_pos (cuts_left k m)))).table) in
-    let pairs : length ps * (c.len-half.result / 2) ≡ 2 ^ (m - 1) = ap₂ (λ (a b : ℕ). a * b) laid.number is ∙ all-pairs k m some in
-    let gates : Working → ℕ = λ w. if w.count + 1 == k then length c.args.layer.now.gates.now else 0 in
+    let gates : Working → ℕ = λ w. if w.count + 1 == c.args.layer.now.k then length c.args.layer.now.gates.now else 0 in
     c.close_round.ensures.steps
-    ∙ (λ i. c.fold.new.steps + gates (c.of-old.ensures i))
-    ∙ ap (λ (x : ℕ). x + gates w) (c.fold.ensures.steps ∙ ap (λ (x : ℕ). c.args.steps.now + 3 * x) pairs)
-    ∙ add_assoc c.args.steps.now (3 * 2 ^ (m - 1)) (gates w)
+    ∙ (λ i. c.fold_round.new.steps + gates (c.of-old.ensures i))
+    ∙ ap (λ (x : ℕ). x + gates w) c.fold_round.ensures.steps
+    ∙ add_assoc c.args.steps.now (3 * 2 ^ (left_in_phase c.args.layer.now.k w.count - 1)) (gates w)
