@@ -5,7 +5,7 @@ use Rattle.std.proofs.lemmas.List.{length-map, take_more_set}
 use Rattle.std.proofs.lemmas.List.Elements.{All-map}
 use Rattle.std.proofs.lemmas.Nat.{pow-add}
 use Rattle.field_ext.specs.Field.{K}
-use Rattle.round_tables.specs.PartTables.{PartTables, HasCapacity, folded_part, cuts}
+use Rattle.table_parts.specs.PartTables.{PartTables, HasCapacity, folded_part, cuts}
 use Rattle.round_tables.specs.declared.working.Working.{Working}
 use Rattle.round_tables.specs.Working.{bound_of, parts_of, HasCapacities, AreSameCapacities, AreFolded}
 

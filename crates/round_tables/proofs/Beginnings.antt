@@ -9,7 +9,7 @@ use Rattle.gate_gather.specs.Gathering.{GathersLeft, GathersRight}
 use Rattle.round_tables.specs.LayerSum.{left_in_phase}
 use Rattle.round_tables.specs.Phase.{IsLayer, IsPhase}
 use Rattle.round_tables.specs.Weights.{position_weight}
-use Rattle.round_tables.specs.PartTables.{AreLaidOut, flat_table, flat_scales, flat_shifts}
+use Rattle.table_parts.specs.PartTables.{AreLaidOut, flat_table, flat_scales, flat_shifts}
 use Rattle.round_tables.specs.declared.layer_gates.LayerGates.{LayerGates}
 use Rattle.round_tables.specs.declared.working.Working.{Working}
 use Rattle.round_tables.specs.Working.{IsLayerGates, HasCapacities, IsBeginning, GathersPhase, Begins, WorksFor, bound_of, parts_of, place_of}

@@ -11,11 +11,11 @@ use Rattle.field_ext.specs.Field.{K, k_ops, zero_k}
 use Rattle.field_ext.proofs.api.KLaws.{k_laws}
 use Rattle.field_ext.specs.Multilinear.{folded}
 use Rattle.mle_table.proofs.api.Fold.{fold-at}
-use Rattle.round_tables.specs.Tables.{pair_at}
-use Rattle.round_tables.specs.PartTables.{PartTables, HasSize, halved, folded_part, cuts, cuts_left, flat, flat_table, flat_scales, flat_shifts, AreLaidOut}
+use Rattle.table_parts.specs.Tables.{pair_at}
+use Rattle.table_parts.specs.PartTables.{PartTables, HasSize, halved, folded_part, cuts, cuts_left, flat, flat_table, flat_scales, flat_shifts, AreLaidOut}
 use Rattle.round_tables.specs.LayerSum.{left_in_phase}
 use Rattle.round_tables.proofs.PieceValues.{in_left_phase, in_right_phase}
-use Rattle.round_tables.proofs.Halves.{flat-halved, flat-read, length-flat, length-halved}
+use Rattle.table_parts.proofs.api.Halves.{flat-halved, flat-read, length-flat, length-halved}
 
 -- so long as a part has two values it is one of all
 pub in_many : (k m : ℕ) → cuts k < m → cuts_left k m ≡ cuts k

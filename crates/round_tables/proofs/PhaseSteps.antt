@@ -13,11 +13,11 @@ use Rattle.wiring_poly.specs.Wiring.{sum_gates}
 use Rattle.gkr_layers.specs.Places.{Place, weighted_summand_at}
 use Rattle.round_tables.specs.Weights.{position_weight}
 use Rattle.gate_gather.specs.Gathering.{scale_of, shift_of, factor_of, Gathers, GathersLeft, GathersRight}
-use Rattle.round_tables.specs.Tables.{IsFolded, StandFor}
+use Rattle.table_parts.specs.Tables.{IsFolded, StandFor}
 use Rattle.round_tables.specs.LayerSum.{left_in_phase, after_phase}
 use Rattle.round_tables.specs.Phase.{IsLayer, IsPhase}
 use Rattle.round_tables.proofs.PhaseSums.{left_phase, right_phase}
-use Rattle.round_tables.proofs.RoundPairs.{ext-folded, stand-folded}
+use Rattle.table_parts.proofs.api.RoundPairs.{ext-folded, stand-folded}
 use Rattle.mle_table.proofs.api.EqualitySteps.{doubling_fits}
 use Rattle.circuit_core.specs.Parts.{IsOver}
 use Rattle.round_tables.proofs.PieceValues.{in_left_phase, in_right_phase}

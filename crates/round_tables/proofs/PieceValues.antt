@@ -12,9 +12,9 @@ use Rattle.wiring_poly.proofs.api.Hom.{sum_below-hom, sum_cube-hom}
 use Rattle.gkr_layers.proofs.api.RoundPoly.{value_hom, value-constant, at_point}
 use Rattle.gkr_layers.specs.Places.{Place, map_place, weighted_summand, weighted_summand_at}
 use Rattle.gkr_layers.proofs.api.PlaceSums.{weighted_summand-hom, place_constants}
-use Rattle.round_tables.specs.Tables.{pair_at, StandFor}
+use Rattle.table_parts.specs.Tables.{pair_at, StandFor}
 use Rattle.round_tables.specs.LayerSum.{left_in_phase, after_phase, part_of_round}
-use Rattle.round_tables.proofs.RoundPairs.{stand-pair}
+use Rattle.table_parts.proofs.api.RoundPairs.{stand-pair}
 
 pub in_left_phase : (k n : ℕ) → n < k → (left_in_phase k n ≡ k - n) × (after_phase k n ≡ k)
 in_left_phase k n u = let b = lt-ltb n k u in (ap (λ (b : Bool). if b then k - n else k + k - n) b, ap (λ (b : Bool). if b then k else 0) b)

@@ -10,14 +10,14 @@ use Rattle.circuit_core.specs.declared.gate.CircuitGate.{CircuitGate}
 use Rattle.gkr_layers.specs.Places.{Place}
 use Rattle.gate_gather.specs.Gathering.{given_from, Gathers, left_of, right_of, left_scale, left_shift, scale_of, shift_of, factor_of}
 use Rattle.round_tables.specs.LayerSum.{LayerSum}
-use Rattle.round_tables.specs.PartTables.{PartTables, HasSize, flat, flat_table, flat_scales, flat_shifts}
+use Rattle.table_parts.specs.PartTables.{PartTables, HasSize, flat, flat_table, flat_scales, flat_shifts}
 use Rattle.round_tables.specs.Weights.{position_weight}
 use Rattle.round_tables.specs.Working.{GathersPhase}
 use Rattle.mle_table.specs.Shape.{AreBase}
 use Rattle.round_tables.specs.declared.layer_gates.LayerGates.{LayerGates}
 use Rattle.round_tables.specs.Ranges.{RangeView, AreRangesFor, IsGathered, sum_of}
 use Rattle.round_tables.proofs.Advances.{whole-parts}
-use Rattle.round_tables.proofs.Halves.{flat-append, front-more, length-flat}
+use Rattle.table_parts.proofs.api.Halves.{flat-append, front-more, length-flat}
 
 module _ {A : Type 0} (o : Ops A) where
   -- a table of two ranges, one after the other

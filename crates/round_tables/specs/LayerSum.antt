@@ -10,7 +10,7 @@ use Rattle.circuit_core.specs.Sound.{exponent_at}
 use Rattle.field_ext.specs.Polynomial.{polynomial_ops, constant}
 use Rattle.gkr_layers.specs.Places.{Place, map_place, weighted_summand_at}
 use Rattle.gkr_layers.specs.Sumcheck.{round_polynomial}
-use Rattle.round_tables.specs.PartTables.{PartTables, cuts_left}
+use Rattle.table_parts.specs.PartTables.{PartTables, cuts_left}
 
 -- a layer of gates over the 2 ^ k values of the layer below, the place of its claim, the challenges that are bound, and the parts of the tables that are lent, if any
 pub record LayerSum : Type 0 where

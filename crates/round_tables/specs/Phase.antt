@@ -7,7 +7,7 @@ use Rattle.circuit_core.specs.declared.gate.CircuitGate.{CircuitGate}
 use Rattle.gkr_layers.specs.Places as places
 use Rattle.gkr_layers.specs.Places.{Place, weighted_summand_at}
 use Rattle.circuit_core.specs.Parts.{IsOver}
-use Rattle.round_tables.specs.Tables.{StandFor}
+use Rattle.table_parts.specs.Tables.{StandFor}
 use Rattle.round_tables.specs.LayerSum.{left_in_phase, after_phase}
 
 -- a layer of gates over 2 ^ k values, with a place of as many coordinates as its positions have

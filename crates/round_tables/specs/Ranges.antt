@@ -6,7 +6,7 @@ use Rattle.round_tables.specs.declared.layer_gates.LayerGates.{LayerGates}
 use Rattle.round_tables.specs.declared.room.Room.{Room}
 use Rattle.round_tables.specs.declared.working.Working.{Working}
 use Rattle.round_tables.specs.LayerSum.{LayerSum}
-use Rattle.round_tables.specs.PartTables.{PartTables, HasSize, HasCapacity, cuts, flat_table, flat_scales, flat_shifts}
+use Rattle.table_parts.specs.PartTables.{PartTables, HasSize, HasCapacity, cuts, flat_table, flat_scales, flat_shifts}
 use Rattle.round_tables.specs.Weights.{IsSamePoint}
 use Rattle.round_tables.specs.Working.{IsLayerGates, IsBeginning, GathersPhase, bound_of, place_of}
 

@@ -11,7 +11,7 @@ use Rattle.gkr_layers.specs.Places.Place.{At, AtBoth}
 use Rattle.round_tables.specs.Weights.{position_weight, HasRows, product_at}
 use Rattle.field_ext.specs.Multilinear.{eq_poly, extension_at, folded}
 use Rattle.gate_gather.specs.Gathering.{GathersLeft, GathersRight}
-use Rattle.round_tables.specs.PartTables.{PartTables, HasCapacity, cuts, flat_table, flat_scales, flat_shifts, folded_part, AreLaidOut}
+use Rattle.table_parts.specs.PartTables.{PartTables, HasCapacity, cuts, flat_table, flat_scales, flat_shifts, folded_part, AreLaidOut}
 use Rattle.round_tables.specs.LayerSum.{left_in_phase}
 use Rattle.round_tables.specs.Phase.{IsLayer, IsPhase}
 

@@ -10,12 +10,11 @@ ghost use Rattle.gkr_layers.specs.ClaimPlace as claim_place;
 ghost use Rattle.round_tables.specs.Phase.{IsLayer};
 ghost use Rattle.field_ext.specs.Polynomial.{coefficients};
 ghost use Rattle.round_tables.specs.LayerSum.{sum_of_layer, pairs_of, pieces_of, piece_pairs, piece_poly, bind_steps};
-ghost use Rattle.round_tables.specs.PartTables.{PartTables, folded_part, part_sum};
+ghost use Rattle.table_parts.specs.PartTables.{PartTables, folded_part, part_sum};
 
 use crate::buffers::{Buffers, TooSmallBuffers};
 use crate::layer_gates::LayerGates;
 use crate::open::OpenTables;
-use crate::part::Part;
 use crate::working::{Working, pair_count};
 use circuit_core::{Circuit, CircuitGate};
 use circuit_eval::Values;
@@ -27,6 +26,7 @@ use std::marker::{Brand, Model};
 use std::snapshot::Snapshot;
 use std::sync::ledger::{Blank, Ledger};
 use step_count::Steps;
+use table_parts::Part;
 
 /// The sumcheck of a layer, with some of its challenges bound. Its tables are in parts, which can be lent.
 #[derive(Drop)]

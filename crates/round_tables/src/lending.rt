@@ -1,17 +1,17 @@
 //! Ranges of a phase's places that are lent, and come back gathered.
 
 ghost use Rattle.std.specs.Prelude.{◌≡◌, ℕ, ◌≤◌, ◌<◌, ◌+◌, All, true, false, length, vec_len, vec_capacity};
-ghost use Rattle.round_tables.specs.PartTables.{HasCapacity};
+ghost use Rattle.table_parts.specs.PartTables.{HasCapacity};
 ghost use Rattle.round_tables.specs.Ranges.{range_of};
 
 use crate::gate_tables::GateTables;
 use crate::layer_gates::LayerGates;
-use crate::part::Part;
 use crate::room::{Room, Rooms};
 use crate::share::Share;
 use crate::working::Working;
 use field_ext::Ext;
 use std::marker::Model;
+use table_parts::Part;
 
 /// A sumcheck where a phase begins, of which ranges of places are lent, one after another.
 #[derive(Drop)]

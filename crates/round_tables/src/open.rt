@@ -11,7 +11,6 @@ use crate::buffers::{Buffers, TooSmallBuffers};
 use crate::gate_tables::GateTables;
 use crate::layer_gates::{LayerGates, power};
 use crate::lending::Lending;
-use crate::parts::cut_count;
 use crate::room::{Rooms, prepare_each};
 use crate::working::Working;
 use circuit_core::CircuitGate;
@@ -21,6 +20,7 @@ use mle_table::Table;
 use std::marker::{Brand, Model};
 use std::sync::ledger::{Blank, Ledger};
 use step_count::Steps;
+use table_parts::cut_count;
 
 /// The sumcheck of a layer where a phase begins whose gates aren't gathered yet. They are gathered by the calling thread, or in
 /// ranges of places that are lent.

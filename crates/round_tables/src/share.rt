@@ -4,13 +4,12 @@ ghost use Rattle.std.specs.Prelude.{◌≡◌, ◌<◌};
 ghost use Rattle.round_tables.specs.Ranges.{gathered_range};
 
 use crate::layer_gates::LayerGates;
-use crate::part::Part;
-use crate::parts::fill_parts;
 use crate::working::gather;
 use field_ext::Ext;
 use std::marker::{Brand, Model};
 use std::sync::ledger::{Blank, Ledger};
 use step_count::Steps;
+use table_parts::{Part, fill_parts};
 
 /// A range of the places of a phase that begins, with the parts of the phase's tables there.
 #[derive(Drop)]

@@ -4,14 +4,12 @@ ghost use Rattle.std.specs.Prelude.{◌≡◌, ◌≢◌, ℕ, ◌≤◌, ◌<�
 ghost use Rattle.field_ext.specs.Field.{K, k_ops, zero_k};
 ghost use Rattle.field_ext.specs.Multilinear.{eq_poly};
 ghost use Rattle.gate_gather.specs.Gathering.{GathersLeft, GathersRight};
-ghost use Rattle.round_tables.specs.PartTables.{PartTables, HasSize, flat_table, flat_scales, flat_shifts, AreLaidOut};
+ghost use Rattle.table_parts.specs.PartTables.{PartTables, HasSize, flat_table, flat_scales, flat_shifts, AreLaidOut};
 ghost use Rattle.field_ext.specs.Polynomial.{coefficients};
 ghost use Rattle.round_tables.specs.LayerSum.{left_in_phase, half_size, part_of_round};
 ghost use Rattle.round_tables.specs.Working.{place_of, weights_of, parts_of, IsLayerGates, HasCapacities, AreSameCapacities, AreFolded, IsAdvanced, IsBeginning, GathersPhase, Begins, WorksFor, bound_of};
 
 use crate::layer_gates::{LayerGates, power};
-use crate::part::Part;
-use crate::parts::{PART_VALUES, cut_count, fill_parts, fit_parts, fold_parts, merge_parts};
 use field_ext::Ext;
 use gate_gather::{Base, EqualityAt, Whole, gather_left, gather_right};
 use std::alloc::{AllocError, Global};
@@ -19,6 +17,7 @@ use std::mem::replace;
 use std::snapshot::Snapshot;
 use std::sync::ledger::Ledger;
 use step_count::Steps;
+use table_parts::{PART_VALUES, Part, cut_count, fill_parts, fit_parts, fold_parts, merge_parts};
 
 /// The buffers of both phases, and the challenges bound so far. The gates of a phase are gathered into `scales` and `shifts`, and
 /// its tables then are in `many` parts until each has one value, and from then on in `one`.

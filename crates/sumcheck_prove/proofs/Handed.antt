@@ -7,7 +7,7 @@ use Rattle.field_ext.specs.Polynomial.{coefficients, value_at}
 use Rattle.field_ext.specs.Sums.{sum_below}
 use Rattle.mle_table.proofs.api.SumLaws.{sum_below-same}
 use Rattle.round_tables.specs.LayerSum.{LayerSum, pieces_of, piece_poly, next_poly}
-use Rattle.round_tables.specs.PartTables.{PartTables, folded_part, part_sum}
+use Rattle.table_parts.specs.PartTables.{PartTables, folded_part, part_sum}
 use Rattle.sumcheck_prove.specs.declared.jobs.Job.{Job}
 use Rattle.sumcheck_prove.specs.Jobs.{job_of, round_of}
 use Rattle.sumcheck_prove.proofs.Summing.{three_each, piece_value, whole_round}

@@ -3,7 +3,7 @@ use Rattle.std.specs.Prelude.{◌≡◌, ℕ, ◌<◌, Bool, List, [], Option, S
 use Rattle.field_ext.specs.Field.{K}
 use Rattle.line_reduce.specs.Parts.{PartOfLine, part_coordinates, worked_part}
 use Rattle.round_tables.specs.LayerSum.{LayerSum}
-use Rattle.round_tables.specs.PartTables.{PartTables, folded_part, part_sum}
+use Rattle.table_parts.specs.PartTables.{PartTables, folded_part, part_sum}
 use Rattle.round_tables.specs.Ranges.{RangeView, range_of, gathered_range}
 use Rattle.sumcheck_prove.specs.Lines.{LineView, worked_line, aimed_line}
 use Rattle.sumcheck_prove.specs.declared.jobs.Job.{Job}

@@ -7,10 +7,11 @@ use crate::message::threads_from;
 use field_ext::Ext;
 use io_edge::Gate;
 use phase_run::{PartWork, run_parts};
-use round_tables::{GateTables, Part};
+use round_tables::GateTables;
 use std::alloc::{AllocError, Global};
 use std::marker::Sync;
 use std::thread::Threads;
+use table_parts::Part;
 
 /// Folding takes less than summing, so only the widest rounds pay for threads.
 const PAIRS_TO_FOLD_BY_TWO: usize = 32768;
@@ -59,7 +60,7 @@ struct FoldedBy {
 }
 
 impl PartWork for FoldedBy {
-    ghost use Rattle.round_tables.specs.PartTables.{folded_part};
+    ghost use Rattle.table_parts.specs.PartTables.{folded_part};
 
     type Part = Part;
 

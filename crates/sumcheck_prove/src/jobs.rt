@@ -4,7 +4,7 @@ ghost use Rattle.std.specs.Prelude.{◌≡◌, ℕ, ◌+◌, ◌<◌, ◌≤◌,
 ghost use Rattle.field_ext.specs.Field.{K, k_ops};
 ghost use Rattle.field_ext.specs.Polynomial.{value_at};
 ghost use Rattle.field_ext.specs.Sums.{sum_below};
-ghost use Rattle.round_tables.specs.PartTables.{PartTables};
+ghost use Rattle.table_parts.specs.PartTables.{PartTables};
 ghost use Rattle.sumcheck_prove.specs.Jobs.{job_of, round_of};
 
 use crate::adding::{no_message, plus};
@@ -13,11 +13,12 @@ use crew::Crew;
 use field_ext::Ext;
 use mle_table::Table;
 use phase_run::PartWork;
-use round_tables::{Part, Share};
+use round_tables::Share;
 use std::alloc::{AllocError, Global};
 use std::marker::PhantomData;
 use std::mem::swap;
 use std::sync::Wait;
+use table_parts::Part;
 
 /// What a worker is to do: to work a part of the line, where there is one, or to gather a range of places, where there is one, or
 /// else to fold a part of the tables by a challenge or to sum it.

@@ -16,7 +16,7 @@ use Rattle.gkr_layers.proofs.api.RoundPoly.{value_hom}
 use Rattle.gkr_layers.proofs.api.PlaceSums.{value-round_polynomial}
 use Rattle.gkr_layers.proofs.api.Degree.{length-round_polynomial}
 use Rattle.round_tables.specs.LayerSum.{LayerSum, left_in_phase, after_phase, pieces_of, piece_pairs, piece_poly, next_poly}
-use Rattle.round_tables.specs.PartTables.{cuts_left}
+use Rattle.table_parts.specs.PartTables.{cuts_left}
 use Rattle.round_tables.proofs.LaidOut.{all-pairs}
 use Rattle.round_tables.proofs.PhaseSteps.{some_left}
 use Rattle.round_tables.proofs.Sums.{sum_cube-bits}

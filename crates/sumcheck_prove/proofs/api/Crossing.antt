@@ -13,12 +13,12 @@ use Rattle.std.specs.contracts.option.Option as option
 use Rattle.std.specs.contracts.snapshot.Snapshot as snapshot
 use Rattle.line_reduce.specs.contracts.parts.LinePart as line_part
 use Rattle.line_reduce.specs.contracts.parts.LinePart.TheInside as inside_line_part
-use Rattle.round_tables.specs.contracts.column.Column as column
-use Rattle.round_tables.specs.contracts.column.Column.TheInside as inside_column
+use Rattle.table_parts.specs.contracts.column.Column as column
+use Rattle.table_parts.specs.contracts.column.Column.TheInside as inside_column
 use Rattle.round_tables.specs.contracts.kept_point.KeptPoint as kept_point
 use Rattle.round_tables.specs.contracts.buffers.Buffers as buffers
-use Rattle.round_tables.specs.contracts.part.Part as part
-use Rattle.round_tables.specs.contracts.part.Part.TheInside as inside_part
+use Rattle.table_parts.specs.contracts.part.Part as part
+use Rattle.table_parts.specs.contracts.part.Part.TheInside as inside_part
 use Rattle.round_tables.specs.contracts.room.Room as room
 use Rattle.round_tables.specs.contracts.room.Rooms as rooms
 use Rattle.round_tables.specs.contracts.room.Rooms.TheInside as inside_rooms

@@ -1,7 +1,7 @@
 -- One part more
 use Rattle.std.proofs.Common.{[], ◌∷◌, All, sym, arith, subst}
 use Rattle.std.proofs.lemmas.List.Elements.{All-append, All-cons, All-nil}
-use Rattle.round_tables.specs.PartTables.{HasCapacity}
+use Rattle.table_parts.specs.PartTables.{HasCapacity}
 use Rattle.round_tables.proofs.Ranges.{all-before, last-of}
 use Rattle.round_tables.proofs.lending.move_parts.Goals as goal
 

@@ -1,6 +1,6 @@
 -- So many parts are moved, each with its capacity
 use Rattle.std.proofs.Common.{◌≡◌, ℕ, ◌+◌, ◌≤◌, All, vec_len, vec_capacity}
-use Rattle.round_tables.specs.PartTables.{HasCapacity}
+use Rattle.table_parts.specs.PartTables.{HasCapacity}
 use Rattle.round_tables.proofs.lending.move_parts.Given as goal
 
 abbrev pub invariant-loop : goal.invariant-loop

@@ -1,7 +1,7 @@
 -- The parts come back folded
 use Rattle.std.proofs.Common.{◌≡◌, map, length, refl, sym, ◌∙◌, ap}
 use Rattle.round_tables.specs.LayerSum.{LayerSum}
-use Rattle.round_tables.specs.PartTables.{folded_part}
+use Rattle.table_parts.specs.PartTables.{folded_part}
 use Rattle.sumcheck_prove.proofs.FoldedParts.{all-worked}
 use Rattle.sumcheck_prove.proofs.binding.bind_round.Goals as goal
 

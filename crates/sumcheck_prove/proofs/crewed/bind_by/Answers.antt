@@ -2,7 +2,7 @@
 use Rattle.std.proofs.Common.{map, sym, ◌∙◌, ap}
 use Rattle.wiring_poly.proofs.api.Identity.{written_back}
 use Rattle.round_tables.specs.LayerSum.{LayerSum}
-use Rattle.round_tables.specs.PartTables.{folded_part}
+use Rattle.table_parts.specs.PartTables.{folded_part}
 use Rattle.sumcheck_prove.specs.declared.jobs.Job.{Job}
 use Rattle.sumcheck_prove.proofs.Handed.{folded}
 use Rattle.sumcheck_prove.proofs.crewed.bind_by.Goals as goal

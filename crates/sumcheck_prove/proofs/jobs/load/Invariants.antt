@@ -1,6 +1,6 @@
 -- The parts passed are in their jobs
 use Rattle.std.proofs.Common.{◌≡◌, ℕ, ◌≤◌, ◌++◌, map, take, drop, length, get_or}
-use Rattle.round_tables.specs.PartTables.{PartTables}
+use Rattle.table_parts.specs.PartTables.{PartTables}
 use Rattle.sumcheck_prove.specs.Jobs.{job_of}
 use Rattle.sumcheck_prove.proofs.jobs.load.Given as goal
 

@@ -1,6 +1,6 @@
 -- One part more
 use Rattle.std.proofs.Common.{◌≡◌, length, ◌∙◌, arith, ap, sym, length-set}
-use Rattle.round_tables.specs.PartTables.{PartTables}
+use Rattle.table_parts.specs.PartTables.{PartTables}
 use Rattle.sumcheck_prove.specs.declared.jobs.Job.{Job}
 use Rattle.sumcheck_prove.proofs.Loading.{more_placed, all_placed, rest_kept}
 use Rattle.sumcheck_prove.proofs.jobs.unload.Goals as goal

@@ -1,7 +1,7 @@
 -- There are few parts, and each sums to its piece
 use Rattle.std.proofs.Common.{rules, ◌≡◌, ℕ, ◌+◌, ◌<◌, ◌≤◌, List, length, get_or, sym, ◌∙◌, ap, subst, arith}
 use Rattle.round_tables.specs.LayerSum.{left_in_phase, pieces_of}
-use Rattle.round_tables.specs.PartTables.{PartTables, part_sum}
+use Rattle.table_parts.specs.PartTables.{PartTables, part_sum}
 use Rattle.round_tables.specs.Working.{WorksFor, parts_of, lent_parts}
 use Rattle.round_tables.proofs.LaidOut.{parts-few}
 use Rattle.round_tables.proofs.PartSums.{piece-of}

@@ -1,7 +1,7 @@
 -- All ranges are the phase
 use Rattle.std.proofs.Common.{◌≡◌, ℕ, ◌-◌, ◌*◌, ◌^◌, refl, false, length, take, All, arith, sym, ◌∙◌, ap, subst}
 use Rattle.std.proofs.lemmas.List.{take_all}
-use Rattle.round_tables.specs.PartTables.{PartTables, HasCapacity, HasSize, cuts, cuts_left, AreLaidOut}
+use Rattle.table_parts.specs.PartTables.{PartTables, HasCapacity, HasSize, cuts, cuts_left, AreLaidOut}
 use Rattle.round_tables.specs.declared.working.Working.{Working}
 use Rattle.round_tables.specs.Ranges.{CollectingView}
 use Rattle.round_tables.specs.Working.{HasCapacities, WorksFor}

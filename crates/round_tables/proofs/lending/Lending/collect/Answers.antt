@@ -1,6 +1,6 @@
 -- No range is back yet
 use Rattle.std.proofs.Common.{◌≡◌, ℕ, ◌-◌, ◌*◌, [], length, All, arith, sym, ◌∙◌, ap, subst}
-use Rattle.round_tables.specs.PartTables.{PartTables, HasCapacity, HasSize}
+use Rattle.table_parts.specs.PartTables.{PartTables, HasCapacity, HasSize}
 use Rattle.round_tables.specs.Ranges.{LendingView, IsGathered, sum_of}
 use Rattle.round_tables.specs.Working.{bound_of, place_of}
 use Rattle.round_tables.proofs.Ranges.{none-gathered, nothing-gathered}

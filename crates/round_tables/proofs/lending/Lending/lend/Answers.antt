@@ -2,7 +2,7 @@
 use Rattle.std.proofs.Common.{rules, ◌≡◌, ℕ, ◌+◌, ◌-◌, ◌*◌, ◌^◌, ◌<◌, ◌≤◌, [], ◌∷◌, ◌++◌, false, length, vec_len, All, sym, ◌∙◌, ap, arith, subst}
 use Rattle.field_ext.specs.Field.{K}
 use Rattle.mle_table.proofs.api.EqualitySteps.{pow_up}
-use Rattle.round_tables.specs.PartTables.{PartTables, HasCapacity, cuts}
+use Rattle.table_parts.specs.PartTables.{PartTables, HasCapacity, cuts}
 use Rattle.round_tables.specs.Ranges.{LendingView, IsRoomFor, sum_of, range_of}
 use Rattle.round_tables.specs.Working.{IsBeginning, bound_of}
 use Rattle.round_tables.proofs.PlaceWeights.{copied-place, copied-layer}

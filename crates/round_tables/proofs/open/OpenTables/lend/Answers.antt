@@ -2,7 +2,7 @@
 use Rattle.std.proofs.Common.{◌≡◌, ℕ, ◌+◌, ◌-◌, ◌*◌, ◌/◌, ◌^◌, ◌++◌, length, take, drop, All, sym, ◌∙◌, ap, arith, subst}
 use Rattle.std.proofs.Math.Nat.{div-add-mod}
 use Rattle.wiring_poly.proofs.api.Identity.{written_back}
-use Rattle.round_tables.specs.PartTables.{HasCapacity, cuts}
+use Rattle.table_parts.specs.PartTables.{HasCapacity, cuts}
 use Rattle.round_tables.specs.Ranges.{AreRoomsFor}
 use Rattle.round_tables.specs.Working.{bound_of}
 use Rattle.round_tables.proofs.open.OpenTables.lend.Goals as goal

@@ -2,7 +2,7 @@
 use Rattle.std.proofs.Common.{◌≡◌, ◌≢◌, ℕ, ◌+◌, ◌-◌, ◌^◌, ◌<◌, [], ◌++◌, length, take, drop, get_or, refl, sym, ◌∙◌, ap, arith, subst, All}
 use Rattle.std.proofs.lemmas.List.{length-map}
 use Rattle.round_tables.specs.LayerSum.{left_in_phase}
-use Rattle.round_tables.specs.PartTables.{PartTables, HasSize, HasCapacity, folded_part, cuts, flat_table, flat_scales, flat_shifts, AreLaidOut}
+use Rattle.table_parts.specs.PartTables.{PartTables, HasSize, HasCapacity, folded_part, cuts, flat_table, flat_scales, flat_shifts, AreLaidOut}
 use Rattle.round_tables.specs.Working.{parts_of, HasCapacities}
 use Rattle.round_tables.proofs.PhaseSteps.{some_left}
 use Rattle.wiring_poly.proofs.api.Identity.{written_back}

@@ -3,7 +3,7 @@ use Rattle.std.proofs.Common.{◌≡◌, ◌-◌, inl, length, get_or, arith, �
 use Rattle.field_ext.specs.Field.{k_ops, zero_k}
 use Rattle.field_ext.proofs.api.KLaws.{k_laws}
 use Rattle.round_tables.specs.LayerSum.{left_in_phase}
-use Rattle.round_tables.specs.PartTables.{flat_table, flat_scales, flat_shifts, AreLaidOut}
+use Rattle.table_parts.specs.PartTables.{flat_table, flat_scales, flat_shifts, AreLaidOut}
 use Rattle.round_tables.specs.Working.{place_of, bound_of, parts_of}
 use Rattle.round_tables.proofs.PhaseSteps.{bound_left, some_left, length-count}
 use Rattle.round_tables.proofs.LaidOut.{left-next}

@@ -2,7 +2,7 @@
 use Rattle.std.proofs.Common.{◌≡◌, ℕ, ◌+◌, ◌-◌, ◌*◌, ◌/◌, ◌^◌, ◌<◌, length, get_or, refl, sym, ◌∙◌, ap, ap₂, arith, subst, All, add_assoc, if◌then◌else◌, ◌==◌}
 use Rattle.std.proofs.lemmas.Nat.{pow_pos}
 use Rattle.round_tables.specs.LayerSum.{left_in_phase}
-use Rattle.round_tables.specs.PartTables.{PartTables, HasSize, cuts_left}
+use Rattle.table_parts.specs.PartTables.{PartTables, HasSize, cuts_left}
 use Rattle.round_tables.specs.declared.working.Working.{Working}
 use Rattle.round_tables.specs.Working.{parts_of}
 use Rattle.round_tables.proofs.PhaseSteps.{some_left}

@@ -1,6 +1,6 @@
 -- A part sums to its part of the round
 use Rattle.std.proofs.Common.{◌≡◌, ◌+◌, ℕ, get_or, ◌∙◌, ap}
-use Rattle.round_tables.specs.PartTables.{summed_pairs, part_sum}
+use Rattle.table_parts.specs.PartTables.{summed_pairs, part_sum}
 use Rattle.round_tables.specs.Working.{parts_of}
 use Rattle.round_tables.proofs.PartSums.{pairs-summed, part-of-round}
 use Rattle.round_tables.proofs.working.Working.part_sum.Goals as goal

@@ -4,7 +4,7 @@ use Rattle.field_ext.specs.Field.{K, k_ops, zero_k}
 use Rattle.field_ext.specs.Multilinear.{extension_at}
 use Rattle.field_ext.proofs.api.KLaws.{k_laws}
 use Rattle.round_tables.specs.LayerSum.{left_in_phase}
-use Rattle.round_tables.specs.PartTables.{AreLaidOut, flat_table, flat_scales, flat_shifts}
+use Rattle.table_parts.specs.PartTables.{AreLaidOut, flat_table, flat_scales, flat_shifts}
 use Rattle.round_tables.specs.Working.{place_of, bound_of, parts_of}
 use Rattle.round_tables.proofs.Beginnings.{all-bound}
 use Rattle.round_tables.proofs.PhaseSteps.{kept_value, length-bound, length-count}

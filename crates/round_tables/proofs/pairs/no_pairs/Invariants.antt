@@ -1,6 +1,0 @@
--- A step for each pair passed
-use Rattle.std.proofs.Common.{◌≡◌, ◌+◌}
-use Rattle.round_tables.proofs.pairs.no_pairs.Given as goal
-
-abbrev pub invariant-loop : goal.invariant-loop
-invariant-loop g l = l.steps ≡ l.fn.steps + l.counter

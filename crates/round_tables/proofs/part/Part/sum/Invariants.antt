@@ -1,5 +1,0 @@
--- The ledger that counts the steps
-use Rattle.round_tables.proofs.part.Part.sum.Given as goal
-
-abbrev pub ghosts-sum_from : goal.ghosts-sum_from
-ghosts-sum_from a = record { name = a.blank.name; parts = a.blank.parts }

@@ -1,0 +1,4 @@
+pub mod api
+mod LazySums
+mod Folds
+mod Columns
