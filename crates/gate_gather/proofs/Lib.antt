@@ -5,3 +5,5 @@ mod Factors
 mod Made
 mod ZeroPrefix
 mod NoShifts
+mod Chosen
+mod Blocks

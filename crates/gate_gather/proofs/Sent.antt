@@ -1,12 +1,14 @@
 -- What a gate changes where it is sent, and what all gates have changed
-use Rattle.std.proofs.Common.{◌≡◌, ◌≢◌, ℕ, ◌+◌, ◌<◌, ◌≤◌, ◌⊎◌, inl, inr, List, length, get_or, set, Bool, if◌then◌else◌, ◌==◌, sym, ◌∙◌, ap, ap₂, eq-eqb, get_or-set_same, get_or-set_other, drop_of_length-le, arith}
+use Rattle.std.proofs.Common.{◌≡◌, ◌≢◌, ℕ, zero, suc, ◌+◌, ◌<◌, ◌≤◌, ◌⊎◌, inl, inr, List, length, get_or, set, Bool, if◌then◌else◌, ◌==◌, refl, sym, ◌∙◌, ap, ap₂, subst, eq-eqb, get_or-set_same, get_or-set_other, drop_of_length-le, arith}
 use Rattle.std.proofs.lemmas.List.{drop_more, get_or_default}
 use Rattle.std.proofs.lemmas.Bool.{cases_eq, ne_eqb}
 use Rattle.field_ext.specs.Ring.{Ops, Laws}
 use Rattle.field_ext.proofs.api.Rings.{zero_add}
 use Rattle.circuit_core.specs.declared.gate.CircuitGate.{CircuitGate}
 use Rattle.wiring_poly.specs.Wiring.{sum_gates}
+use Rattle.circuit_core.specs.Parts.{zero_gate}
 use Rattle.gate_gather.specs.Gathering.{given_from, Gathers}
+use Rattle.gate_gather.specs.Choosing.{AreElsewhere}
 
 -- a place of a table is the place from its first on
 same_place : (i place from x : ℕ) → from + i ≡ place → (i == x) ≡ (place == from + x)
@@ -67,6 +69,17 @@ module _ {A : Type 0} (o : Ops A) (l : Laws A o) where
         ∙ l.add_assoc (get_or now x o.zero) (if place (get_or gates g d) == from + x then weight g (get_or gates g d) else o.zero) (given_from o (g + 1) gates place weight (from + x))
         ∙ ap (λ (gs : List CircuitGate). o.add (get_or now x o.zero) (given g gs x)) (sym (drop_more gates g d u))
         ∙ before x w
+
+    -- gates that are sent elsewhere are passed over
+    passed_one : (t : List A) (g : ℕ) (d : CircuitGate) → g < length gates → ((x : ℕ) → x < length t → place (get_or gates g d) ≢ from + x) → AreSentBefore t g → AreSentBefore t (g + 1)
+    passed_one t g d u none before =
+        sent_next t t g (g + 1) d u refl refl (λ x v. not_sent (length t) (place (get_or gates g d)) from x (get_or t x o.zero) (weight g (get_or gates g d)) none v) before
+
+    pub passed_over : (n : ℕ) (t : List A) (a b : ℕ) → b ≡ a + n → b ≤ length gates → AreElsewhere place gates from (length t) a b → AreSentBefore t a → AreSentBefore t b
+    passed_over zero t a b e u none before = subst (λ (g : ℕ). AreSentBefore t g) (omega (arith, e)) before
+    passed_over (suc n) t a b e u none before =
+        passed_over n t (a + 1) b (omega (arith, e)) u (λ p x v w z. none p x (omega (arith, v)) w z)
+        (passed_one t a zero_gate (omega (arith, e, u)) (λ x z. none a x (omega arith) (omega (arith, e)) z) before)
 
     pub all_sent : (t : List A) (g : ℕ) → length gates ≤ g → AreSentBefore t g → Gathers o t from gates place weight
     all_sent t g u before x v =

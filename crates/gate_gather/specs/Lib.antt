@@ -1,4 +1,5 @@
 pub mod LazySum
 pub mod Gathering
+pub mod Choosing
 pub mod Scaling
 pub mod Carries

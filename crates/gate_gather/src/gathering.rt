@@ -7,6 +7,7 @@ ghost use Rattle.field_ext.specs.Multilinear.{eq_poly};
 ghost use Rattle.wiring_poly.specs.Wiring.{by_kind};
 ghost use Rattle.gate_gather.specs.Gathering.{left_scale, left_shift, add_factor, mul_factor, GathersLeft, GathersFactors, GathersRight};
 
+use crate::choosing::{ByLeft, ByRight, choose};
 use crate::operand::Operand;
 use crate::scaling::scale_by;
 use crate::weights::{EqualityAt, Weights};
@@ -15,6 +16,19 @@ use circuit_core::{CircuitGate, Kind};
 use field_ext::Ext;
 use std::sync::ledger::Ledger;
 use step_count::Steps;
+
+/// From how many gates those that are sent into a range are chosen at once.
+const BLOCK: usize = 128;
+
+/// Takes so many steps.
+fn tick_each<L: Ledger>(count: usize, steps: &mut Steps<L>)
+    ensures { steps.new ≡ steps.old + count }
+{
+    for step in 0..count {
+        let _ = step;
+        steps.tick();
+    }
+}
 
 /// What is taken for gates that add, or for those that multiply. It is taken without a branch.
 #[inline]
@@ -105,16 +119,23 @@ pub fn gather_left<V: Operand, W: Weights>(
 {
     clear(scales);
     clear(shifts);
-    for position in 0..gates.len() {
-        send_left::<V, W>(
-            gates[position],
-            weights,
-            position,
-            values,
-            from,
-            scales,
-            shifts,
-        );
+    let mut chosen = [0; BLOCK];
+    for block in 0..gates.len() / BLOCK + 1 {
+        let start = block * BLOCK;
+        let end = (start + BLOCK).min(gates.len());
+        let count = choose::<ByLeft>(gates, start, end, from, scales.len(), &mut chosen);
+        for k in 0..count {
+            let position = chosen[k];
+            send_left::<V, W>(
+                gates[position],
+                weights,
+                position,
+                values,
+                from,
+                scales,
+                shifts,
+            );
+        }
     }
 }
 
@@ -174,10 +195,17 @@ fn gather_factors<W: Weights, L: Ledger>(
 {
     clear(adds);
     clear(muls);
-    for position in 0..gates.len() {
-        send_right(gates[position], weights, position, left, from, adds, muls);
-        steps.tick();
+    let mut chosen = [0; BLOCK];
+    for block in 0..gates.len() / BLOCK + 1 {
+        let start = block * BLOCK;
+        let end = (start + BLOCK).min(gates.len());
+        let count = choose::<ByRight>(gates, start, end, from, adds.len(), &mut chosen);
+        for k in 0..count {
+            let position = chosen[k];
+            send_right(gates[position], weights, position, left, from, adds, muls);
+        }
     }
+    tick_each(gates.len(), steps);
 }
 
 /// The tables of the second phase, of the places from `from` on: what the gates give by their right operands, where the left

@@ -12,6 +12,7 @@
 //! ```
 #![tactic(auto)]
 
+mod choosing;
 mod gathering;
 pub mod laws;
 mod lazy_sum;
