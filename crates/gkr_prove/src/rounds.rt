@@ -2,7 +2,6 @@
 
 ghost use Rattle.std.specs.Prelude.{◌≡◌, ◌+◌, ◌≤◌, IfOk, None, [], IsTrue};
 ghost use Rattle.mle_table.specs.Shape.{AreBase};
-ghost use Rattle.transcript_fs.specs.Source.{Source};
 ghost use Rattle.gkr_prove.specs.Rounds.{IsNoted, AreBegun, IsLineAhead};
 
 use field_ext::Ext;

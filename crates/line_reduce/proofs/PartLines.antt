@@ -1,15 +1,13 @@
 -- The lines of a table's parts are rows of the table's folds
 use Rattle.std.proofs.Common.{◌≡◌, ℕ, zero, suc, ◌+◌, ◌*◌, ◌^◌, ◌<◌, ◌≤◌, ◌⊎◌, inl, inr, List, [], ◌∷◌, ◌++◌, length, get_or, take, drop, refl, sym, ◌∙◌, ap, ap₂, arith, length-append, length-take, get_or-take, get_or-drop}
-use Rattle.std.proofs.lemmas.Bool.{cases_eq, cases_lt}
-use Rattle.std.proofs.lemmas.List.{get_or_append_left, get_or_past, take_all}
+use Rattle.std.proofs.lemmas.Bool.{cases_eq}
+use Rattle.std.proofs.lemmas.List.{get_or_append_left, take_all}
 use Rattle.field_ext.specs.Ring.{Ops, Laws}
 use Rattle.field_ext.specs.Field.{K, k_ops, zero_k, of}
 use Rattle.field_ext.specs.Polynomial.{value_at}
 use Rattle.field_ext.specs.Multilinear.{eq_poly, folded_all}
 use Rattle.field_ext.proofs.api.KLaws.{k_laws}
-use Rattle.mle_table.specs.Shape.{AreBase}
 use Rattle.mle_table.proofs.api.SumLaws.{sum_below-same}
-use Rattle.mle_table.proofs.api.Written.{base_range}
 use Rattle.gkr_layers.specs.Sumcheck.{point_between, line_polynomial}
 use Rattle.gkr_layers.proofs.api.Lines.{value-line_polynomial}
 use Rattle.gkr_layers.proofs.api.Degree.{length-line_polynomial}

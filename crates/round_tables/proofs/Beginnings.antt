@@ -1,5 +1,5 @@
 -- A phase begins with what is gathered for it
-use Rattle.std.proofs.Common.{◌≡◌, ℕ, ◌+◌, ◌^◌, ◌<◌, ◌≤◌, ◌⊎◌, inl, inr, List, [], ◌∷◌, length, All, refl, sym, ◌∙◌, ap, arith, subst}
+use Rattle.std.proofs.Common.{◌≡◌, ℕ, ◌^◌, ◌<◌, ◌≤◌, ◌⊎◌, inl, inr, List, [], ◌∷◌, length, refl, sym, ◌∙◌, ap, arith, subst}
 use Rattle.field_ext.specs.Field.{K, k_ops}
 use Rattle.field_ext.proofs.api.KLaws.{k_laws}
 use Rattle.field_ext.specs.Multilinear.{eq_poly, extension_at}

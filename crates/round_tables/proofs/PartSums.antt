@@ -1,6 +1,6 @@
 -- What a part sums to
-use Rattle.std.proofs.Common.{◌≡◌, ℕ, ◌+◌, ◌-◌, ◌*◌, ◌<◌, ◌≤◌, List, length, get_or, refl, sym, ◌∙◌, ap, arith, lit<}
-use Rattle.field_ext.specs.Field.{K, k_ops}
+use Rattle.std.proofs.Common.{◌≡◌, ℕ, ◌+◌, ◌-◌, ◌*◌, ◌<◌, List, length, get_or, refl, sym, ◌∙◌, ap, arith, lit<}
+use Rattle.field_ext.specs.Field.{k_ops}
 use Rattle.field_ext.proofs.api.KLaws.{k_laws}
 use Rattle.field_ext.specs.Polynomial.{coefficients}
 use Rattle.field_ext.specs.Sums.{sum_below}

@@ -1,5 +1,5 @@
 -- The products of a point's two tables are the weights of the positions
-use Rattle.std.proofs.Common.{◌≡◌, ℕ, ◌+◌, ◌-◌, ◌*◌, ◌/◌, ◌%◌, ◌^◌, ◌<◌, ◌≤◌, ◌⊎◌, inl, inr, List, length, take, get_or, if◌then◌else◌, refl, sym, ◌∙◌, ap, ap₂, arith, subst, length-take}
+use Rattle.std.proofs.Common.{◌≡◌, ℕ, ◌+◌, ◌-◌, ◌/◌, ◌%◌, ◌^◌, ◌<◌, ◌≤◌, ◌⊎◌, inl, inr, List, length, take, get_or, if◌then◌else◌, refl, sym, ◌∙◌, ap, arith, subst, length-take}
 use Rattle.std.proofs.lemmas.Bool.{cases_lt}
 use Rattle.std.proofs.lemmas.Nat.{pow-add, pow_below}
 use Rattle.field_ext.specs.Field.{K, k_ops, zero_k, add_k, mul_k}

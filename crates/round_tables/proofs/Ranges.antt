@@ -1,19 +1,18 @@
 -- Ranges of a phase's places, one after another, are the phase
-use Rattle.std.proofs.Common.{◌≡◌, ℕ, ◌+◌, ◌-◌, ◌*◌, ◌^◌, ◌<◌, ◌≤◌, ◌⊎◌, inl, inr, List, [], ◌∷◌, ◌++◌, length, take, drop, get_or, All, refl, sym, ◌∙◌, ap, ap₂, arith, subst, Bool, length-append, length-take, get_or-take, get_or-drop}
+use Rattle.std.proofs.Common.{◌≡◌, ℕ, ◌+◌, ◌-◌, ◌*◌, ◌^◌, ◌<◌, ◌≤◌, ◌⊎◌, inl, inr, List, [], ◌∷◌, ◌++◌, length, get_or, All, refl, sym, ◌∙◌, ap, ap₂, arith, subst, Bool, length-append}
 use Rattle.std.proofs.lemmas.Bool.{cases_lt}
-use Rattle.std.proofs.lemmas.List.{get_or_append_left, get_or-append_right, get_or_past}
+use Rattle.std.proofs.lemmas.List.{get_or_append_left, get_or-append_right}
 use Rattle.std.proofs.lemmas.List.Elements.{All-append}
 use Rattle.field_ext.specs.Ring.{Ops}
-use Rattle.field_ext.specs.Field.{K, k_ops, of, zero_k}
+use Rattle.field_ext.specs.Field.{K, k_ops, of}
 use Rattle.field_ext.specs.Multilinear.{eq_poly, extension_at}
 use Rattle.circuit_core.specs.declared.gate.CircuitGate.{CircuitGate}
 use Rattle.gkr_layers.specs.Places.{Place}
 use Rattle.gate_gather.specs.Gathering.{given_from, Gathers, left_of, right_of, left_scale, left_shift, scale_of, shift_of, factor_of}
 use Rattle.round_tables.specs.LayerSum.{LayerSum}
-use Rattle.table_parts.specs.PartTables.{PartTables, HasSize, flat, flat_table, flat_scales, flat_shifts}
+use Rattle.table_parts.specs.PartTables.{PartTables, HasSize, flat, flat_scales, flat_shifts}
 use Rattle.round_tables.specs.Weights.{position_weight}
 use Rattle.round_tables.specs.Working.{GathersPhase}
-use Rattle.mle_table.specs.Shape.{AreBase}
 use Rattle.round_tables.specs.declared.layer_gates.LayerGates.{LayerGates}
 use Rattle.round_tables.specs.Ranges.{RangeView, AreRangesFor, IsGathered, sum_of}
 use Rattle.round_tables.proofs.Advances.{whole-parts}

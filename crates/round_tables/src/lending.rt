@@ -1,6 +1,6 @@
 //! Ranges of a phase's places that are lent, and come back gathered.
 
-ghost use Rattle.std.specs.Prelude.{◌≡◌, ℕ, ◌≤◌, ◌<◌, ◌+◌, All, true, false, length, vec_len, vec_capacity};
+ghost use Rattle.std.specs.Prelude.{◌≡◌, ℕ, ◌≤◌, ◌<◌, ◌+◌, All, true, false, vec_len, vec_capacity};
 ghost use Rattle.table_parts.specs.PartTables.{HasCapacity};
 ghost use Rattle.round_tables.specs.Ranges.{range_of};
 

@@ -1,5 +1,5 @@
 -- The parts of a line as jobs, and what comes of them
-use Rattle.std.proofs.Common.{◌≡◌, ℕ, zero, suc, ◌+◌, ◌-◌, ◌*◌, ◌^◌, ◌<◌, ◌≤◌, Bool, List, [], ◌∷◌, ◌++◌, map, length, take, get_or, slice_get, Option, Some, None, IsSome, All, if◌then◌else◌, refl, ◌∙◌, ap, ap₂, subst, arith, le-ltb}
+use Rattle.std.proofs.Common.{◌≡◌, ℕ, zero, suc, ◌+◌, ◌-◌, ◌*◌, ◌^◌, ◌<◌, ◌≤◌, Bool, List, [], ◌∷◌, ◌++◌, map, length, take, get_or, slice_get, Option, Some, None, All, if◌then◌else◌, refl, ◌∙◌, ap, ap₂, subst, arith, le-ltb}
 use Rattle.std.proofs.lemmas.Nat.{pow-add}
 use Rattle.std.proofs.lemmas.List.Elements.{All-head, All-tail}
 use Rattle.field_ext.specs.Field.{K}

@@ -1,7 +1,6 @@
 -- What a crew does: with parts of a layer's tables, with parts of its line, and with ranges of places
-use Rattle.std.specs.Prelude.{◌≡◌, ℕ, ◌<◌, Bool, List, [], Option, Some, None, take, if◌then◌else◌, length, slice_index_or}
+use Rattle.std.specs.Prelude.{◌≡◌, ℕ, ◌<◌, Bool, List, [], Option, Some, None, if◌then◌else◌, slice_index_or}
 use Rattle.field_ext.specs.Field.{K}
-use Rattle.line_reduce.specs.Parts.{PartOfLine, part_coordinates, worked_part}
 use Rattle.round_tables.specs.LayerSum.{LayerSum}
 use Rattle.table_parts.specs.PartTables.{PartTables, folded_part, part_sum}
 use Rattle.round_tables.specs.Ranges.{RangeView, range_of, gathered_range}

@@ -1,9 +1,8 @@
 //! Sums of messages.
 
-ghost use Rattle.std.specs.Prelude.{◌≡◌, ◌<◌, ◌+◌, [], length, map, slice_index_or};
+ghost use Rattle.std.specs.Prelude.{◌≡◌, ◌<◌, ◌+◌, [], length};
 ghost use Rattle.field_ext.specs.Field.{K, k_ops, zero_k, add_k};
 ghost use Rattle.field_ext.specs.Polynomial.{coefficients, value_at};
-ghost use Rattle.field_ext.specs.Sums.{sum_below};
 ghost use Rattle.round_tables.specs.LayerSum.{next_poly};
 
 use crate::entry::Entry;

@@ -1,10 +1,9 @@
 //! What a crew works: parts of a layer's tables, parts of its line, and ranges of places to which its gates are gathered.
 
-ghost use Rattle.std.specs.Prelude.{◌≡◌, ℕ, ◌+◌, ◌<◌, ◌≤◌, [], IfOk, length, map, slice_index_or, vec_len};
+ghost use Rattle.std.specs.Prelude.{◌≡◌, ℕ, ◌<◌, ◌≤◌, [], IfOk, length, map, slice_index_or, vec_len};
 ghost use Rattle.field_ext.specs.Field.{K, k_ops};
 ghost use Rattle.field_ext.specs.Polynomial.{value_at};
 ghost use Rattle.field_ext.specs.Sums.{sum_below};
-ghost use Rattle.table_parts.specs.PartTables.{PartTables};
 ghost use Rattle.sumcheck_prove.specs.Jobs.{job_of, round_of};
 
 use crate::adding::{no_message, plus};

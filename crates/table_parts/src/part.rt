@@ -1,7 +1,7 @@
 //! A part of a phase's tables.
 
-ghost use Rattle.std.specs.Prelude.{◌≡◌, ℕ, ◌≤◌, ◌<◌, ◌+◌, ◌*◌, IfOk, IsTrue, [], ◌++◌, All, length, slice_index_or};
-ghost use Rattle.field_ext.specs.Field.{K, k_ops, zero_k};
+ghost use Rattle.std.specs.Prelude.{◌≡◌, ◌≤◌, ◌<◌, ◌+◌, ◌*◌, IfOk, IsTrue, [], ◌++◌, All, length};
+ghost use Rattle.field_ext.specs.Field.{K, k_ops};
 ghost use Rattle.field_ext.specs.Polynomial.{value_at};
 ghost use Rattle.field_ext.specs.Sums.{sum_below};
 ghost use Rattle.mle_table.specs.Shape.{AreBase};

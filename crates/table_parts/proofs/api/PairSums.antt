@@ -1,5 +1,5 @@
 -- What the pairs of a part sum to
-use Rattle.std.proofs.Common.{◌≡◌, ℕ, ◌+◌, ◌*◌, ◌≤◌, List, length, refl, sym, ◌∙◌, arith, lit<}
+use Rattle.std.proofs.Common.{◌≡◌, ℕ, ◌*◌, ◌≤◌, List, length, refl, sym, ◌∙◌, arith, lit<}
 use Rattle.field_ext.specs.Field.{K, k_ops}
 use Rattle.field_ext.proofs.api.KLaws.{k_laws}
 use Rattle.field_ext.specs.Polynomial.{coefficients, value_at, polynomial_ops}

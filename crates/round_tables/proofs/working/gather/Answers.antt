@@ -1,5 +1,5 @@
 -- What is gathered is the phase's
-use Rattle.std.proofs.Common.{rules, ◌≡◌, ℕ, ◌<◌, [], length, arith}
+use Rattle.std.proofs.Common.{rules, ◌≡◌, ◌<◌, length}
 use Rattle.field_ext.specs.Field.{K, k_ops}
 use Rattle.gate_gather.specs.Gathering.{GathersLeft}
 use Rattle.round_tables.specs.Working.{place_of, weights_of}

@@ -1,5 +1,5 @@
 -- One range more is back
-use Rattle.std.proofs.Common.{◌≡◌, ◌+◌, ◌<◌, ◌∙◌, true, Some, None, length, arith, ap, refl, sym, get_or, length-set}
+use Rattle.std.proofs.Common.{◌≡◌, ◌+◌, ◌∙◌, true, Some, arith, ap, refl, sym, get_or, length-set}
 use Rattle.round_tables.specs.Ranges.{CollectingView, range_of}
 use Rattle.sumcheck_prove.specs.declared.jobs.Job.{Job}
 use Rattle.sumcheck_prove.proofs.RangeJobs.{same_range}

@@ -1,7 +1,6 @@
 -- The jobs come back with their ranges gathered
-use Rattle.std.proofs.Common.{◌≡◌, ℕ, ◌<◌, ◌≤◌, ◌++◌, List, false, true, length, take, drop, get_or, arith, refl, sym, ◌∙◌, ap, subst}
+use Rattle.std.proofs.Common.{◌≡◌, ◌<◌, ◌≤◌, ◌++◌, List, false, true, length, take, drop, get_or, arith, sym, ◌∙◌, ap, subst}
 use Rattle.wiring_poly.proofs.api.Identity.{written_back}
-use Rattle.round_tables.specs.LayerSum.{LayerSum}
 use Rattle.round_tables.specs.Ranges.{LendingView, CollectingView, range_of}
 use Rattle.sumcheck_prove.specs.declared.jobs.Job.{Job}
 use Rattle.sumcheck_prove.specs.Jobs.{HasRange, HaveRanges}

@@ -1,5 +1,5 @@
 -- One job more has its range
-use Rattle.std.proofs.Common.{◌≡◌, ◌+◌, ◌<◌, ◌∙◌, false, length, arith, ap, refl, sym, subst, length-set}
+use Rattle.std.proofs.Common.{◌≡◌, ◌+◌, ◌∙◌, false, arith, ap, refl, subst, length-set}
 use Rattle.round_tables.specs.Ranges.{RangeView, LendingView, range_of}
 use Rattle.sumcheck_prove.specs.Jobs.{HasRange}
 use Rattle.sumcheck_prove.proofs.RangeJobs.{one_more_range}

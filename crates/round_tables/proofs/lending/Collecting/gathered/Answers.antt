@@ -1,10 +1,10 @@
 -- All ranges are the phase
-use Rattle.std.proofs.Common.{◌≡◌, ℕ, ◌-◌, ◌*◌, ◌^◌, refl, false, length, take, All, arith, sym, ◌∙◌, ap, subst}
+use Rattle.std.proofs.Common.{◌≡◌, ℕ, ◌-◌, ◌*◌, ◌^◌, refl, false, length, All, arith, sym, ◌∙◌, ap, subst}
 use Rattle.std.proofs.lemmas.List.{take_all}
-use Rattle.table_parts.specs.PartTables.{PartTables, HasCapacity, HasSize, cuts, cuts_left, AreLaidOut}
+use Rattle.table_parts.specs.PartTables.{HasCapacity, HasSize, cuts, cuts_left}
 use Rattle.round_tables.specs.declared.working.Working.{Working}
 use Rattle.round_tables.specs.Ranges.{CollectingView}
-use Rattle.round_tables.specs.Working.{HasCapacities, WorksFor}
+use Rattle.round_tables.specs.Working.{HasCapacities}
 use Rattle.round_tables.proofs.Beginnings.{works-begun}
 use Rattle.round_tables.proofs.LaidOut.{in_many}
 use Rattle.round_tables.proofs.Ranges.{all-places}

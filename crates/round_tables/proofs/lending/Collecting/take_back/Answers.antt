@@ -1,7 +1,7 @@
 -- The range that is back comes after those before
-use Rattle.std.proofs.Common.{rules, ◌≡◌, ℕ, ◌+◌, ◌*◌, ◌^◌, ◌<◌, ◌≤◌, ◌++◌, Bool, true, IsTrue, List, length, vec_len, vec_capacity, All, sym, ◌∙◌, ap, ap₂, arith, subst, length-append}
+use Rattle.std.proofs.Common.{rules, ◌≡◌, ℕ, ◌+◌, ◌*◌, ◌^◌, ◌<◌, ◌≤◌, ◌++◌, true, IsTrue, length, vec_len, vec_capacity, All, sym, ◌∙◌, ap, ap₂, arith, subst, length-append}
 use Rattle.std.proofs.lemmas.List.Elements.{All-append}
-use Rattle.table_parts.specs.PartTables.{PartTables, HasCapacity, cuts}
+use Rattle.table_parts.specs.PartTables.{HasCapacity, cuts}
 use Rattle.round_tables.specs.Ranges.{RangeView, CollectingView, IsGathered, sum_of, range_of}
 use Rattle.round_tables.specs.Working.{bound_of}
 use Rattle.round_tables.proofs.Advances.{is-true}

@@ -1,9 +1,8 @@
 -- No range is back yet
-use Rattle.std.proofs.Common.{◌≡◌, ℕ, ◌-◌, ◌*◌, [], length, All, arith, sym, ◌∙◌, ap, subst}
-use Rattle.table_parts.specs.PartTables.{PartTables, HasCapacity, HasSize}
+use Rattle.std.proofs.Common.{◌≡◌, ℕ, ◌-◌, ◌*◌, length, arith, sym, ◌∙◌, ap, subst}
 use Rattle.round_tables.specs.Ranges.{LendingView, IsGathered, sum_of}
-use Rattle.round_tables.specs.Working.{bound_of, place_of}
-use Rattle.round_tables.proofs.Ranges.{none-gathered, nothing-gathered}
+use Rattle.round_tables.specs.Working.{bound_of}
+use Rattle.round_tables.proofs.Ranges.{nothing-gathered}
 use Rattle.round_tables.proofs.lending.Lending.collect.Goals as goal
 
 pub invariant_of-result : goal.invariant_of-result

@@ -1,9 +1,8 @@
 -- The range that is lent has a room and parts of those that are left
-use Rattle.std.proofs.Common.{rules, ◌≡◌, ℕ, ◌+◌, ◌-◌, ◌*◌, ◌^◌, ◌<◌, ◌≤◌, [], ◌∷◌, ◌++◌, false, length, vec_len, All, sym, ◌∙◌, ap, arith, subst}
-use Rattle.field_ext.specs.Field.{K}
+use Rattle.std.proofs.Common.{◌≡◌, ℕ, ◌-◌, ◌*◌, ◌^◌, ◌<◌, [], false, length, All, sym, ◌∙◌, ap, arith, subst}
 use Rattle.mle_table.proofs.api.EqualitySteps.{pow_up}
-use Rattle.table_parts.specs.PartTables.{PartTables, HasCapacity, cuts}
-use Rattle.round_tables.specs.Ranges.{LendingView, IsRoomFor, sum_of, range_of}
+use Rattle.table_parts.specs.PartTables.{HasCapacity}
+use Rattle.round_tables.specs.Ranges.{LendingView, IsRoomFor, range_of}
 use Rattle.round_tables.specs.Working.{IsBeginning, bound_of}
 use Rattle.round_tables.proofs.PlaceWeights.{copied-place, copied-layer}
 use Rattle.round_tables.proofs.Ranges.{all-before, last-of, range-within, all-places, one-less}

@@ -2,7 +2,7 @@
 use Rattle.std.proofs.Common.{◌≡◌, ℕ, ◌+◌, ◌-◌, ◌*◌, ◌++◌, length, take, drop, vec_len, All, arith, sym, ◌∙◌, ap, subst}
 use Rattle.wiring_poly.proofs.api.Identity.{written_back}
 use Rattle.mle_table.specs.Shape.{AreBase}
-use Rattle.table_parts.specs.PartTables.{PartTables, HasCapacity, HasSize, flat_table, flat_scales, flat_shifts}
+use Rattle.table_parts.specs.PartTables.{HasCapacity, HasSize, flat_table, flat_scales, flat_shifts}
 use Rattle.round_tables.specs.Working.{GathersPhase, place_of}
 use Rattle.mle_table.proofs.api.Written.{base_range}
 use Rattle.round_tables.proofs.share.Share.gather_from.Goals as goal

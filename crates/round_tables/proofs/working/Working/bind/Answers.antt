@@ -1,5 +1,5 @@
 -- The steps of folding, and those of gathering
-use Rattle.std.proofs.Common.{◌≡◌, ℕ, ◌+◌, ◌-◌, ◌*◌, ◌^◌, length, ◌∙◌, ap, add_assoc, if◌then◌else◌, ◌==◌}
+use Rattle.std.proofs.Common.{ℕ, ◌+◌, ◌-◌, ◌*◌, ◌^◌, length, ◌∙◌, ap, add_assoc, if◌then◌else◌, ◌==◌}
 use Rattle.round_tables.specs.LayerSum.{left_in_phase}
 use Rattle.round_tables.specs.declared.working.Working.{Working}
 use Rattle.round_tables.proofs.working.Working.bind.Goals as goal

@@ -1,9 +1,8 @@
 -- Each part has the pairs of the round
-use Rattle.std.proofs.Common.{◌≡◌, ℕ, ◌+◌, ◌-◌, ◌*◌, ◌/◌, ◌^◌, ◌<◌, length, get_or, refl, sym, ◌∙◌, ap, ap₂, arith, subst, All, add_assoc, if◌then◌else◌, ◌==◌}
+use Rattle.std.proofs.Common.{◌≡◌, ℕ, ◌+◌, ◌-◌, ◌*◌, ◌/◌, ◌^◌, ◌<◌, length, get_or, refl, sym, ◌∙◌, ap, ap₂, arith, subst, All}
 use Rattle.std.proofs.lemmas.Nat.{pow_pos}
 use Rattle.round_tables.specs.LayerSum.{left_in_phase}
 use Rattle.table_parts.specs.PartTables.{PartTables, HasSize, cuts_left}
-use Rattle.round_tables.specs.declared.working.Working.{Working}
 use Rattle.round_tables.specs.Working.{parts_of}
 use Rattle.round_tables.proofs.PhaseSteps.{some_left}
 use Rattle.round_tables.proofs.LaidOut.{half, halves, all-pairs}

@@ -1,5 +1,5 @@
 -- The phase begins with what is gathered
-use Rattle.std.proofs.Common.{◌≡◌, ◌∙◌, ◌++◌, length, take, drop, arith, sym, subst}
+use Rattle.std.proofs.Common.{◌≡◌, ◌∙◌, length, take, sym}
 use Rattle.wiring_poly.proofs.api.Identity.{written_back}
 use Rattle.table_parts.specs.PartTables.{flat_scales, flat_shifts}
 use Rattle.round_tables.specs.Working.{GathersPhase, parts_of, place_of, bound_of}
