@@ -1,5 +1,5 @@
 -- The working tables after a round, where their parts were folded
-use Rattle.std.proofs.Common.{◌≡◌, ◌≢◌, ℕ, ◌+◌, ◌-◌, ◌*◌, ◌/◌, ◌^◌, ◌<◌, Bool, true, false, IsTrue, List, [], ◌∷◌, ◌++◌, length, map, take, set, vec_len, All, if◌then◌else◌, ◌==◌, refl, sym, ◌∙◌, ap, arith, subst}
+use Rattle.std.proofs.Common.{◌≡◌, ◌≢◌, ℕ, ◌+◌, ◌-◌, ◌*◌, ◌^◌, ◌<◌, Bool, true, false, IsTrue, List, [], ◌∷◌, ◌++◌, length, map, take, set, vec_len, All, if◌then◌else◌, ◌==◌, refl, sym, ◌∙◌, ap, arith, subst}
 use Rattle.std.proofs.lemmas.Bool.Decides.{nat_tests}
 use Rattle.std.proofs.lemmas.List.{length-map, take_more_set}
 use Rattle.std.proofs.lemmas.List.Elements.{All-map}
@@ -78,6 +78,3 @@ gates-now n k x e = grind (arith, nat_tests)
 
 pub no-gates : (n k x : ℕ) → n + 1 ≢ k → 0 ≡ (if n + 1 == k then x else 0)
 no-gates n k x e = grind (arith, nat_tests)
-
-pub half-of : (n h : ℕ) → n ≡ 2 * h → n / 2 ≡ h
-half-of n h e = omega arith

@@ -1,5 +1,5 @@
 -- Tables in parts of one size, through a round
-use Rattle.std.proofs.Common.{◌≡◌, ℕ, zero, suc, ◌+◌, ◌-◌, ◌*◌, ◌^◌, ◌≢◌, ◌<◌, ◌≤◌, ◌⊎◌, inl, inr, List, length, map, get_or, All, Bool, if◌then◌else◌, refl, sym, ◌∙◌, ap, ap₂, arith, subst, add-zero, lt-ltb, lt_of_not-le}
+use Rattle.std.proofs.Common.{◌≡◌, ℕ, zero, suc, ◌+◌, ◌-◌, ◌*◌, ◌/◌, ◌^◌, ◌≢◌, ◌<◌, ◌≤◌, ◌⊎◌, inl, inr, List, length, map, get_or, All, Bool, if◌then◌else◌, refl, sym, ◌∙◌, ap, ap₂, arith, subst, add-zero, lt-ltb, lt_of_not-le}
 use mathlib.Core.Logic.{dite}
 use native.Mathlib.Decide.{dec_le}
 use Rattle.std.proofs.lemmas.Bool.{cases_lt, le-ltb}
@@ -97,6 +97,13 @@ module _ (k m : ℕ) (ps : List PartTables) (some : 0 < m) (laid : AreLaidOut k 
 
   pub halves : All (HasSize (2 * half)) ps
   halves i d u = subst (λ (n : ℕ). HasSize n (get_or ps i d)) (size-pairs k m some) (laid.sizes i d u)
+
+  -- the first part's values are twice as many as its pairs
+  pub first-half : (qs : List PartTables) (p : PartTables) (n : ℕ) → p ≡ get_or qs 0 p → qs ≡ ps → n ≡ length p.table → n / 2 ≡ half
+  first-half qs p n is same size =
+      let first : p ≡ get_or ps 0 p = is ∙ ap (λ (l : List PartTables). get_or l 0 p) same in
+      let twice : n ≡ 2 * half = size ∙ ap (λ (p : PartTables). length p.table) first ∙ (halves 0 p (omega (arith, laid.number, pow_pos (cuts_left k m)))).table in
+      omega (arith, twice)
 
   pub flat-folded : (f : PartTables → List K) (r : K) → ((p : PartTables) → f (folded_part r p) ≡ halved r (f p)) → ((n : ℕ) (p : PartTables) → HasSize n p → length (f p) ≡ n) → flat f (map (folded_part r) ps) ≡ folded k_ops (flat f ps) r
   flat-folded f r is size = flat-halved f r ps half (pow_pos (m - 1 - cuts_left k m)) is (λ i d u. size (2 * half) (get_or ps i d) (halves i d u))

@@ -1,5 +1,5 @@
 -- Ranges of a phase's places, one after another, are the phase
-use Rattle.std.proofs.Common.{◌≡◌, ℕ, ◌+◌, ◌-◌, ◌*◌, ◌^◌, ◌<◌, ◌≤◌, ◌⊎◌, inl, inr, List, [], ◌∷◌, ◌++◌, length, get_or, All, refl, sym, ◌∙◌, ap, ap₂, arith, subst, Bool, length-append}
+use Rattle.std.proofs.Common.{◌≡◌, ℕ, ◌+◌, ◌-◌, ◌*◌, ◌^◌, ◌<◌, ◌≤◌, ◌⊎◌, inl, inr, List, [], ◌∷◌, ◌++◌, length, get_or, All, refl, sym, ◌∙◌, ap, ap₂, arith, subst, Bool, length-append, vec_capacity}
 use Rattle.std.proofs.lemmas.Bool.{cases_lt}
 use Rattle.std.proofs.lemmas.List.{get_or_append_left, get_or-append_right}
 use Rattle.std.proofs.lemmas.List.Elements.{All-append}
@@ -14,7 +14,8 @@ use Rattle.table_parts.specs.PartTables.{PartTables, HasSize, flat, flat_scales,
 use Rattle.round_tables.specs.Weights.{position_weight}
 use Rattle.round_tables.specs.Working.{GathersPhase}
 use Rattle.round_tables.specs.declared.layer_gates.LayerGates.{LayerGates}
-use Rattle.round_tables.specs.Ranges.{RangeView, AreRangesFor, IsGathered, sum_of}
+use Rattle.round_tables.specs.declared.working.Working.{Working}
+use Rattle.round_tables.specs.Ranges.{RangeView, BeginsUnparted, AreRangesFor, IsGathered, sum_of}
 use Rattle.round_tables.proofs.Advances.{whole-parts}
 use Rattle.table_parts.proofs.api.Halves.{flat-append, front-more, length-flat}
 
@@ -113,3 +114,17 @@ pub one-less : (number lent parts : ℕ) → lent < number → (number - (lent +
 one-less number lent parts u =
     let e : number - lent ≡ number - (lent + 1) + 1 = omega (arith, u) in
     sym (ap (λ (n : ℕ). n * parts) e ∙ omega arith)
+
+-- a phase begins whichever parts are there, where there is room for as many
+pub parts-moved : (layer : LayerGates) (w new : Working) (value : K) → new ≡ record w { many = new.many } → vec_capacity w.many ≤ vec_capacity new.many
+    → BeginsUnparted layer w value → BeginsUnparted layer new value
+parts-moved layer w new value same room is = subst (λ (w : Working). BeginsUnparted layer w value) (sym same) record {
+  challenges = is.challenges;
+  scales = is.scales;
+  shifts = is.shifts;
+  one = is.one;
+  one_capacity = is.one_capacity;
+  counted = is.counted;
+  beginning = is.beginning;
+  capacity = omega (arith, is.capacity, room);
+}

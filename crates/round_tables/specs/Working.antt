@@ -59,7 +59,8 @@ IsBeginning k values value (r ∷ rs) =
     (length (r ∷ rs) ≡ k) × (value ≡ extension_at k_ops k_ops (λ x. x) values (r ∷ rs))
 
 -- what the gates give in the phase that begins, to the places from `from` on
-abbrev pub GathersPhase : List CircuitGate → List K → Place K → List K → ℕ → List K → List K → Type 0
+abbrev pub GathersPhase : List CircuitGate → List K → Place K → List K → ℕ → List K → List K
+    → Type 0
 GathersPhase gates values place [] from scales shifts =
     GathersLeft K k_ops gates (position_weight k_ops place) values from scales shifts
 GathersPhase gates values place (r ∷ rs) from scales shifts =

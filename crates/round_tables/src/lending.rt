@@ -94,7 +94,8 @@ fn move_parts(from: &mut Vec<Part>, count: usize, to: &mut Vec<Part>)
     ensures left { vec_len from.new + count ≡ vec_len from.old }
     ensures from_capacity { vec_capacity from.new ≡ vec_capacity from.old }
     ensures moved { vec_len to.new ≡ vec_len to.old + count }
-    ensures capacities { (n : ℕ) → All (HasCapacity n) from.old.items → All (HasCapacity n) to.old.items
+    ensures capacities { (n : ℕ) → All (HasCapacity n) from.old.items
+        → All (HasCapacity n) to.old.items
         → All (HasCapacity n) from.new.items × All (HasCapacity n) to.new.items }
 {
     for _ in 0..count {

@@ -65,7 +65,7 @@ pub fn round_by<'a, R: Wait>(
 /// Binds the next coordinate to the challenge `r`, where a round is left, as `GateTables::bind` does: a crew folds the parts of
 /// the tables, in any order, and the lead alone where `round_by` leaves a round to it. The jobs are back then. It takes no
 /// memory.
-pub fn bind_by<'a, R: Wait>(
+fn bind_by<'a, R: Wait>(
     rt: &R,
     tables: &mut GateTables<'_>,
     r: Ext,
@@ -97,7 +97,8 @@ pub struct Advanced<'a> {
     pub jobs: Vec<Job<'a>>,
 }
 
-/// Binds the next coordinate as `bind_by` does, and lets the crew gather the second phase where that begins. It takes no memory but as
+/// Binds the next coordinate to the challenge `r`, where a round is left, as `GateTables::bind` does, by the crew, which gathers the
+/// second phase where that begins. It takes no memory but as
 /// `gather_by` does.
 pub fn advance_by<'a, R: Wait>(
     rt: &R,

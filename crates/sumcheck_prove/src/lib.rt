@@ -2,7 +2,7 @@
 //!
 //! The message is the true polynomial of the round, of degree at most 2, as its three coefficients: the sum of what the
 //! pieces of the round give, which workers claim and sum in any order; wide tables are folded by workers, too. [`round_by`] and
-//! [`bind_by`] do the same by a crew that is kept from round to round, and [`line_by`] gives the line that ends the layer by the
+//! [`advance_by`] do the same by a crew that is kept from round to round, and [`line_by`] gives the line that ends the layer by the
 //! same crew. Source: Thaler, "Proofs, Arguments, and Zero-Knowledge", 4.1 and 4.6.
 //!
 //! A round, with the verifier of `sumcheck_verify`:
@@ -28,7 +28,7 @@ mod pieces;
 
 pub use adding::round_alone;
 pub use binding::bind_round;
-pub use crewed::{Advanced, Summed, advance_by, bind_by, round_by};
+pub use crewed::{Advanced, Summed, advance_by, round_by};
 pub use entry::{AtGate, Entry};
 pub use gathering::{GatherJobs, gather_by};
 pub use jobs::{Job, Jobs, jobs_for};

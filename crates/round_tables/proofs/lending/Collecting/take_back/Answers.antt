@@ -1,11 +1,11 @@
 -- The range that is back comes after those before
-use Rattle.std.proofs.Common.{rules, ◌≡◌, ℕ, ◌+◌, ◌*◌, ◌^◌, ◌<◌, ◌≤◌, ◌++◌, true, IsTrue, length, vec_len, vec_capacity, All, sym, ◌∙◌, ap, ap₂, arith, subst, length-append}
+use Rattle.std.proofs.Common.{rules, ◌≡◌, ℕ, ◌+◌, ◌*◌, ◌^◌, ◌<◌, ◌≤◌, ◌++◌, true, IsTrue, length, vec_len, vec_capacity, All, refl, sym, ◌∙◌, ap, ap₂, arith, subst, length-append}
 use Rattle.std.proofs.lemmas.List.Elements.{All-append}
 use Rattle.table_parts.specs.PartTables.{HasCapacity, cuts}
 use Rattle.round_tables.specs.Ranges.{RangeView, CollectingView, IsGathered, sum_of, range_of}
 use Rattle.round_tables.specs.Working.{bound_of}
 use Rattle.round_tables.proofs.Advances.{is-true}
-use Rattle.round_tables.proofs.Ranges.{range-at, gathered-more, range-within}
+use Rattle.round_tables.proofs.Ranges.{range-at, gathered-more, range-within, parts-moved}
 use Rattle.round_tables.proofs.lending.Collecting.take_back.Goals as goal
 
 pub unreachable-requires : goal.unreachable-requires
@@ -42,16 +42,7 @@ invariant_of-self c =
     (subst (λ (n : ℕ). IsGathered (sum_of share.layer share.bound.items) share.from n share.size qs) c.share.invariant.whole (c.share.invariant.gathered done)) in
     record {
       layer_is = inv.layer_is;
-      begins = record {
-        challenges = inv.begins.challenges;
-        scales = inv.begins.scales;
-        shifts = inv.begins.shifts;
-        one = inv.begins.one;
-        one_capacity = inv.begins.one_capacity;
-        counted = inv.begins.counted;
-        beginning = inv.begins.beginning;
-        capacity = omega (arith, inv.begins.capacity, c.in-Ok.ensures.capacity);
-      };
+      begins = parts-moved self.layer self.working _ self.value refl (omega (arith, c.in-Ok.ensures.capacity)) inv.begins;
       ranges = inv.ranges;
       most = omega (arith, left);
       many = ap length appended ∙ length-append ps qs ∙ ap₂ (λ (a b : ℕ). a + b) inv.many parts ∙ more;

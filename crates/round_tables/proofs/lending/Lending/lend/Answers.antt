@@ -1,11 +1,11 @@
 -- The range that is lent has a room and parts of those that are left
-use Rattle.std.proofs.Common.{◌≡◌, ℕ, ◌-◌, ◌*◌, ◌^◌, ◌<◌, [], false, length, All, sym, ◌∙◌, ap, arith, subst}
+use Rattle.std.proofs.Common.{◌≡◌, ℕ, ◌-◌, ◌*◌, ◌^◌, ◌<◌, [], false, length, All, refl, sym, ◌∙◌, ap, arith, subst}
 use Rattle.mle_table.proofs.api.EqualitySteps.{pow_up}
 use Rattle.table_parts.specs.PartTables.{HasCapacity}
 use Rattle.round_tables.specs.Ranges.{LendingView, IsRoomFor, range_of}
 use Rattle.round_tables.specs.Working.{IsBeginning, bound_of}
 use Rattle.round_tables.proofs.PlaceWeights.{copied-place, copied-layer}
-use Rattle.round_tables.proofs.Ranges.{all-before, last-of, range-within, all-places, one-less}
+use Rattle.round_tables.proofs.Ranges.{all-before, last-of, range-within, all-places, one-less, parts-moved}
 use Rattle.round_tables.proofs.lending.Lending.lend.Goals as goal
 
 pub overflow_mul-result-2 : goal.overflow_mul-result-2
@@ -24,16 +24,7 @@ invariant_of-self c =
     let none : All (HasCapacity c.self.inside.size) c.in-Some.room.parts.items = λ i d u. absurd (omega (arith, u, c.in-Some.room.parts.ok.0, (last-of (IsRoomFor self.layer (bound_of self.working) self.parts (self.parts * self.size)) c.pop.new.self.items c.in-Some.room (subst (All (IsRoomFor self.layer (bound_of self.working) self.parts (self.parts * self.size))) c.in-Some.ensures.items inv.ready)).parts_none)) in
     record {
       layer_is = inv.layer_is;
-      begins = record {
-        challenges = inv.begins.challenges;
-        scales = inv.begins.scales;
-        shifts = inv.begins.shifts;
-        one = inv.begins.one;
-        one_capacity = inv.begins.one_capacity;
-        counted = inv.begins.counted;
-        beginning = inv.begins.beginning;
-        capacity = omega (arith, inv.begins.capacity, c.move_parts.ensures.from_capacity);
-      };
+      begins = parts-moved self.layer self.working _ self.value refl (omega (arith, c.move_parts.ensures.from_capacity)) inv.begins;
       ranges = inv.ranges;
       most = omega (arith, left);
       many = omega (arith, less, inv.many, c.move_parts.ensures.left, self.working.many.ok.0, c.move_parts.new.from.ok.0);
