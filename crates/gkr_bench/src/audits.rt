@@ -10,7 +10,7 @@ ghost use Rattle.proof_wire.specs.declared.form.ProofForm.TheVariants.{Line};
 
 use crate::checking::tangled;
 use crate::circuits::gates;
-use crate::measure::{microseconds, numbers};
+use crate::measure::{microseconds_since, numbers};
 use audit_core::{Audit, audit};
 use circuit_core::Circuit;
 use circuit_eval::{Values, layer_values};
@@ -164,7 +164,7 @@ fn time_audit<R: Threads + Wait + Sync>(
 {
     let begun = Instant::now(rt)?;
     let audit = audited(threads, rt.alloc(), circuit, values, outputs, messages)?;
-    let time = microseconds(begun.elapsed(rt)?);
+    let time = microseconds_since(rt, begun)?;
     if audit.verdict != Verdict::Accepted || audit.challenge.is_some() {
         return Ok(None);
     }
@@ -185,7 +185,7 @@ fn times_once<R: Threads + Wait + Sync>(
 {
     let begun = Instant::now(rt)?;
     let messages = proved(threads, rt.alloc(), circuit, values, outputs, 1)?;
-    let proving = microseconds(begun.elapsed(rt)?);
+    let proving = microseconds_since(rt, begun)?;
     time_audit(rt, threads, circuit, values, outputs, &messages, proving)
 }
 

@@ -6,8 +6,9 @@ ghost use Rattle.proof_wire.specs.Lists.{HaveShape};
 ghost use Rattle.run_wiring.specs.CircuitRuns.{AreWiringsOf};
 
 use crate::circuits::{compiled, gates};
-use crate::measure::microseconds;
+use crate::measure::microseconds_since;
 use crate::random::Random;
+use crate::ratio::Ratio;
 use case_text::{Form, read_case};
 use circuit_core::{Circuit, Layer, Leaf};
 use field_ext::{Ext, Fp};
@@ -32,9 +33,7 @@ fn zero_bytes(alloc: Global, form: ProofForm, circuit: &Circuit) -> Result<Vec<u
         ProofForm::Pair => b"GKRP",
     };
     let mut bytes = Vec::from_slice(alloc, magic)?;
-    for _ in 4..proof_len_as(form, circuit.shape()) {
-        bytes.push(0)?;
-    }
+    bytes.resize(proof_len_as(form, circuit.shape()) as usize, 0)?;
     Ok(bytes)
 }
 
@@ -86,7 +85,7 @@ fn time_check(
 {
     let begun = Instant::now(rt)?;
     let verdict = verdict_on(rt.alloc(), form, circuit, messages)?;
-    let time = microseconds(begun.elapsed(rt)?);
+    let time = microseconds_since(rt, begun)?;
     if verdict != Verdict::Accepted {
         return Ok(None);
     }
@@ -178,13 +177,13 @@ fn time_wirings(
 {
     let begun = Instant::now(rt)?;
     let by_wirings = by_wirings(circuit, wirings);
-    let runs = microseconds(begun.elapsed(rt)?);
+    let runs = microseconds_since(rt, begun)?;
     let begun = Instant::now(rt)?;
     let by_gates = by_gates(circuit);
     Ok(Wired {
         finding,
         runs,
-        gates: microseconds(begun.elapsed(rt)?),
+        gates: microseconds_since(rt, begun)?,
         seen: by_wirings ^ by_gates,
     })
 }
@@ -193,7 +192,7 @@ fn time_wirings(
 fn time_wiring(rt: &HostRuntime, circuit: &Circuit) -> io::Result<Wired> {
     let begun = Instant::now(rt)?;
     let wirings = wirings(rt.alloc(), circuit)?;
-    let finding = microseconds(begun.elapsed(rt)?);
+    let finding = microseconds_since(rt, begun)?;
     time_wirings(rt, circuit, &wirings, finding)
 }
 
@@ -240,26 +239,20 @@ fn print_runs_times(
 fn print_walks(rt: &HostRuntime, checked: u64, wired: Wired) -> io::Result<()> {
     let rest = checked.saturating_sub(wired.finding.saturating_add(wired.runs));
     let walked = rest.saturating_add(wired.gates).clamp(1, 1_000_000_000_000);
-    let ratio = checked.min(1_000_000_000_000) * 100 / walked;
     print!(rt;
-        "by walks {} us, checked in {} us, ratio {}.{}{}; ",
+        "by walks {} us, checked in {} us, ratio {}; ",
         wired.gates,
         walked,
-        ratio / 100,
-        ratio / 10 % 10,
-        ratio % 10
+        Ratio::of(checked, walked)
     )
 }
 
 /// Prints what checking it took by pairs, which ends the line.
 fn print_pairs(rt: &HostRuntime, checked: u64, paired: u64, seen: u32) -> io::Result<()> {
-    let ratio = paired.min(1_000_000_000_000) * 100 / checked.clamp(1, 1_000_000_000_000);
     println!(rt;
-        "by pairs in {} us, ratio {}.{}{} ({})",
+        "by pairs in {} us, ratio {} ({})",
         paired,
-        ratio / 100,
-        ratio / 10 % 10,
-        ratio % 10,
+        Ratio::of(paired, checked),
         seen
     )
 }
@@ -298,9 +291,9 @@ fn random_layers(alloc: Global, k: u32) -> Result<Vec<Layer>, AllocError> {
 
 /// So many inputs.
 fn input_leaves(alloc: Global, count: u32) -> Result<Vec<Leaf>, AllocError> {
-    let mut leaves = Vec::new(alloc);
+    let mut leaves = vec![in alloc; Leaf::Input(0); count as usize]?;
     for j in 0..count {
-        leaves.push(Leaf::Input(j))?;
+        leaves[j as usize] = Leaf::Input(j);
     }
     Ok(leaves)
 }

@@ -1,6 +1,6 @@
 //! What laying a program out as a circuit takes, and what the values of the circuit's layers take.
 
-use crate::measure::{microseconds, numbers};
+use crate::measure::{microseconds_since, numbers};
 use arr_ast::Lang;
 use arr_compile::compile;
 use circuit_core::Circuit;
@@ -27,7 +27,7 @@ pub(crate) fn compiled(alloc: Global, text: &[u8]) -> Option<Circuit> {
 fn time_compiling(rt: &HostRuntime, text: &[u8]) -> io::Result<u64> {
     let begun = Instant::now(rt)?;
     let circuit = compiled(rt.alloc(), text);
-    let time = microseconds(begun.elapsed(rt)?);
+    let time = microseconds_since(rt, begun)?;
     Ok(if circuit.is_some() { time } else { u64::MAX })
 }
 
@@ -52,7 +52,7 @@ fn time_evaluating<R: Threads + Sync>(
     }
     let begun = Instant::now(rt)?;
     let values = layer_values(threads, rt.alloc(), circuit, inputs);
-    let time = microseconds(begun.elapsed(rt)?);
+    let time = microseconds_since(rt, begun)?;
     Ok(if values.is_ok() { time } else { u64::MAX })
 }
 
@@ -93,7 +93,7 @@ fn zeros(alloc: Global, circuit: &Circuit) -> Result<Vec<Vec<Ext>>, AllocError> 
 fn time_filling(rt: &HostRuntime, circuit: &Circuit) -> io::Result<u64> {
     let begun = Instant::now(rt)?;
     let tables = zeros(rt.alloc(), circuit);
-    let time = microseconds(begun.elapsed(rt)?);
+    let time = microseconds_since(rt, begun)?;
     Ok(if tables.is_ok() { time } else { u64::MAX })
 }
 
@@ -115,6 +115,30 @@ pub(crate) fn gates(circuit: &Circuit) -> u64 {
     count
 }
 
+/// Prints how long laying a program out took, without the end of the line.
+fn print_compiling(rt: &HostRuntime, kind: &str, circuit: &Circuit, time: u64) -> io::Result<()> {
+    print!(rt;
+        "{}: {} layers of {} gates, laid out in {} us, ",
+        kind,
+        circuit.height(),
+        gates(circuit).max(1),
+        time
+    )
+}
+
+/// Prints how long evaluating a circuit of so many gates took, and filling as much room, which ends
+/// the line.
+fn print_evaluating(rt: &HostRuntime, gates: u64, time: u64, filling: u64) -> io::Result<()> {
+    let tenths = time.min(1_000_000_000_000).saturating_mul(10_000) / gates.max(1);
+    println!(rt;
+        "evaluated in {} us, {}.{} ns a gate, as much room filled in {} us",
+        time,
+        tenths / 10,
+        tenths % 10,
+        filling
+    )
+}
+
 /// Prints how long laying a program out and evaluating its circuit took.
 fn print_circuit<R: Threads + Sync>(
     rt: &HostRuntime,
@@ -126,19 +150,8 @@ fn print_circuit<R: Threads + Sync>(
     let compiling = compiling(rt, text)?;
     let evaluating = evaluating(rt, threads, circuit)?;
     let filling = filling(rt, circuit)?;
-    let gates = gates(circuit).max(1);
-    let tenths = evaluating.min(1_000_000_000_000).saturating_mul(10_000) / gates;
-    println!(rt;
-        "{}: {} layers of {} gates, laid out in {} us, evaluated in {} us, {}.{} ns a gate, as much room filled in {} us",
-        kind,
-        circuit.height(),
-        gates,
-        compiling,
-        evaluating,
-        tenths / 10,
-        tenths % 10,
-        filling
-    )
+    print_compiling(rt, kind, circuit, compiling)?;
+    print_evaluating(rt, gates(circuit), evaluating, filling)
 }
 
 /// Prints how long laying a program out and evaluating its circuit took, where it has one.

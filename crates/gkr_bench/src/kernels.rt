@@ -3,8 +3,9 @@
 ghost use Rattle.std.specs.Prelude.{◌≡◌, ◌<◌, ◌+◌, ◌*◌, ◌%◌, [], IfOk, length};
 ghost use Rattle.lane_kernel.specs.Kernel.{AreBelow};
 
-use crate::measure::nanoseconds;
-use crate::proving::{LayerCase, case_of, started};
+use crate::measure::nanoseconds_since;
+use crate::proving::{LayerCase, case_of, started_in};
+use crate::ratio::Ratio;
 use field_ext::{Ext, Fp};
 use lane_kernel::{fold_pairs, pair_sums};
 use round_tables::{Buffers, GateTables};
@@ -37,7 +38,7 @@ fn fold_once(rt: &HostRuntime, re: &mut [u32], im: &mut [u32]) -> io::Result<(u6
 {
     let begun = Instant::now(rt)?;
     fold_pairs(re, im, (123_456_789, 987_654_321));
-    let time = nanoseconds(begun.elapsed(rt)?);
+    let time = nanoseconds_since(rt, begun)?;
     let mut seen = 0u32;
     for part in re.iter().chain(im.iter()) {
         seen = seen.wrapping_add(*part);
@@ -72,7 +73,7 @@ fn sum_once(rt: &HostRuntime, v: &[u32], g: &[u32], a: &[u32]) -> io::Result<(u6
 {
     let begun = Instant::now(rt)?;
     let [constant, linear, square] = pair_sums(v, g, g, a, a, v);
-    let time = nanoseconds(begun.elapsed(rt)?);
+    let time = nanoseconds_since(rt, begun)?;
     Ok((time, constant.0 ^ linear.1 ^ square.0))
 }
 
@@ -129,38 +130,54 @@ pub(crate) fn time_round(rt: &HostRuntime, tables: &mut GateTables<'_>, r: Ext) 
 {
     let begun = Instant::now(rt)?;
     let seen = summed(tables);
-    let sum = nanoseconds(begun.elapsed(rt)?);
+    let sum = nanoseconds_since(rt, begun)?;
     let begun = Instant::now(rt)?;
     tables.bind(r);
-    let bind = nanoseconds(begun.elapsed(rt)?);
+    let bind = nanoseconds_since(rt, begun)?;
     Ok(Loops { sum, bind, seen })
 }
 
-/// What the loops take for the second round of a layer, where it has one. The first round is bound before, so that the tables
-/// have values of the extension.
-fn time_second(rt: &HostRuntime, tables: &mut GateTables<'_>) -> io::Result<Option<Loops>>
+/// Keeps what the loops take for the second round of a layer, where it has one and they take less.
+/// The first round is bound before, so that the tables have values of the extension.
+fn time_second(rt: &HostRuntime, tables: &mut GateTables<'_>, least: &mut Loops) -> io::Result<()>
     requires { tables.old.lent ≡ [] }
     ensures { IfOk result (λ _. tables.new.lent ≡ []) }
 {
     if tables.rounds_left() < 2 {
-        return Ok(None);
+        return Ok(());
     }
     let r = Ext::of(Fp::reduce(123_456_789), Fp::reduce(987_654_321));
     tables.bind(r);
-    Ok(Some(time_round(rt, tables, r)?))
+    let loops = time_round(rt, tables, r)?;
+    *least = Loops {
+        sum: least.sum.min(loops.sum),
+        bind: least.bind.min(loops.bind),
+        seen: least.seen.wrapping_add(loops.seen),
+    };
+    Ok(())
 }
 
-/// The times of a layer that was started in these buffers, and the buffers.
+/// Times a layer that is started, keeps the lesser times, and gives the buffers back.
+fn time_started(
+    rt: &HostRuntime,
+    mut tables: GateTables<'_>,
+    least: &mut Loops,
+) -> io::Result<Buffers>
+    requires { tables.lent ≡ [] }
+{
+    time_second(rt, &mut tables, least)?;
+    Ok(tables.into_buffers())
+}
+
+/// Times a layer in the buffers, where there are any, and gives them back where its sizes fit.
 fn time_layer(
     rt: &HostRuntime,
-    buffers: Buffers,
+    room: Option<Buffers>,
     case: &LayerCase,
-) -> io::Result<Option<(Loops, Buffers)>> {
-    let Some(mut tables) = started(buffers, &case.circuit, &case.values, &case.point)? else {
-        return Ok(None);
-    };
-    match time_second(rt, &mut tables)? {
-        Some(loops) => Ok(Some((loops, tables.into_buffers()))),
+    least: &mut Loops,
+) -> io::Result<Option<Buffers>> {
+    match started_in(room, case)? {
+        Some(tables) => Ok(Some(time_started(rt, tables, least)?)),
         None => Ok(None),
     }
 }
@@ -168,22 +185,14 @@ fn time_layer(
 /// The least of twenty times of the loops.
 fn time_loops(rt: &HostRuntime, case: &LayerCase, k: u32) -> io::Result<Loops> {
     let width = 1usize << k.min(20);
-    let mut buffers = Buffers::new(rt.alloc(), width, width)?;
+    let mut room = Some(Buffers::new(rt.alloc(), width, width)?);
     let mut least = Loops {
         sum: u64::MAX,
         bind: u64::MAX,
         seen: 0,
     };
     for _ in 0..20u32 {
-        let Some((loops, used)) = time_layer(rt, buffers, case)? else {
-            return Ok(least);
-        };
-        least = Loops {
-            sum: least.sum.min(loops.sum),
-            bind: least.bind.min(loops.bind),
-            seen: least.seen.wrapping_add(loops.seen),
-        };
-        buffers = used;
+        room = time_layer(rt, room, case, &mut least)?;
     }
     Ok(least)
 }
@@ -197,28 +206,21 @@ fn print_times(
     pairs: u64,
     seen: u32,
 ) -> io::Result<()> {
-    let (loops, vectors) = (loops.min(1_000_000_000_000), vectors.min(1_000_000_000_000));
-    let (by_loops, by_vectors) = (loops * 100 / pairs.max(1), vectors * 100 / pairs.max(1));
-    let ratio = vectors * 100 / loops.max(1);
     println!(rt;
-        "{}: {} pairs, loops {}.{}{} ns a pair, vectors {}.{}{}, {}.{}{} of the loops ({})",
+        "{}: {} pairs, loops {} ns a pair, vectors {}, {} of the loops ({})",
         what,
         pairs,
-        by_loops / 100,
-        by_loops / 10 % 10,
-        by_loops % 10,
-        by_vectors / 100,
-        by_vectors / 10 % 10,
-        by_vectors % 10,
-        ratio / 100,
-        ratio / 10 % 10,
-        ratio % 10,
+        Ratio::of(loops, pairs),
+        Ratio::of(vectors, pairs),
+        Ratio::of(vectors, loops),
         seen
     )
 }
 
-/// Prints what the kernels take over so many pairs, beside the loops.
-fn print_kernels(rt: &HostRuntime, loops: Loops, pairs: u32) -> io::Result<()> {
+/// Prints what the kernels take over the pairs of a layer's second round, beside the loops.
+fn print_kernels(rt: &HostRuntime, case: &LayerCase, k: u32) -> io::Result<()> {
+    let loops = time_loops(rt, case, k)?;
+    let pairs = (1u32 << k.min(20)) / 4;
     let (fold, fold_seen) = time_fold(rt, pairs)?;
     let (sums, sums_seen) = time_sums(rt, pairs)?;
     let three = fold.min(1_000_000_000_000) * 3;
@@ -232,7 +234,7 @@ fn print_kernels(rt: &HostRuntime, loops: Loops, pairs: u32) -> io::Result<()> {
 /// gates, by the prover's loops and by the kernels. The kernels have the parts of an element in two slices.
 pub fn kernels(rt: &HostRuntime, k: u32) -> io::Result<()> {
     match case_of(rt.alloc(), k)? {
-        Some(case) => print_kernels(rt, time_loops(rt, &case, k)?, (1u32 << k.min(20)) / 4),
+        Some(case) => print_kernels(rt, &case, k),
         None => println!(rt; "kernels: no layer of that size"),
     }
 }

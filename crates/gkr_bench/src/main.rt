@@ -26,6 +26,7 @@ mod plain_layer;
 mod programs;
 mod proving;
 mod random;
+mod ratio;
 mod stages;
 mod texts;
 mod turns;
@@ -43,16 +44,16 @@ const USAGE: &str =
 /// The text of a program of this kind and size, where there are any of the kind.
 fn program_of(alloc: Global, kind: &str, size: u32) -> Result<Option<String>, AllocError> {
     let text = match kind {
-        "matmul" => programs::matrix_product(alloc, size)?,
-        "steps" => programs::steps(alloc, size)?,
-        "names" => programs::names(alloc, size)?,
-        "copies" => programs::copies(alloc, size)?,
-        "copied" => programs::copied(alloc, size)?,
-        "transposes" => programs::transposes(alloc, size)?,
-        "letters" => programs::letters(alloc, size)?,
+        "matmul" => programs::matrix_product(alloc, size),
+        "steps" => programs::steps(alloc, size),
+        "names" => programs::names(alloc, size),
+        "copies" => programs::copies(alloc, size),
+        "copied" => programs::copied(alloc, size),
+        "transposes" => programs::transposes(alloc, size),
+        "letters" => programs::letters(alloc, size),
         _ => return Ok(None),
     };
-    Ok(Some(text))
+    Ok(Some(text?))
 }
 
 /// Times a program by `eval`, and a product of matrices by plain loops too.

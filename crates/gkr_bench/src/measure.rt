@@ -1,5 +1,6 @@
 //! What a program takes, and what plain loops take beside it.
 
+use crate::ratio::Ratio;
 use arr_ast::Lang;
 use arr_check::Checked;
 use arr_compile::{CompileRefused, read_program};
@@ -8,14 +9,18 @@ use field_ext::{Ext, Fp};
 use mle_table::Table;
 use std::alloc::{AllocError, Global};
 use std::io;
-use std::time::{Duration, Instant};
+use std::time::Instant;
 
-pub fn microseconds(time: Duration) -> u64 {
-    u64::try_from(time.as_micros()).unwrap_or(u64::MAX)
+/// How many microseconds have passed since then.
+pub fn microseconds_since(rt: &HostRuntime, begun: Instant) -> io::Result<u64> {
+    let time = begun.elapsed(rt)?;
+    Ok(u64::try_from(time.as_micros()).unwrap_or(u64::MAX))
 }
 
-pub fn nanoseconds(time: Duration) -> u64 {
-    u64::try_from(time.as_nanos()).unwrap_or(u64::MAX)
+/// How many nanoseconds have passed since then.
+pub fn nanoseconds_since(rt: &HostRuntime, begun: Instant) -> io::Result<u64> {
+    let time = begun.elapsed(rt)?;
+    Ok(u64::try_from(time.as_nanos()).unwrap_or(u64::MAX))
 }
 
 /// The program of a text, where it is one of at most 65,536 bytes.
@@ -28,18 +33,11 @@ fn read(alloc: Global, text: &[u8]) -> Option<Checked> {
 
 /// So many numbers, each another.
 pub fn numbers(alloc: Global, count: u64) -> Result<Vec<Fp>, AllocError> {
-    let mut found = Vec::new(alloc);
-    for number in 0..count {
-        found.push(Fp::reduce(number.wrapping_mul(2_654_435_761)))?;
+    let mut found = vec![in alloc; Fp::zero(); count as usize]?;
+    for place in 0..found.len() {
+        found[place] = Fp::reduce((place as u64).wrapping_mul(2_654_435_761));
     }
     Ok(found)
-}
-
-/// A program of a text, where it is one, and how many microseconds reading it took.
-fn time_reading(rt: &HostRuntime, text: &[u8]) -> io::Result<(Option<Checked>, u64)> {
-    let begun = Instant::now(rt)?;
-    let checked = read(rt.alloc(), text);
-    Ok((checked, microseconds(begun.elapsed(rt)?)))
 }
 
 /// How many microseconds evaluating a program took. None where memory is out.
@@ -49,29 +47,34 @@ fn time_evaluating(rt: &HostRuntime, checked: &Checked) -> io::Result<Option<u64
     if eval(rt.alloc(), checked, &inputs).is_err() {
         return Ok(None);
     }
-    Ok(Some(microseconds(begun.elapsed(rt)?)))
+    Ok(Some(microseconds_since(rt, begun)?))
 }
 
-/// How many microseconds evaluating a program took; says why where it isn't evaluated.
-fn evaluated(rt: &HostRuntime, kind: &str, checked: &Option<Checked>) -> io::Result<Option<u64>> {
+/// How many microseconds evaluating a program took, after those that reading it took; says why
+/// where it isn't evaluated.
+fn evaluated(
+    rt: &HostRuntime,
+    kind: &str,
+    checked: &Option<Checked>,
+    reading: u64,
+) -> io::Result<Option<(u64, u64)>> {
     let Some(checked) = checked else {
         println!(rt; "{}: the program is refused", kind)?;
         return Ok(None);
     };
-    let time = time_evaluating(rt, checked)?;
-    if time.is_none() {
+    let Some(evaluating) = time_evaluating(rt, checked)? else {
         println!(rt; "{}: no memory", kind)?;
-    }
-    Ok(time)
+        return Ok(None);
+    };
+    Ok(Some((reading, evaluating)))
 }
 
 /// How many microseconds reading and evaluating a program took; says why where it isn't evaluated.
 fn time_once(rt: &HostRuntime, kind: &str, text: &[u8]) -> io::Result<Option<(u64, u64)>> {
-    let (checked, reading) = time_reading(rt, text)?;
-    match evaluated(rt, kind, &checked)? {
-        Some(evaluating) => Ok(Some((reading, evaluating))),
-        None => Ok(None),
-    }
+    let begun = Instant::now(rt)?;
+    let checked = read(rt.alloc(), text);
+    let reading = microseconds_since(rt, begun)?;
+    evaluated(rt, kind, &checked, reading)
 }
 
 /// Prints how long reading and evaluating a program took, the best of five.
@@ -103,7 +106,7 @@ fn time_products(rt: &HostRuntime, n: u32, left: &[Fp], right: &[Fp]) -> io::Res
         for place in 0..u64::from(n).saturating_mul(u64::from(n)) {
             seen ^= folded(place, left, right).value();
         }
-        taken = taken.min(microseconds(begun.elapsed(rt)?));
+        taken = taken.min(microseconds_since(rt, begun)?);
     }
     Ok((taken, seen))
 }
@@ -131,11 +134,11 @@ fn folded(first: u64, left: &[Fp], right: &[Fp]) -> Fp {
 
 /// A table of `2^k` elements of K, where there is one of that size.
 fn table(alloc: Global, k: u32) -> Result<Option<Table>, AllocError> {
-    let mut values = Vec::new(alloc);
-    for number in 0..1u64 << k.min(24) {
-        let re = Fp::reduce(number.wrapping_mul(2_654_435_761));
-        let im = Fp::reduce(number.wrapping_mul(40_503));
-        values.push(Ext::of(re, im))?;
+    let mut values = vec![in alloc; Ext::zero(); 1usize << k.min(24)]?;
+    for place in 0..values.len() {
+        let re = Fp::reduce((place as u64).wrapping_mul(2_654_435_761));
+        let im = Fp::reduce((place as u64).wrapping_mul(40_503));
+        values[place] = Ext::of(re, im);
     }
     Ok(Table::of_values(values).ok())
 }
@@ -148,7 +151,7 @@ fn time_bind(rt: &HostRuntime, table: &mut Table) -> io::Result<u64> {
     let r = Ext::of(Fp::reduce(123_456_789), Fp::reduce(987_654_321));
     let begun = Instant::now(rt)?;
     table.fold(r);
-    Ok(nanoseconds(begun.elapsed(rt)?))
+    nanoseconds_since(rt, begun)
 }
 
 /// How many nanoseconds binding one coordinate of a table of `2^k` values took, where there is one.
@@ -165,14 +168,11 @@ pub fn fold(rt: &HostRuntime, k: u32) -> io::Result<()> {
     for _ in 0..5u32 {
         taken = taken.min(time_fold(rt, k)?);
     }
-    let count = 1u64 << k.min(24);
-    let hundredths = taken.min(1_000_000_000_000).saturating_mul(100) / count;
+    let k = k.min(24);
     println!(rt;
-        "fold: 2^{} values in {} us, {}.{}{} ns a value",
-        k.min(24),
+        "fold: 2^{} values in {} us, {} ns a value",
+        k,
         taken / 1000,
-        hundredths / 100,
-        hundredths / 10 % 10,
-        hundredths % 10
+        Ratio::of(taken, 1u64 << k)
     )
 }

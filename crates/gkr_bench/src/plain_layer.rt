@@ -19,14 +19,20 @@ pub struct Plain {
 
 pub const ZERO: Plain = Plain { re: 0, im: 0 };
 
+/// The tables that the rounds of a phase fold.
+#[derive(Drop)]
+pub struct PlainTables {
+    pub values: Vec<Plain>,
+    pub scales: Vec<Plain>,
+    pub shifts: Vec<Plain>,
+}
+
 /// The buffers of a layer.
 #[derive(Drop)]
 pub struct PlainBuffers {
     pub point_equality: Vec<Plain>,
     pub left_equality: Vec<Plain>,
-    pub table: Vec<Plain>,
-    pub scales: Vec<Plain>,
-    pub shifts: Vec<Plain>,
+    pub tables: PlainTables,
 }
 
 fn reduce(x: u64) -> u32 {
@@ -201,21 +207,23 @@ fn send(
 }
 
 fn gather_left(gates: &[CircuitGate], values: &[Plain], buffers: &mut PlainBuffers) {
-    clear(&mut buffers.scales);
-    clear(&mut buffers.shifts);
+    clear(&mut buffers.tables.scales);
+    clear(&mut buffers.tables.shifts);
     for (gate, factor) in gates.iter().zip(buffers.point_equality.as_slice()) {
         let product = mul(*factor, value_at(values, gate.right));
-        let (scales, shifts) = (&mut buffers.scales, &mut buffers.shifts);
+        let tables = &mut buffers.tables;
+        let (scales, shifts) = (&mut tables.scales, &mut tables.shifts);
         send(scales, shifts, gate.kind, gate.left, *factor, product);
     }
 }
 
 fn gather_right(gates: &[CircuitGate], bound: Plain, buffers: &mut PlainBuffers) {
-    clear(&mut buffers.scales);
-    clear(&mut buffers.shifts);
+    clear(&mut buffers.tables.scales);
+    clear(&mut buffers.tables.shifts);
     for (gate, factor) in gates.iter().zip(buffers.point_equality.as_slice()) {
         let factor = mul(*factor, value_at(&buffers.left_equality, gate.left));
-        let (scales, shifts) = (&mut buffers.scales, &mut buffers.shifts);
+        let tables = &mut buffers.tables;
+        let (scales, shifts) = (&mut tables.scales, &mut tables.shifts);
         send(
             scales,
             shifts,
@@ -227,19 +235,19 @@ fn gather_right(gates: &[CircuitGate], bound: Plain, buffers: &mut PlainBuffers)
     }
 }
 
-fn rounds(buffers: &mut PlainBuffers, challenges: &[Plain]) -> u32 {
+fn rounds(tables: &mut PlainTables, challenges: &[Plain]) -> u32 {
     let mut seen = 0u32;
-    let mut half = buffers.table.len() / 2;
+    let mut half = tables.values.len() / 2;
     for r in challenges {
-        half = half.min(buffers.table.len() / 2);
+        half = half.min(tables.values.len() / 2);
         half = half
-            .min(buffers.scales.len() / 2)
-            .min(buffers.shifts.len() / 2);
-        let message = pair_sums(&buffers.table, &buffers.scales, &buffers.shifts, half);
+            .min(tables.scales.len() / 2)
+            .min(tables.shifts.len() / 2);
+        let message = pair_sums(&tables.values, &tables.scales, &tables.shifts, half);
         seen = seen.wrapping_add(message[0].re ^ message[1].im ^ message[2].re);
-        fold(&mut buffers.table, half, *r);
-        fold(&mut buffers.scales, half, *r);
-        fold(&mut buffers.shifts, half, *r);
+        fold(&mut tables.values, half, *r);
+        fold(&mut tables.scales, half, *r);
+        fold(&mut tables.shifts, half, *r);
         half /= 2;
     }
     seen
@@ -255,12 +263,12 @@ pub fn prove_layer(
     buffers: &mut PlainBuffers,
 ) -> u32 {
     equality_table(point, &mut buffers.point_equality);
-    copy(values, &mut buffers.table);
+    copy(values, &mut buffers.tables.values);
     gather_left(gates, values, buffers);
-    let seen = rounds(buffers, left);
-    let bound = value_at(&buffers.table, 0);
+    let seen = rounds(&mut buffers.tables, left);
+    let bound = value_at(&buffers.tables.values, 0);
     equality_table(left, &mut buffers.left_equality);
-    copy(values, &mut buffers.table);
+    copy(values, &mut buffers.tables.values);
     gather_right(gates, bound, buffers);
-    seen.wrapping_add(rounds(buffers, right))
+    seen.wrapping_add(rounds(&mut buffers.tables, right))
 }

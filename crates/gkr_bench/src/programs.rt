@@ -15,15 +15,28 @@ pub fn steps(alloc: Global, n: u32) -> Result<String, AllocError> {
     format!(in alloc; "let s = 0; for i in 0..{} {{ s = 1; }} output s;", n)
 }
 
+/// Adds a piece of text so many times.
+fn push_times(text: &mut String, piece: &str, times: usize) -> Result<(), AllocError> {
+    for _ in 0..times {
+        text.push_str(piece)?;
+    }
+    Ok(())
+}
+
+/// Adds so many names for `a`, as far as there is room.
+fn push_copies(text: &mut String, n: u32) -> Result<(), AllocError> {
+    for number in 0..n {
+        if text.len() < 65_000 {
+            write!(text, "let b{} = a; ", number)?;
+        }
+    }
+    Ok(())
+}
+
 /// So many names that stand for one array of 512 by 511 numbers.
 pub fn copies(alloc: Global, n: u32) -> Result<String, AllocError> {
     let mut text = format!(in alloc; "input a[512][511]; ")?;
-    for number in 0..n {
-        if text.len() < 65_000 {
-            let line = format!(in alloc; "let b{} = a; ", number)?;
-            text.push_str(line.as_str())?;
-        }
-    }
+    push_copies(&mut text, n)?;
     text.push_str("output a[0][0];")?;
     Ok(text)
 }
@@ -39,13 +52,9 @@ pub fn copied(alloc: Global, n: u32) -> Result<String, AllocError> {
 /// A loop of so many turns, each with 60 transposes, one of another, of a matrix of 511 by 511 numbers.
 pub fn transposes(alloc: Global, n: u32) -> Result<String, AllocError> {
     let mut text = format!(in alloc; "input a[511][511]; for i in 0..{} {{ a = ", n)?;
-    for _ in 0..60u32 {
-        text.push_str("transpose(")?;
-    }
+    push_times(&mut text, "transpose(", 60)?;
     text.push_str("a")?;
-    for _ in 0..60u32 {
-        text.push_str(")")?;
-    }
+    push_times(&mut text, ")", 60)?;
     text.push_str("; } output a[0][0];")?;
     Ok(text)
 }
@@ -53,25 +62,26 @@ pub fn transposes(alloc: Global, n: u32) -> Result<String, AllocError> {
 /// A loop of 524,000 turns whose variable has so many letters, and whose body is empty.
 pub fn letters(alloc: Global, n: u32) -> Result<String, AllocError> {
     let mut text = format!(in alloc; "let s = 0; for ")?;
-    for _ in 0..n {
-        if text.len() < 65_000 {
-            text.push_str("i")?;
-        }
-    }
+    let room = 65_000usize.saturating_sub(text.len());
+    push_times(&mut text, "i", room.min(n as usize))?;
     text.push_str(" in 0..524000 { } output s;")?;
     Ok(text)
 }
 
-/// Declarations, each a sum of names declared before, up to a length in kibibytes.
-pub fn names(alloc: Global, kib: u32) -> Result<String, AllocError> {
-    let most = (u64::from(kib) * 1024).saturating_sub(64);
-    let mut text = format!(in alloc; "input a0; ")?;
+/// Adds declarations, each a sum of names declared before, up to so many bytes.
+fn push_sums(text: &mut String, most: u64) -> Result<(), AllocError> {
     for number in 0..65_536u32 {
         if (text.len() as u64) < most {
-            let line = format!(in alloc; "let a{} = a{}+a{}; ", number + 1, number, number / 2)?;
-            text.push_str(line.as_str())?;
+            write!(text, "let a{} = a{}+a{}; ", number + 1, number, number / 2)?;
         }
     }
+    Ok(())
+}
+
+/// Declarations, each a sum of names declared before, up to a length in kibibytes.
+pub fn names(alloc: Global, kib: u32) -> Result<String, AllocError> {
+    let mut text = format!(in alloc; "input a0; ")?;
+    push_sums(&mut text, (u64::from(kib) * 1024).saturating_sub(64))?;
     text.push_str("output a1;")?;
     Ok(text)
 }

@@ -3,9 +3,10 @@
 
 ghost use Rattle.std.specs.Prelude.{◌≡◌, ◌<◌, ◌+◌, [], length, IfOk, IfSome};
 
-use crate::measure::nanoseconds;
-use crate::plain_layer::{Plain, PlainBuffers, ZERO, prove_layer};
+use crate::measure::nanoseconds_since;
+use crate::plain_layer::{Plain, PlainBuffers, PlainTables, ZERO, prove_layer};
 use crate::random::Random;
+use crate::ratio::Ratio;
 use circuit_core::{Circuit, CircuitGate, Layer, Leaf};
 use field_ext::{Ext, Fp};
 use io_edge::OpenGate;
@@ -20,14 +21,20 @@ use std::time::Instant;
 use sumcheck_prove::{bind_round, round};
 use wiring_poly::wiring_at;
 
-/// A layer of `2^k` gates over as many values of the base field, its output point, and the challenges of both phases.
+/// The output point of a layer, and the challenges of both phases.
+#[derive(Drop)]
+pub(crate) struct LayerPoints {
+    pub(crate) output: Vec<Ext>,
+    pub(crate) left: Vec<Ext>,
+    pub(crate) right: Vec<Ext>,
+}
+
+/// A layer of `2^k` gates over as many values of the base field, and its points.
 #[derive(Drop)]
 pub(crate) struct LayerCase {
     pub(crate) circuit: Circuit,
     pub(crate) values: Table,
-    pub(crate) point: Vec<Ext>,
-    pub(crate) left: Vec<Ext>,
-    pub(crate) right: Vec<Ext>,
+    pub(crate) points: LayerPoints,
 }
 
 /// A circuit of one layer of these gates, over as many values.
@@ -56,21 +63,13 @@ fn table_of(alloc: Global, random: &mut Random, k: u32) -> Result<Table, AllocEr
     Table::of_base(alloc, &values)
 }
 
-/// The case of this circuit, its values and its output point.
-fn case_at(
-    alloc: Global,
-    random: &mut Random,
-    circuit: Circuit,
-    values: Table,
-    point: Vec<Ext>,
-    k: u32,
-) -> Result<LayerCase, AllocError> {
+/// Points of k random coordinates each.
+fn points_of(alloc: Global, random: &mut Random, k: u32) -> Result<LayerPoints, AllocError> {
+    let output = random.elements(alloc, k)?;
     let left = random.elements(alloc, k)?;
     let right = random.elements(alloc, k)?;
-    Ok(LayerCase {
-        circuit,
-        values,
-        point,
+    Ok(LayerPoints {
+        output,
         left,
         right,
     })
@@ -84,8 +83,12 @@ fn case_over(
     k: u32,
 ) -> Result<LayerCase, AllocError> {
     let values = table_of(alloc, random, k)?;
-    let point = random.elements(alloc, k)?;
-    case_at(alloc, random, circuit, values, point, k)
+    let points = points_of(alloc, random, k)?;
+    Ok(LayerCase {
+        circuit,
+        values,
+        points,
+    })
 }
 
 pub(crate) fn case_of(alloc: Global, k: u32) -> Result<Option<LayerCase>, AllocError> {
@@ -97,7 +100,7 @@ pub(crate) fn case_of(alloc: Global, k: u32) -> Result<Option<LayerCase>, AllocE
 }
 
 /// The working tables of the layer in the buffers, where its sizes fit.
-pub(crate) fn started<'a>(
+fn started<'a>(
     buffers: Buffers,
     circuit: &'a Circuit,
     values: &'a Table,
@@ -113,6 +116,19 @@ pub(crate) fn started<'a>(
     }
     let tables = GateTables::start_in(buffers, circuit.gates(0), values, point)?;
     Ok(Some(tables))
+}
+
+/// The working tables of the case in the buffers, where there are any and its sizes fit.
+pub(crate) fn started_in<'a>(
+    room: Option<Buffers>,
+    case: &'a LayerCase,
+) -> Result<Option<GateTables<'a>>, AllocError>
+    ensures { IfOk result (λ found. IfSome found (λ tables. tables.lent ≡ [])) }
+{
+    match room {
+        Some(buffers) => started(buffers, &case.circuit, &case.values, &case.points.output),
+        None => Ok(None),
+    }
 }
 
 /// The message of the next round by one worker, of which a digest is left, and the challenge bound.
@@ -143,7 +159,7 @@ fn prove_rounds<R: Threads + Sync>(
     ensures { IfOk result (λ _. tables.new.lent ≡ []) }
 {
     let mut seen = 0u32;
-    for r in case.left.iter().chain(case.right.iter()) {
+    for r in case.points.left.iter().chain(case.points.right.iter()) {
         if tables.rounds_left() > 0 {
             seen = seen.wrapping_add(prove_round(rt, alloc, tables, *r)?);
         }
@@ -158,21 +174,39 @@ struct Proved {
     seen: u32,
 }
 
-/// Proves all rounds of a layer that is started in the buffers, by one worker.
+/// Proves all rounds of a layer that was begun then and is started, by one worker, keeps the lesser
+/// time, and gives the buffers back.
+fn prove_started<R: Threads + Sync>(
+    rt: &HostRuntime,
+    threads: &R,
+    mut tables: GateTables<'_>,
+    case: &LayerCase,
+    begun: Instant,
+    best: &mut Proved,
+) -> io::Result<Buffers>
+    requires { tables.lent ≡ [] }
+{
+    let seen = prove_rounds(threads, rt.alloc(), &mut tables, case)?;
+    let buffers = tables.into_buffers();
+    let time = best.time.min(nanoseconds_since(rt, begun)?);
+    *best = Proved { time, seen };
+    Ok(buffers)
+}
+
+/// Proves all rounds of a layer in the buffers, where there are any, and gives them back where its
+/// sizes fit.
 fn prove<R: Threads + Sync>(
     rt: &HostRuntime,
     threads: &R,
-    buffers: Buffers,
+    room: Option<Buffers>,
     case: &LayerCase,
-) -> io::Result<Option<(Proved, Buffers)>> {
+    best: &mut Proved,
+) -> io::Result<Option<Buffers>> {
     let begun = Instant::now(rt)?;
-    let Some(mut tables) = started(buffers, &case.circuit, &case.values, &case.point)? else {
-        return Ok(None);
-    };
-    let seen = prove_rounds(threads, rt.alloc(), &mut tables, case)?;
-    let buffers = tables.into_buffers();
-    let time = nanoseconds(begun.elapsed(rt)?);
-    Ok(Some((Proved { time, seen }, buffers)))
+    match started_in(room, case)? {
+        Some(tables) => Ok(Some(prove_started(rt, threads, tables, case, begun, best)?)),
+        None => Ok(None),
+    }
 }
 
 /// The best of twenty times of the proved prover, which uses the same buffers again.
@@ -181,39 +215,43 @@ fn time_proved<R: Threads + Sync>(
     threads: &R,
     case: &LayerCase,
     k: u32,
-) -> io::Result<(u64, u32)> {
+) -> io::Result<Proved> {
     let width = 1usize << k.min(20);
-    let mut buffers = Buffers::new(rt.alloc(), width, width)?;
-    let (mut best, mut seen) = (u64::MAX, 0);
+    let mut room = Some(Buffers::new(rt.alloc(), width, width)?);
+    let mut best = Proved {
+        time: u64::MAX,
+        seen: 0,
+    };
     for _ in 0..20u32 {
-        let Some((proved, used)) = prove(rt, threads, buffers, case)? else {
-            return Ok((best, seen));
-        };
-        best = best.min(proved.time);
-        seen = proved.seen;
-        buffers = used;
+        room = prove(rt, threads, room, case, &mut best)?;
     }
-    Ok((best, seen))
+    Ok(best)
 }
 
 fn plain(alloc: Global, elements: &[Ext]) -> Result<Vec<Plain>, AllocError> {
-    let mut found = Vec::new(alloc);
-    for element in elements {
-        found.push(Plain {
+    let mut found = vec![in alloc; ZERO; elements.len()]?;
+    for (plain, element) in found.iter_mut().zip(elements) {
+        *plain = Plain {
             re: element.re().value(),
             im: element.im().value(),
-        })?;
+        };
     }
     Ok(found)
+}
+
+fn plain_tables(alloc: Global, size: usize) -> Result<PlainTables, AllocError> {
+    Ok(PlainTables {
+        values: vec![in alloc; ZERO; size]?,
+        scales: vec![in alloc; ZERO; size]?,
+        shifts: vec![in alloc; ZERO; size]?,
+    })
 }
 
 fn plain_buffers(alloc: Global, size: usize) -> Result<PlainBuffers, AllocError> {
     Ok(PlainBuffers {
         point_equality: vec![in alloc; ZERO; size]?,
         left_equality: vec![in alloc; ZERO; size]?,
-        table: vec![in alloc; ZERO; size]?,
-        scales: vec![in alloc; ZERO; size]?,
-        shifts: vec![in alloc; ZERO; size]?,
+        tables: plain_tables(alloc, size)?,
     })
 }
 
@@ -228,9 +266,9 @@ struct PlainCase {
 
 fn plain_case(alloc: Global, case: &LayerCase) -> Result<PlainCase, AllocError> {
     let values = plain(alloc, case.values.values())?;
-    let point = plain(alloc, &case.point)?;
-    let left = plain(alloc, &case.left)?;
-    let right = plain(alloc, &case.right)?;
+    let point = plain(alloc, &case.points.output)?;
+    let left = plain(alloc, &case.points.left)?;
+    let right = plain(alloc, &case.points.right)?;
     Ok(PlainCase {
         values,
         point,
@@ -257,7 +295,7 @@ fn least_plain(
             &case.right,
             buffers,
         );
-        best = best.min(nanoseconds(begun.elapsed(rt)?));
+        best = best.min(nanoseconds_since(rt, begun)?);
     }
     Ok((best, seen))
 }
@@ -289,19 +327,25 @@ fn time_wiring(rt: &HostRuntime, case: &LayerCase) -> io::Result<(u64, u32)> {
     let (mut best, mut seen) = (u64::MAX, 0);
     for _ in 0..20u32 {
         let begun = Instant::now(rt)?;
-        seen = wire(&case.circuit, &case.point, &case.left, &case.right);
-        best = best.min(nanoseconds(begun.elapsed(rt)?));
+        seen = wire(
+            &case.circuit,
+            &case.points.output,
+            &case.points.left,
+            &case.points.right,
+        );
+        best = best.min(nanoseconds_since(rt, begun)?);
     }
     Ok((best, seen))
 }
 
 /// The line between the operands' points, of which a digest is left.
 pub(crate) fn line(alloc: Global, case: &LayerCase) -> Result<u32, AllocError> {
+    let (left, right) = (&case.points.left, &case.points.right);
     let k = case.values.k() as usize;
-    if k > 20 || case.left.len() != k || case.right.len() != k {
+    if k > 20 || left.len() != k || right.len() != k {
         return Ok(0);
     }
-    let polynomial = line_poly(alloc, &case.values, &case.left, &case.right)?;
+    let polynomial = line_poly(alloc, &case.values, left, right)?;
     match polynomial.coefficients().last() {
         Some(last) => Ok(last.re().value()),
         None => Ok(0),
@@ -314,7 +358,7 @@ fn time_line(rt: &HostRuntime, case: &LayerCase) -> io::Result<(u64, u32)> {
     for _ in 0..20u32 {
         let begun = Instant::now(rt)?;
         seen = line(rt.alloc(), case)?;
-        best = best.min(nanoseconds(begun.elapsed(rt)?));
+        best = best.min(nanoseconds_since(rt, begun)?);
     }
     Ok((best, seen))
 }
@@ -328,19 +372,12 @@ fn print_time(
     k: u32,
     seen: u32,
 ) -> io::Result<()> {
-    let time = time.min(1_000_000_000_000);
-    let hundredths = (time * 100) >> k.min(20);
-    let ratio = time * 100 / plain.clamp(1, 1_000_000_000_000);
     println!(rt;
-        "{}: 2^{} gates, {}.{}{} ns a gate, {}.{}{} of the plain loops ({})",
+        "{}: 2^{} gates, {} ns a gate, {} of the plain loops ({})",
         what,
         k,
-        hundredths / 100,
-        hundredths / 10 % 10,
-        hundredths % 10,
-        ratio / 100,
-        ratio / 10 % 10,
-        ratio % 10,
+        Ratio::of(time, 1u64 << k.min(20)),
+        Ratio::of(time, plain),
         seen
     )
 }
@@ -353,11 +390,11 @@ fn print_layer<R: Threads + Sync>(
     k: u32,
 ) -> io::Result<()> {
     let (plain, plain_seen) = time_plain(rt, case)?;
-    let (proved, seen) = time_proved(rt, threads, case, k)?;
+    let proved = time_proved(rt, threads, case, k)?;
     let (line, line_seen) = time_line(rt, case)?;
     let (wiring, wiring_seen) = time_wiring(rt, case)?;
     print_time(rt, "plain loops", plain, plain, k, plain_seen)?;
-    print_time(rt, "prove a layer", proved, plain, k, seen)?;
+    print_time(rt, "prove a layer", proved.time, plain, k, proved.seen)?;
     print_time(rt, "line of a layer", line, plain, k, line_seen)?;
     print_time(rt, "wiring of a layer", wiring, plain, k, wiring_seen)
 }

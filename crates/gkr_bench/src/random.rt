@@ -5,7 +5,7 @@ use field_ext::{Ext, Fp};
 use std::alloc::{AllocError, Global};
 
 /// Numbers that follow no plain rule.
-#[derive(Drop)]
+#[derive(Clone, Copy)]
 pub(crate) struct Random {
     pub(crate) seed: u64,
 }
@@ -24,9 +24,9 @@ impl Random {
     }
 
     pub(crate) fn elements(&mut self, alloc: Global, count: u32) -> Result<Vec<Ext>, AllocError> {
-        let mut found = Vec::new(alloc);
-        for _ in 0..count {
-            found.push(self.element())?;
+        let mut found = vec![in alloc; Ext::zero(); count as usize]?;
+        for place in 0..found.len() {
+            found[place] = self.element();
         }
         Ok(found)
     }
@@ -53,9 +53,9 @@ impl Random {
             left: 0,
             right: 0,
         };
-        let mut gates = vec![in alloc; zero]?;
-        for _ in 1..1u64 << k.min(20) {
-            gates.push(self.gate(k))?;
+        let mut gates = vec![in alloc; zero; 1usize << k.min(20)]?;
+        for place in 1..gates.len() {
+            gates[place] = self.gate(k);
         }
         Ok(gates)
     }

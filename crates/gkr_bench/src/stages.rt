@@ -3,8 +3,9 @@
 ghost use Rattle.std.specs.Prelude.{◌≡◌, [], IfOk};
 
 use crate::kernels::time_round;
-use crate::measure::nanoseconds;
-use crate::proving::{LayerCase, case_of, line, started};
+use crate::measure::nanoseconds_since;
+use crate::proving::{LayerCase, case_of, line, started_in};
+use crate::ratio::Ratio;
 use field_ext::Ext;
 use round_tables::{Buffers, GateTables};
 use std::io;
@@ -72,11 +73,11 @@ fn time_phases(
     requires { tables.old.lent ≡ [] }
     ensures { IfOk result (λ _. tables.new.lent ≡ []) }
 {
-    let first = time_phase(rt, tables, &case.left)?;
-    let second = time_phase(rt, tables, &case.right)?;
+    let first = time_phase(rt, tables, &case.points.left)?;
+    let second = time_phase(rt, tables, &case.points.right)?;
     let begun = Instant::now(rt)?;
     let line_seen = line(rt.alloc(), case)?;
-    let line_time = nanoseconds(begun.elapsed(rt)?);
+    let line_time = nanoseconds_since(rt, begun)?;
     Ok(StageTimes {
         times: [
             first_tables,
@@ -87,21 +88,6 @@ fn time_phases(
         ],
         seen: first.seen.wrapping_add(second.seen).wrapping_add(line_seen),
     })
-}
-
-/// Proves a layer that is started in the buffers.
-fn time_stages(
-    rt: &HostRuntime,
-    buffers: Buffers,
-    case: &LayerCase,
-) -> io::Result<Option<(StageTimes, Buffers)>> {
-    let begun = Instant::now(rt)?;
-    let Some(mut tables) = started(buffers, &case.circuit, &case.values, &case.point)? else {
-        return Ok(None);
-    };
-    let first_tables = nanoseconds(begun.elapsed(rt)?);
-    let stages = time_phases(rt, &mut tables, case, first_tables)?;
-    Ok(Some((stages, tables.into_buffers())))
 }
 
 /// The lesser time of each stage.
@@ -116,34 +102,58 @@ fn lesser(one: StageTimes, other: StageTimes) -> StageTimes {
     }
 }
 
+/// Proves a layer that was begun then and is started, keeps the lesser times, and gives the buffers
+/// back.
+fn time_started(
+    rt: &HostRuntime,
+    mut tables: GateTables<'_>,
+    case: &LayerCase,
+    begun: Instant,
+    least: &mut StageTimes,
+) -> io::Result<Buffers>
+    requires { tables.lent ≡ [] }
+{
+    let first_tables = nanoseconds_since(rt, begun)?;
+    let stages = time_phases(rt, &mut tables, case, first_tables)?;
+    *least = lesser(*least, stages);
+    Ok(tables.into_buffers())
+}
+
+/// Proves a layer in the buffers, where there are any, and gives them back where its sizes fit.
+fn time_stages(
+    rt: &HostRuntime,
+    room: Option<Buffers>,
+    case: &LayerCase,
+    least: &mut StageTimes,
+) -> io::Result<Option<Buffers>> {
+    let begun = Instant::now(rt)?;
+    match started_in(room, case)? {
+        Some(tables) => Ok(Some(time_started(rt, tables, case, begun, least)?)),
+        None => Ok(None),
+    }
+}
+
 /// The least of forty times of each stage. None where the layer isn't of that size.
 fn least_stages(rt: &HostRuntime, case: &LayerCase, k: u32) -> io::Result<Option<StageTimes>> {
     let width = 1usize << k.min(20);
-    let mut buffers = Buffers::new(rt.alloc(), width, width)?;
+    let mut room = Some(Buffers::new(rt.alloc(), width, width)?);
     let mut least = StageTimes {
         times: [u64::MAX; 5],
         seen: 0,
     };
     for _ in 0..40u32 {
-        let Some((stages, used)) = time_stages(rt, buffers, case)? else {
-            return Ok(None);
-        };
-        least = lesser(least, stages);
-        buffers = used;
+        room = time_stages(rt, room, case, &mut least)?;
     }
-    Ok(Some(least))
+    Ok(if room.is_some() { Some(least) } else { None })
 }
 
 /// Prints the time of a stage as nanoseconds a gate with two digits.
 fn print_stage(rt: &HostRuntime, stage: &str, time: u64, k: u32, seen: u32) -> io::Result<()> {
-    let hundredths = (time.min(1_000_000_000_000) * 100) >> k.min(20);
     println!(rt;
-        "{}: 2^{} gates, {}.{}{} ns a gate ({})",
+        "{}: 2^{} gates, {} ns a gate ({})",
         stage,
         k,
-        hundredths / 100,
-        hundredths / 10 % 10,
-        hundredths % 10,
+        Ratio::of(time, 1u64 << k.min(20)),
         seen
     )
 }

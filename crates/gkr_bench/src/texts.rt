@@ -1,6 +1,6 @@
 //! What texts of cases and bytes of proofs take.
 
-use crate::measure::{microseconds, numbers};
+use crate::measure::{microseconds_since, numbers};
 use arr_ast::Lang;
 use case_text::{Case, Form, read_case, write_case};
 use circuit_core::Shape;
@@ -18,19 +18,20 @@ fn rate(bytes: u64, time: u64) -> u64 {
 
 /// So many bytes, each another than the one before.
 fn bytes_of(alloc: Global, count: u64) -> Result<Vec<u8>, AllocError> {
-    let mut bytes = Vec::new(alloc);
-    for number in 0..count {
-        bytes.push((number % 251) as u8)?;
+    let mut bytes = vec![in alloc; 0u8; count as usize]?;
+    for place in 0..bytes.len() {
+        bytes[place] = (place % 251) as u8;
     }
     Ok(bytes)
 }
 
 /// The case of these parts, where they are no more than a case may have.
 fn case_with(program: Vec<u8>, inputs: Vec<Fp>, outputs: Vec<Fp>, proof: Vec<u8>) -> Option<Case> {
-    if inputs.len() > 262_144 || outputs.len() > 262_144 {
-        return None;
-    }
-    if program.len() > 65_536 || proof.len() > 2_000_000 {
+    if inputs.len() > 262_144
+        || outputs.len() > 262_144
+        || program.len() > 65_536
+        || proof.len() > 2_000_000
+    {
         return None;
     }
     Some(Case::new(Lang::One, program, inputs, Some(outputs), Some(proof)))
@@ -54,28 +55,26 @@ struct CaseTimes {
     writing: u64,
 }
 
-/// How many microseconds reading a case took. None where it isn't read.
-fn time_reading(rt: &HostRuntime, text: &[u8]) -> io::Result<Option<u64>> {
+/// What reading a case took, where writing it took so long. None where it isn't read.
+fn time_reading(rt: &HostRuntime, text: &[u8], writing: u64) -> io::Result<Option<CaseTimes>> {
     let begun = Instant::now(rt)?;
     if read_case(rt.alloc(), text, Form::Full).is_err() {
         return Ok(None);
     }
-    Ok(Some(microseconds(begun.elapsed(rt)?)))
+    let reading = microseconds_since(rt, begun)?;
+    Ok(Some(CaseTimes {
+        size: text.len() as u64,
+        reading,
+        writing,
+    }))
 }
 
 /// What writing and reading a case took. None where it isn't read.
 fn time_case(rt: &HostRuntime, case: &Case) -> io::Result<Option<CaseTimes>> {
     let begun = Instant::now(rt)?;
     let text = write_case(rt.alloc(), case)?;
-    let writing = microseconds(begun.elapsed(rt)?);
-    match time_reading(rt, &text)? {
-        Some(reading) => Ok(Some(CaseTimes {
-            size: text.len() as u64,
-            reading,
-            writing,
-        })),
-        None => Ok(None),
-    }
+    let writing = microseconds_since(rt, begun)?;
+    time_reading(rt, &text, writing)
 }
 
 /// The least of twenty such times each.
@@ -155,7 +154,7 @@ fn time_decoding(
             return Ok(None);
         }
     }
-    Ok(Some(microseconds(begun.elapsed(rt)?)))
+    Ok(Some(microseconds_since(rt, begun)?))
 }
 
 /// How many microseconds writing so many times these messages took.
@@ -164,7 +163,7 @@ fn time_encoding(rt: &HostRuntime, messages: &Messages, times: u32) -> io::Resul
     for _ in 0..times {
         encode(rt.alloc(), messages)?;
     }
-    Ok(microseconds(begun.elapsed(rt)?))
+    microseconds_since(rt, begun)
 }
 
 /// How many microseconds reading proofs of both versions, and writing those of the first, took.
@@ -250,6 +249,21 @@ fn print_proofs(
     )
 }
 
+/// Prints how long these proofs of both versions, and the messages of the first, took.
+fn print_messages(
+    rt: &HostRuntime,
+    one: &[u8],
+    two: &[u8],
+    shape: &Shape,
+    messages: &Messages,
+    times: u32,
+) -> io::Result<()> {
+    match least_proofs(rt, one, two, shape, messages, times)? {
+        Some(least) => print_proofs(rt, least, one.len(), two.len(), times),
+        None => Ok(()),
+    }
+}
+
 /// Prints how long these proofs of both versions took.
 fn print_versions(
     rt: &HostRuntime,
@@ -258,12 +272,9 @@ fn print_versions(
     shape: &Shape,
     times: u32,
 ) -> io::Result<()> {
-    let Ok(AnyProof::One(messages)) = decode_any(rt.alloc(), one, shape) else {
-        return println!(rt; "proof: not read");
-    };
-    match least_proofs(rt, one, two, shape, &messages, times)? {
-        Some(least) => print_proofs(rt, least, one.len(), two.len(), times),
-        None => Ok(()),
+    match decode_any(rt.alloc(), one, shape) {
+        Ok(AnyProof::One(messages)) => print_messages(rt, one, two, shape, &messages, times),
+        _ => println!(rt; "proof: not read"),
     }
 }
 

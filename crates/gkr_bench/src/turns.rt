@@ -2,7 +2,7 @@
 
 ghost use Rattle.std.specs.Prelude.{◌≡◌, ◌<◌, false, [], IfOk};
 
-use crate::measure::nanoseconds;
+use crate::measure::nanoseconds_since;
 use std::alloc::{AllocError, Global};
 use std::io;
 use std::sync::Wait;
@@ -72,9 +72,14 @@ fn least_time<R: Wait>(
     for _ in 0..20 {
         let begun = Instant::now(rt)?;
         take_turns(waits, lock, turn, count);
-        least = least.min(nanoseconds(begun.elapsed(rt)?));
+        least = least.min(nanoseconds_since(rt, begun)?);
     }
     Ok(least)
+}
+
+/// Prints what each of so many turns took.
+fn print_turns(rt: &HostRuntime, count: u32, time: u64) -> io::Result<()> {
+    println!(rt; "turns: {} turns, {} ns a turn", count, time)
 }
 
 /// Prints what a turn takes, in nanoseconds.
@@ -82,9 +87,5 @@ pub fn turns<R: Wait>(rt: &HostRuntime, waits: &R, count: u32) -> io::Result<()>
     let (lock, mut turn) = locked(rt.alloc())?;
     let count = count.clamp(1, 100_000_000);
     let least = least_time(rt, waits, &lock, &mut turn, count)?;
-    println!(rt;
-        "turns: {} turns, {} ns a turn",
-        count,
-        least / u64::from(count)
-    )
+    print_turns(rt, count, least / u64::from(count))
 }

@@ -8,7 +8,8 @@ ghost use Rattle.phase_run.specs.Work.{IsWorkerCount};
 use crate::audits::{evaluated, proved};
 use crate::checking::tangled;
 use crate::circuits::gates;
-use crate::measure::nanoseconds;
+use crate::measure::nanoseconds_since;
+use crate::ratio::Ratio;
 use circuit_core::Circuit;
 use circuit_eval::Values;
 use field_ext::Fp;
@@ -33,7 +34,7 @@ fn time_proof<R: Threads + Wait + Sync>(
 {
     let begun = Instant::now(rt)?;
     let _messages = proved(threads, rt.alloc(), circuit, values, outputs, workers)?;
-    Ok(nanoseconds(begun.elapsed(rt)?))
+    nanoseconds_since(rt, begun)
 }
 
 /// The least of forty times for each of one to four workers in nanoseconds, which take turns, so that they meet the same load.
@@ -57,18 +58,6 @@ fn least_times<R: Threads + Wait + Sync>(
     Ok(least)
 }
 
-/// The least times of a circuit's proof, where it has values.
-fn times<R: Threads + Wait + Sync>(
-    rt: &HostRuntime,
-    threads: &R,
-    circuit: &Circuit,
-) -> io::Result<Option<[u64; 4]>> {
-    match evaluated(rt.alloc(), threads, circuit)? {
-        Some(on) => Ok(Some(least_times(rt, threads, circuit, &on.values, &on.outputs)?)),
-        None => Ok(None),
-    }
-}
-
 /// Prints what so many workers took, as nanoseconds a gate and as a ratio to one worker, both with two digits.
 fn print_time(
     rt: &HostRuntime,
@@ -78,43 +67,52 @@ fn print_time(
     time: u64,
     one: u64,
 ) -> io::Result<()> {
-    let time = time.min(1_000_000_000_000);
-    let hundredths = time * 100 / count.max(1);
-    let ratio = time * 100 / one.clamp(1, 1_000_000_000_000);
     println!(rt;
-        "workers {}: 2^{} gates, {}.{}{} ns a gate, {}.{}{} of one worker",
+        "workers {}: 2^{} gates, {} ns a gate, {} of one worker",
         workers,
         k,
-        hundredths / 100,
-        hundredths / 10 % 10,
-        hundredths % 10,
-        ratio / 100,
-        ratio / 10 % 10,
-        ratio % 10
+        Ratio::of(time, count),
+        Ratio::of(time, one)
     )
 }
 
-/// Prints what a proof of a circuit takes with one to four workers.
+/// Prints what a proof of these outputs takes with one to four workers.
 fn print_times<R: Threads + Wait + Sync>(
     rt: &HostRuntime,
     threads: &R,
     circuit: &Circuit,
+    values: &Values,
+    outputs: &[Fp],
     k: u32,
-) -> io::Result<()> {
-    let Some(least) = times(rt, threads, circuit)? else {
-        return println!(rt; "workers: no outputs of that size");
-    };
+) -> io::Result<()>
+    requires values { (inputs : List F) × AreTables circuit.now.parts inputs values.now }
+    requires few { length outputs.now < 2 ^ 32 }
+{
+    let least = least_times(rt, threads, circuit, values, outputs)?;
     for place in 0..4usize {
         print_time(rt, place + 1, k, gates(circuit), least[place], least[0])?;
     }
     Ok(())
 }
 
+/// Prints what a proof of a circuit takes with one to four workers, where it has outputs.
+fn print_circuit<R: Threads + Wait + Sync>(
+    rt: &HostRuntime,
+    threads: &R,
+    circuit: &Circuit,
+    k: u32,
+) -> io::Result<()> {
+    match evaluated(rt.alloc(), threads, circuit)? {
+        Some(on) => print_times(rt, threads, circuit, &on.values, &on.outputs, k),
+        None => println!(rt; "workers: no outputs of that size"),
+    }
+}
+
 /// Prints what a proof of eight layers of `2^k` random gates takes with one to four workers, each as nanoseconds a gate and as a
 /// ratio to one worker, both with two digits.
 pub fn layers<R: Threads + Wait + Sync>(rt: &HostRuntime, threads: &R, k: u32) -> io::Result<()> {
     match tangled(rt.alloc(), k)? {
-        Some(circuit) => print_times(rt, threads, &circuit, k),
+        Some(circuit) => print_circuit(rt, threads, &circuit, k),
         None => println!(rt; "workers: no layers of that size"),
     }
 }
