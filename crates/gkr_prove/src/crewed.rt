@@ -37,9 +37,9 @@ const PART_VALUES: usize = 2048;
 
 const PARTS: usize = 512;
 
-/// The most rounds of a crew in a layer: in each phase a layer of `2^20` values has nine rounds wide enough, and each of them is
-/// two of a crew. Gathering takes one in each phase, and the line one more.
-const ROUNDS: usize = 39;
+/// The most rounds of a crew in a layer: in each phase a layer of `2^20` values has nine rounds wide enough, each of which binds and
+/// sums, and one that sums alone comes before them. Gathering takes one in each phase, and the line one more.
+const ROUNDS: usize = 23;
 
 /// The most rounds that are announced.
 const MOST_ROUNDS: usize = 4194304;
@@ -260,18 +260,21 @@ fn rounds_by<'a, R: Wait, C: Challenges>(
     let count = tables.rounds_left();
     let mut messages = Vec::with_capacity(alloc, count)?;
     let mut drawn = Vec::with_capacity(alloc, count)?;
+    let mut ahead = None;
     for _number in 0..count {
         let Summed {
             message,
             jobs: free,
-        } = round_by(rt, &mut tables, crew, jobs);
+        } = round_by(rt, &mut tables, crew, jobs, ahead);
         let challenge = note(challenges, message, &mut messages, &mut drawn)?;
         let Advanced {
             tables: next,
             jobs: back,
+            message: after,
         } = advance_by(rt, tables, challenge, crew, free, gather);
         tables = next;
         jobs = back;
+        ahead = after;
     }
     let buffers = tables.into_buffers();
     Ok(ProvedRounds {

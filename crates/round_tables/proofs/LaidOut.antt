@@ -10,6 +10,7 @@ use Rattle.std.proofs.Math.Nat.{pow-suc}
 use Rattle.field_ext.specs.Field.{K, k_ops, zero_k}
 use Rattle.field_ext.proofs.api.KLaws.{k_laws}
 use Rattle.field_ext.specs.Multilinear.{folded}
+use Rattle.mle_table.proofs.api.EqualitySteps.{pow_up}
 use Rattle.mle_table.proofs.api.Fold.{fold-at}
 use Rattle.table_parts.specs.Tables.{pair_at}
 use Rattle.table_parts.specs.PartTables.{PartTables, HasSize, halved, folded_part, cuts, cuts_left, flat, flat_table, flat_scales, flat_shifts, AreLaidOut}
@@ -46,6 +47,13 @@ laid-size k ps f laid size =
     here : (cuts k < k) ⊎ (k ≤ cuts k) → cuts_left k k + (k - cuts_left k k) ≡ k
     here (inl u) = omega (arith, in_many k k u)
     here (inr u) = omega (arith, in_one k k u)
+
+-- more pairs than parts are more than one a part
+pub more-than-one : (a b : ℕ) → 2 ^ b < 2 ^ a → 1 < 2 ^ (a - b)
+more-than-one a b u = here (cases_lt b a) where
+  here : (b < a) ⊎ (a ≤ b) → 1 < 2 ^ (a - b)
+  here (inl v) = let e : a - b ≡ suc (a - b - 1) = omega (arith, v) in subst (λ (x : ℕ). 1 < 2 ^ x) (sym e) (omega (pow-suc 2 (a - b - 1), pow_pos (a - b - 1), arith))
+  here (inr v) = absurd (omega (arith, u, pow_up a b v))
 
 -- the values of a part are pairs
 pub size-pairs : (k m : ℕ) → 0 < m → 2 ^ (m - cuts_left k m) ≡ 2 * 2 ^ (m - 1 - cuts_left k m)

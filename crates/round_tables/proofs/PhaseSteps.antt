@@ -14,7 +14,8 @@ use Rattle.gkr_layers.specs.Places.{Place, weighted_summand_at}
 use Rattle.round_tables.specs.Weights.{position_weight}
 use Rattle.gate_gather.specs.Gathering.{scale_of, shift_of, factor_of, Gathers, GathersLeft, GathersRight}
 use Rattle.table_parts.specs.Tables.{IsFolded, StandFor}
-use Rattle.round_tables.specs.LayerSum.{left_in_phase, after_phase}
+use Rattle.round_tables.specs.LayerSum.{left_in_phase, after_phase, half_size}
+use Rattle.table_parts.specs.PartTables.{cuts_left}
 use Rattle.round_tables.specs.Phase.{IsLayer, IsPhase}
 use Rattle.round_tables.proofs.PhaseSums.{left_phase, right_phase}
 use Rattle.table_parts.proofs.api.RoundPairs.{ext-folded, stand-folded}
@@ -159,6 +160,15 @@ some_left k n n' e u = by_phase (cases_lt n' k)
     by_phase : (n' < k) ⊎ (k ≤ n') → left_in_phase k n ≡ suc (left_in_phase k n' - 1)
     by_phase (inl v) = let p = (in_left_phase k n' v).0 in let q = ap (left_in_phase k) e in omega (arith, p, q)
     by_phase (inr v) = let p = (in_right_phase k n' v).0 in let q = ap (left_in_phase k) e in omega (arith, p, q)
+
+-- where a part has more pairs than one, the next challenge isn't the last
+pub more-left : (k n : ℕ) → n < k + k → 1 < half_size k n → n + 1 < k + k
+more-left k n u more = by_last (cases_lt (n + 1) (k + k))
+  where
+    by_last : (n + 1 < k + k) ⊎ (k + k ≤ n + 1) → n + 1 < k + k
+    by_last (inl v) = v
+    by_last (inr v) = let none : left_in_phase k n - 1 - cuts_left k (left_in_phase k n) ≡ 0 = omega (arith, (in_right_phase k n (omega (arith, u, v))).0, u, v) in
+        absurd (omega (arith, more, ap (λ (x : ℕ). 2 ^ x) none))
 
 pub length-count : {A : Type 0} (challenges : List A) (k count : ℕ) → length challenges ≡ k + k → count ≤ k + k → length (take count challenges) ≡ count
 length-count challenges k count capacity u = length-take-le count challenges (omega arith)

@@ -4,7 +4,7 @@ use Rattle.std.proofs.lemmas.Bool.{cases_lt}
 use Rattle.std.proofs.lemmas.List.{get_or_append_left, get_or-append_right}
 use Rattle.std.proofs.lemmas.List.Elements.{All-append}
 use Rattle.field_ext.specs.Ring.{Ops}
-use Rattle.field_ext.specs.Field.{K, k_ops, of}
+use Rattle.field_ext.specs.Field.{K, k_ops}
 use Rattle.field_ext.specs.Multilinear.{eq_poly, extension_at}
 use Rattle.circuit_core.specs.declared.gate.CircuitGate.{CircuitGate}
 use Rattle.gkr_layers.specs.Places.{Place}

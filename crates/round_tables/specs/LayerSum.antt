@@ -1,5 +1,5 @@
 -- The sum of a layer's summand over both operands, with some of its coordinates bound to challenges
-use Rattle.std.specs.Prelude.{ℕ, ◌+◌, ◌-◌, ◌*◌, ◌^◌, List, [], ◌∷◌, ◌++◌, map, length, if◌then◌else◌, nat_lt, ◌==◌, slice_index_or}
+use Rattle.std.specs.Prelude.{◌≡◌, ◌≢◌, ℕ, ◌<◌, ◌+◌, ◌-◌, ◌*◌, ◌^◌, List, [], ◌∷◌, ◌++◌, map, length, if◌then◌else◌, nat_lt, ◌==◌, slice_index_or}
 use Rattle.field_ext.specs.Ring.{Ops}
 use Rattle.field_ext.specs.Field.{K, k_ops}
 use Rattle.field_ext.specs.Sums.{sum_below, sum_cube}
@@ -7,10 +7,10 @@ use Rattle.field_ext.specs.Multilinear.{bits_of}
 use Rattle.circuit_core.specs.declared.gate.CircuitGate.{CircuitGate}
 use Rattle.circuit_core.specs.Parts.{Parts}
 use Rattle.circuit_core.specs.Sound.{exponent_at}
-use Rattle.field_ext.specs.Polynomial.{polynomial_ops, constant}
+use Rattle.field_ext.specs.Polynomial.{polynomial_ops, constant, coefficients}
 use Rattle.gkr_layers.specs.Places.{Place, map_place, weighted_summand_at}
 use Rattle.gkr_layers.specs.Sumcheck.{round_polynomial}
-use Rattle.table_parts.specs.PartTables.{PartTables, cuts_left}
+use Rattle.table_parts.specs.PartTables.{PartTables, part_sum, cuts_left}
 
 -- a layer of gates over the 2 ^ k values of the layer below, the place of its claim, the challenges that are bound, and the parts of the tables that are lent, if any
 pub record LayerSum : Type 0 where
@@ -71,6 +71,15 @@ piece_pairs s = half_size s.k (length s.bound)
 abbrev pub piece_poly : LayerSum → ℕ → List K
 piece_poly s piece = part_of_round k_ops s.k s.gates s.values s.place s.bound
     (piece * piece_pairs s) (piece * piece_pairs s + piece_pairs s)
+
+-- each of these parts sums to its piece of the next round
+abbrev pub SumToPieces : LayerSum → List PartTables → Type 0
+SumToPieces s parts = (i : ℕ) (part : PartTables) → i < pieces_of s
+    → part_sum (slice_index_or parts i part) ≡ coefficients k_ops 3 (piece_poly s i)
+
+-- the next challenge isn't the last of the first phase, and parts have more pairs than one, so that they are parts of the round after it
+abbrev pub StaysInParts : LayerSum → Type 0
+StaysInParts s = (length s.bound + 1 ≢ s.k) × (1 < piece_pairs s)
 
 -- the steps that bind a challenge: three for each pair, and one for each gate where the second phase begins
 abbrev pub bind_steps : LayerSum → ℕ

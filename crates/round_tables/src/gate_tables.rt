@@ -1,6 +1,6 @@
 //! The public face of a layer's working tables.
 
-ghost use Rattle.std.specs.Prelude.{◌≡◌, ℕ, ◌<◌, ◌≤◌, ◌+◌, ◌^◌, ◌↔◌, All, IfOk, IsTrue, [], ◌∷◌, ◌++◌, length, map, slice_index_or};
+ghost use Rattle.std.specs.Prelude.{◌≡◌, ℕ, ◌<◌, ◌≤◌, ◌+◌, ◌^◌, ◌↔◌, All, IfOk, IsTrue, [], ◌∷◌, ◌++◌, length, map};
 ghost use Rattle.field_ext.specs.Field.{K, k_ops};
 ghost use Rattle.circuit_core.specs.Parts.{IsOver, height};
 ghost use Rattle.circuit_core.specs.Sound.{exponent_at};
@@ -9,8 +9,8 @@ ghost use Rattle.gkr_layers.specs.Places.Place.{At, AtBoth};
 ghost use Rattle.gkr_layers.specs.ClaimPlace as claim_place;
 ghost use Rattle.round_tables.specs.Phase.{IsLayer};
 ghost use Rattle.field_ext.specs.Polynomial.{coefficients};
-ghost use Rattle.round_tables.specs.LayerSum.{sum_of_layer, pairs_of, pieces_of, piece_pairs, piece_poly, bind_steps};
-ghost use Rattle.table_parts.specs.PartTables.{PartTables, folded_part, part_sum};
+ghost use Rattle.round_tables.specs.LayerSum.{sum_of_layer, pairs_of, pieces_of, piece_pairs, piece_poly, bind_steps, StaysInParts, SumToPieces};
+ghost use Rattle.table_parts.specs.PartTables.{folded_part};
 
 use crate::buffers::{Buffers, TooSmallBuffers};
 use crate::layer_gates::LayerGates;
@@ -326,6 +326,16 @@ impl<'a> GateTables<'a> {
         self.lent.is_some()
     }
 
+    /// Whether the parts of the tables stay its parts when the next challenge is bound.
+    pub fn stays_in_parts(&self) -> bool
+        requires here { self.now.lent ≡ [] }
+        requires left { length self.now.bound < self.now.k + self.now.k }
+        ensures stays { IsTrue result → StaysInParts self.now }
+        ensures left { IsTrue result → length self.now.bound + 1 < self.now.k + self.now.k }
+    {
+        !self.ends_first() && self.pairs() > self.pieces()
+    }
+
     /// Lends the parts of the tables, which are as many as the next round has pieces, at most 512. Each sums to its piece.
     pub fn parts_out(&mut self) -> Vec<Part>
         requires here { self.old.lent ≡ [] }
@@ -333,20 +343,21 @@ impl<'a> GateTables<'a> {
         ensures lent { self.new ≡ record self.old { lent = result.items } }
         ensures number { length result.items ≡ pieces_of self.old }
         ensures few { length result.items ≤ 512 }
-        ensures sums { (i : ℕ) (part : PartTables) → i < pieces_of self.old
-            → part_sum (slice_index_or result.items i part) ≡ coefficients k_ops 3
-            (piece_poly self.old i) }
+        ensures sums { SumToPieces self.old result.items }
     {
         self.lent = Some(Snapshot::of(&self.working));
         self.working.lend()
     }
 
-    /// Takes the parts back, each as it was lent with its first coordinate bound to `r`, and so binds the next coordinate.
+    /// Takes the parts back, each as it was lent with its first coordinate bound to `r`, and so binds the next coordinate. Where they
+    /// stay the parts of the tables, each sums to its piece of the next round.
     pub fn parts_in(&mut self, parts: Vec<Part>, r: Ext)
         requires some { 0 < length self.old.lent }
         requires left { length self.old.bound < self.old.k + self.old.k }
         requires folded { parts.items ≡ map (folded_part r) self.old.lent }
-        ensures { self.new ≡ record self.old { bound = self.old.bound ++ r ∷ []; lent = [] } }
+        ensures bound { self.new ≡ record self.old { bound = self.old.bound ++ r ∷ []; lent = [] } }
+        ensures number { StaysInParts self.old → length parts.items ≡ pieces_of self.new }
+        ensures sums { StaysInParts self.old → SumToPieces self.new parts.items }
     {
         self.parts_in_from::<Brand>(parts, r, Blank::new(1));
     }
@@ -358,7 +369,9 @@ impl<'a> GateTables<'a> {
         requires name { blank.name ≡ L.name }
         requires parts { blank.parts ≡ L.parts }
         requires some { 0 < L.parts }
-        ensures { self.new ≡ record self.old { bound = self.old.bound ++ r ∷ []; lent = [] } }
+        ensures bound { self.new ≡ record self.old { bound = self.old.bound ++ r ∷ []; lent = [] } }
+        ensures number { StaysInParts self.old → length parts.items ≡ pieces_of self.new }
+        ensures sums { StaysInParts self.old → SumToPieces self.new parts.items }
     {
         let mut steps = Steps::<L>::start(blank);
         let Some(old) = self.lent.take() else {

@@ -295,6 +295,8 @@ impl Working {
         requires folded { AreFolded old.value r self.old }
         requires left { old.value.count < layer.now.k + layer.now.k }
         ensures advanced { IsAdvanced layer.now.k old.value r self.new }
+        ensures kept { 1 < half_size layer.now.k old.value.count
+            → parts_of self.new ≡ parts_of self.old }
     {
         let _ = layer;
         let _ = old;
@@ -366,6 +368,8 @@ impl Working {
         requires left { old.value.count + 1 < layer.now.k }
         ensures works { WorksFor layer.now self.new }
         ensures bound { bound_of self.new ≡ bound_of old.value ++ r ∷ [] }
+        ensures kept { 1 < half_size layer.now.k old.value.count
+            → parts_of self.new ≡ parts_of self.old }
     {
         self.advance(layer, old, r);
     }
@@ -399,6 +403,8 @@ impl Working {
         requires left { old.value.count < layer.now.k + layer.now.k }
         ensures works { WorksFor layer.now self.new }
         ensures bound { bound_of self.new ≡ bound_of old.value ++ r ∷ [] }
+        ensures kept { 1 < half_size layer.now.k old.value.count
+            → parts_of self.new ≡ parts_of self.old }
     {
         self.advance(layer, old, r);
     }
@@ -419,6 +425,8 @@ impl Working {
         ensures bound { bound_of self.new ≡ bound_of old.value ++ r ∷ [] }
         ensures steps { steps.new ≡ steps.old
             + (if old.value.count + 1 == layer.now.k then length layer.now.gates.now else 0) }
+        ensures kept { old.value.count + 1 ≢ layer.now.k → 1 < half_size layer.now.k old.value.count
+            → parts_of self.new ≡ parts_of self.old }
     {
         if self.count + 1 < layer.k {
             self.close_left(layer, old, r);

@@ -1,10 +1,14 @@
--- The messages of the pieces of a round, where they are summed ahead
+-- The message of a round, and those of its pieces, where they are summed ahead
 use Rattle.std.specs.Prelude.{◌≡◌, ⊤, ℕ, List, map, Option, MatchOption}
 use Rattle.std.specs.Global.{Vec}
 use Rattle.std.specs.List.{range_with_len}
 use Rattle.field_ext.specs.Field.{K, k_ops}
 use Rattle.field_ext.specs.Polynomial.{coefficients}
-use Rattle.round_tables.specs.LayerSum.{LayerSum, pieces_of, piece_poly}
+use Rattle.round_tables.specs.LayerSum.{LayerSum, pieces_of, piece_poly, next_poly}
+
+-- the message is that of the next round
+abbrev pub IsNextMessage : LayerSum → List K → Type 0
+IsNextMessage s message = message ≡ coefficients k_ops 3 (next_poly s)
 
 -- the message of a piece
 unfoldable pub message_of : LayerSum → ℕ → List K

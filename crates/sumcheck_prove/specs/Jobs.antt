@@ -18,10 +18,14 @@ job_of folds r none part = record {
   share = None;
 }
 
--- the job after it: the part is folded, or its sum is noted
+-- the part after it: folded, where it is to be
+abbrev pub part_after : Bool → K → PartTables → PartTables
+part_after folds r part = if folds then folded_part r part else part
+
+-- the job after it, with the sum of the part that it leaves
 abbrev pub round_of : Job → Job
-round_of job = if job.folds then record job { part = folded_part job.r job.part }
-    else record job { sum = part_sum job.part }
+round_of job = let part : PartTables = part_after job.folds job.r job.part in
+    record job { part = part; sum = part_sum part }
 
 -- the job after it, with this range, if any
 abbrev pub gather_with : Job → Option RangeView → Job

@@ -1,9 +1,8 @@
 //! The rounds of a layer by a crew.
 
-ghost use Rattle.std.specs.Prelude.{◌≡◌, ◌<◌, ◌≤◌, ◌+◌, [], ◌∷◌, ◌++◌, IsTrue, length, vec_len};
-ghost use Rattle.field_ext.specs.Field.{k_ops};
-ghost use Rattle.field_ext.specs.Polynomial.{coefficients};
-ghost use Rattle.round_tables.specs.LayerSum.{next_poly, pieces_of};
+ghost use Rattle.std.specs.Prelude.{◌≡◌, ◌<◌, ◌≤◌, ◌+◌, [], ◌∷◌, ◌++◌, IfSome, IsTrue, length, vec_len};
+ghost use Rattle.round_tables.specs.LayerSum.{pieces_of};
+ghost use Rattle.sumcheck_prove.specs.Ahead.{IsNextMessage};
 
 use crate::adding::{no_message, round_alone};
 use crate::entry::OpenEntry;
@@ -33,23 +32,28 @@ pub struct Summed<'a> {
     pub jobs: Vec<Job<'a>>,
 }
 
-/// The coefficients of 1, X and X² of the next round's polynomial, where a round is left, as `round` gives them: a crew sums the
-/// parts of the tables, in any order. A round that doesn't pay for a crew, or whose parts are not as many as the jobs, is summed
-/// by the lead alone. It takes no memory.
+/// The coefficients of 1, X and X² of the next round's polynomial, where a round is left, as `round` gives them: those that
+/// `advance_by` left, or else a crew sums the parts of the tables, in any order. A round that doesn't pay for a crew, or whose parts
+/// are not as many as the jobs, is summed by the lead alone. It takes no memory.
 pub fn round_by<'a, R: Wait>(
     rt: &R,
     tables: &mut GateTables<'_>,
     crew: &mut Crew<'_, Jobs<'a>>,
     jobs: Vec<Job<'a>>,
+    ahead: Option<[Ext; 3]>,
 ) -> Summed<'a>
     requires here { tables.old.lent ≡ [] }
     requires left { length tables.old.bound < tables.old.k + tables.old.k }
     requires few { vec_len jobs ≤ crew.old.parts }
-    ensures message { result.message ≡ coefficients k_ops 3 (next_poly tables.old) }
+    requires ahead { IfSome ahead (IsNextMessage tables.old) }
+    ensures message { IsNextMessage tables.old result.message }
     ensures jobs { vec_len result.jobs ≡ vec_len jobs.entry }
     ensures tables { tables.new ≡ tables.old }
     ensures crew { crew.new ≡ crew.old }
 {
+    if let Some(message) = ahead {
+        return Summed { message, jobs };
+    }
     if !is_for_crew(tables, &jobs) {
         let message = round_alone(tables, &OpenEntry);
         return Summed { message, jobs };
@@ -62,39 +66,62 @@ pub fn round_by<'a, R: Wait>(
     Summed { message, jobs }
 }
 
+/// The jobs after a coordinate is bound, and the message of the round after it, if it is there.
+#[derive(Drop)]
+struct Folded<'a> {
+    jobs: Vec<Job<'a>>,
+    message: Option<[Ext; 3]>,
+}
+
 /// Binds the next coordinate to the challenge `r`, where a round is left, as `GateTables::bind` does: a crew folds the parts of
-/// the tables, in any order, and the lead alone where `round_by` leaves a round to it. The jobs are back then. It takes no
-/// memory.
+/// the tables, in any order, and sums each for the round after it, or the lead alone folds them where `round_by` leaves a round to
+/// it. It takes no memory.
 fn bind_by<'a, R: Wait>(
     rt: &R,
     tables: &mut GateTables<'_>,
     r: Ext,
     crew: &mut Crew<'_, Jobs<'a>>,
     jobs: Vec<Job<'a>>,
-) -> Vec<Job<'a>>
+) -> Folded<'a>
     requires here { tables.old.lent ≡ [] }
     requires left { length tables.old.bound < tables.old.k + tables.old.k }
     requires few { vec_len jobs ≤ crew.old.parts }
     ensures bound { tables.new ≡ record tables.old { bound = tables.old.bound ++ r ∷ [] } }
-    ensures jobs { vec_len result ≡ vec_len jobs.entry }
+    ensures jobs { vec_len result.jobs ≡ vec_len jobs.entry }
+    ensures message { IfSome result.message (IsNextMessage tables.new) }
     ensures crew { crew.new ≡ crew.old }
 {
     if !is_for_crew(tables, &jobs) {
         tables.bind(r);
-        return jobs;
+        return Folded {
+            jobs,
+            message: None,
+        };
     }
+    let stays = tables.stays_in_parts();
     let mut parts = tables.parts_out();
     let mut jobs = worked(rt, crew, &mut parts, jobs, true, r, no_message());
+    let message = added(&jobs);
     unload(&mut jobs, &mut parts);
     tables.parts_in(parts, r);
-    jobs
+    if !stays {
+        return Folded {
+            jobs,
+            message: None,
+        };
+    }
+    Folded {
+        jobs,
+        message: Some(message),
+    }
 }
 
-/// The tables with one coordinate more bound, and the jobs.
+/// The tables with one coordinate more bound, the jobs, and the message of the next round, if the crew has summed it with the binding.
 #[derive(Drop)]
 pub struct Advanced<'a> {
     pub tables: GateTables<'a>,
     pub jobs: Vec<Job<'a>>,
+    pub message: Option<[Ext; 3]>,
 }
 
 /// Binds the next coordinate to the challenge `r`, where a round is left, as `GateTables::bind` does, by the crew, which gathers the
@@ -115,13 +142,22 @@ pub fn advance_by<'a, R: Wait>(
     ensures bound { result.tables
         ≡ record tables.entry { bound = tables.entry.bound ++ r ∷ [] } }
     ensures jobs { vec_len result.jobs ≡ vec_len jobs.entry }
+    ensures message { IfSome result.message (IsNextMessage result.tables) }
     ensures gather { gather.new ≡ gather.old }
     ensures crew { crew.new ≡ crew.old }
 {
     if tables.ends_first() {
         let tables = gather_by(rt, tables.bind_open(r), crew, gather);
-        return Advanced { tables, jobs };
+        return Advanced {
+            tables,
+            jobs,
+            message: None,
+        };
     }
-    let jobs = bind_by(rt, &mut tables, r, crew, jobs);
-    Advanced { tables, jobs }
+    let Folded { jobs, message } = bind_by(rt, &mut tables, r, crew, jobs);
+    Advanced {
+        tables,
+        jobs,
+        message,
+    }
 }

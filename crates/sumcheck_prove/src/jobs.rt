@@ -20,7 +20,7 @@ use std::sync::Wait;
 use table_parts::Part;
 
 /// What a worker is to do: to work a part of the line, where there is one, or to gather a range of places, where there is one, or
-/// else to fold a part of the tables by a challenge or to sum it.
+/// else to sum a part of the tables, where it is to be folded once it is folded by a challenge.
 #[derive(Drop)]
 pub struct Job<'a> {
     part: Part,
@@ -60,9 +60,10 @@ impl<'a> PartWork for Jobs<'a> {
         } else if let Some(mut share) = job.share.take() {
             share.gather();
             job.share = Some(share);
-        } else if job.folds {
-            job.part.fold(job.r);
         } else {
+            if job.folds {
+                job.part.fold(job.r);
+            }
             job.sum = job.part.sum();
         }
     }

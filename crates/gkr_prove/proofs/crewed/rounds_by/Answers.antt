@@ -13,6 +13,7 @@ loop-number-init g c = record {
   begun = search rules;
   has = has_all g.C.Challenges.source c.args.tables (g.C.Challenges.state c.args.challenges.now) c.rounds_left-count.result c.requires.begun
       (subst (λ (t : LayerSum). c.rounds_left-count.result + length t.bound ≡ t.k + t.k) c.gather_by-tables.ensures.tables c.rounds_left-count.ensures) c.requires.has;
+  ahead = search rules;
   jobs = search rules;
   gather = search rules;
   crew = search rules;
@@ -32,6 +33,7 @@ loop-number-preserved g c =
       tables = bound_more g.C.Challenges.source c.args.tables (g.C.Challenges.state c.args.challenges.now) c.loop-number._number _ _ _ _ _ _ _ _ c.round_by-message.new.tables (c.round_by-message.ensures.tables ∙ before.tables) noted _ c.advance_by-next.ensures.bound;
       begun = begun_more g.C.Challenges.source c.args.tables (g.C.Challenges.state c.args.challenges.now) c.loop-number._number _ _ _ _ _ _ _ _ c.loop-number.tables before.tables noted c.round_by-message.ensures.message before.begun;
       has = has_more g.C.Challenges.source c.args.tables (g.C.Challenges.state c.args.challenges.now) c.loop-number._number _ _ _ _ _ _ _ _ c.loop-number.tables before.tables noted c.rounds_left-count.result c.loop-number-test.true before.has;
+      ahead = c.advance_by-next.ensures.message;
       jobs = c.advance_by-next.ensures.jobs ∙ c.round_by-message.ensures.jobs ∙ before.jobs;
       gather = c.advance_by-next.ensures.gather ∙ before.gather;
       crew = c.advance_by-next.ensures.crew ∙ c.round_by-message.ensures.crew ∙ before.crew;

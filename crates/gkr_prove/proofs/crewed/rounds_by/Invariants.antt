@@ -1,5 +1,6 @@
 -- The messages so far are honest
-use Rattle.std.proofs.Common.{◌≡◌, ◌+◌, ◌-◌, IsTrue, vec_len}
+use Rattle.std.proofs.Common.{◌≡◌, ◌+◌, ◌-◌, IfSome, IsTrue, vec_len}
+use Rattle.sumcheck_prove.specs.Ahead.{IsNextMessage}
 use Rattle.gkr_prove.specs.Rounds.{AreBegun}
 use Rattle.gkr_prove.proofs.crewed.rounds_by.Given as goal
 
@@ -9,6 +10,7 @@ invariant-loop-number g l = record {
   tables : l.tables ≡ record l.fn.tables { bound = l.drawn.items };
   begun : AreBegun g.C.Challenges.source l.fn.tables (g.C.Challenges.state l.fn.challenges) l._number l.messages.items l.drawn.items (g.C.Challenges.state l.challenges);
   has : IsTrue (g.C.Challenges.source.has (g.C.Challenges.state l.challenges) (l.count - l._number));
+  ahead : IfSome l.ahead (IsNextMessage l.tables);
   jobs : vec_len l.jobs ≡ vec_len l.fn.jobs;
   gather : l.gather ≡ l.fn.gather;
   crew : l.crew ≡ l.fn.crew;

@@ -1,5 +1,5 @@
 -- The range that is lent has a room and parts of those that are left
-use Rattle.std.proofs.Common.{◌≡◌, ℕ, ◌-◌, ◌*◌, ◌^◌, ◌<◌, [], false, length, All, refl, sym, ◌∙◌, ap, arith, subst}
+use Rattle.std.proofs.Common.{◌≡◌, ℕ, ◌*◌, ◌^◌, ◌<◌, [], false, length, All, refl, sym, ◌∙◌, ap, arith, subst}
 use Rattle.mle_table.proofs.api.EqualitySteps.{pow_up}
 use Rattle.table_parts.specs.PartTables.{HasCapacity}
 use Rattle.round_tables.specs.Ranges.{LendingView, IsRoomFor, range_of}

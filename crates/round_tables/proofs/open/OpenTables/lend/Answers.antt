@@ -1,5 +1,5 @@
 -- The rooms divide the parts, and are prepared
-use Rattle.std.proofs.Common.{◌≡◌, ℕ, ◌+◌, ◌-◌, ◌*◌, ◌/◌, ◌^◌, ◌++◌, length, take, drop, All, sym, ◌∙◌, ap, arith, subst}
+use Rattle.std.proofs.Common.{◌≡◌, ℕ, ◌-◌, ◌*◌, ◌/◌, ◌^◌, ◌++◌, length, take, drop, All, sym, ◌∙◌, ap, arith, subst}
 use Rattle.std.proofs.Math.Nat.{div-add-mod}
 use Rattle.wiring_poly.proofs.api.Identity.{written_back}
 use Rattle.table_parts.specs.PartTables.{HasCapacity, cuts}

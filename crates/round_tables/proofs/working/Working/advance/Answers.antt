@@ -76,6 +76,7 @@ returns-then-is_thin c =
         scales = ap flat_scales back ∙ merged.scales ∙ ap flat_scales (whole ∙ c.requires.folded.parts) ∙ flat-folded k m ps some laid (λ p. p.scales) r (λ p. refl) (λ n p h. h.scales);
         shifts = ap flat_shifts back ∙ merged.shifts ∙ ap flat_shifts (whole ∙ c.requires.folded.parts) ∙ flat-folded k m ps some laid (λ p. p.shifts) r (λ p. refl) (λ n p h. h.shifts);
       };
+      kept = λ more. absurd (omega (arith, more, one));
     }
 
 pub returns : goal.returns
@@ -114,4 +115,5 @@ returns c =
         scales = ap flat_scales c.requires.folded.parts ∙ flat-folded k m ps some laid (λ p. p.scales) r (λ p. refl) (λ n p h. h.scales);
         shifts = ap flat_shifts c.requires.folded.parts ∙ flat-folded k m ps some laid (λ p. p.shifts) r (λ p. refl) (λ n p h. h.shifts);
       };
+      kept = λ more. refl;
     }

@@ -1,5 +1,5 @@
 -- The left operand is bound, and its value is there
-use Rattle.std.proofs.Common.{◌≡◌, ℕ, ◌+◌, ◌-◌, [], ◌∷◌, ◌++◌, length, get_or, arith, ◌∙◌, ap, sym, subst}
+use Rattle.std.proofs.Common.{◌≡◌, ℕ, ◌-◌, [], ◌∷◌, ◌++◌, length, get_or, arith, ◌∙◌, ap, sym, subst}
 use Rattle.field_ext.specs.Field.{k_ops, zero_k}
 use Rattle.field_ext.specs.Multilinear.{extension_at}
 use Rattle.field_ext.proofs.api.KLaws.{k_laws}
