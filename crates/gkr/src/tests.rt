@@ -1,19 +1,10 @@
-//! The whole program over inputs in memory, by status and bytes.
+//! The whole program over ends in memory that fail or are slow, and by workers that pass gates. What it answers otherwise is in
+//! the tables of `tests/`, on which `scripts/check-program` runs the built program.
 
 ghost use Rattle.std.specs.Prelude.{◌<◌};
 
-mod audits;
-mod converts;
-mod evaluates;
-mod languages;
-mod lays_out;
-mod proves;
-mod refuses;
-mod serves;
-mod sessions;
-mod tells;
-mod verifies;
-mod works;
+mod failures;
+mod gates;
 
 use gkr_cmd::{Status, gkr_run};
 use io_edge::{Gate, MemorySink, MemorySource, OpenGate};
@@ -24,15 +15,6 @@ use std::sync::Wait;
 use std::test::Fail;
 use std::thread::Threads;
 
-/// A program, the words of its line of inputs, and what the command answers.
-#[derive(Clone, Copy)]
-struct Row {
-    program: &'static [u8],
-    inputs: &'static [u8],
-    status: Status,
-    reply: &'static [u8],
-}
-
 /// An input in memory, how many bytes a read of it gives, and which reads and writes fail.
 #[derive(Clone, Copy)]
 struct Ends<'a> {
@@ -41,17 +23,6 @@ struct Ends<'a> {
     failing_reads: &'a [u64],
     failing_writes: &'a [u64],
     ghost some: { 0 < piece },
-}
-
-impl<'a> Ends<'a> {
-    fn steady(input: &'a [u8]) -> Ends<'a> {
-        Ends {
-            input,
-            piece: 4096,
-            failing_reads: &[],
-            failing_writes: &[],
-        }
-    }
 }
 
 /// How many bytes a sink in memory holds, and takes a write.
@@ -71,17 +42,7 @@ fn owned_words(alloc: Global, words: &[&str]) -> Result<Vec<String>, AllocError>
     Ok(owned)
 }
 
-/// Runs the program with these words; answers how it ended and what it wrote.
-fn ended<R: Threads + Wait + Sync + Abort + AllocGlobal>(
-    rt: &R,
-    words: &[&str],
-    ends: &Ends,
-    capacity: Capacity,
-) -> Result<(Status, Vec<u8>), Fail> {
-    ended_by(rt, words, ends, capacity, &OpenGate)
-}
-
-/// The same, where the workers pass this gate.
+/// Runs the program with these words, where the workers pass this gate; answers how it ended and what it wrote.
 fn ended_by<R: Threads + Wait + Sync + Abort + AllocGlobal, G: Gate>(
     rt: &R,
     words: &[&str],
@@ -110,91 +71,30 @@ fn sees<R: Threads + Wait + Sync + Abort + AllocGlobal>(
         most: 4096,
         piece: 5,
     };
-    let (found, written) = ended(rt, words, ends, capacity)?;
+    let (found, written) = ended_by(rt, words, ends, capacity, &OpenGate)?;
     assert_eq!(rt; found, status);
     assert_eq!(rt; written.as_slice(), reply);
     Ok(())
 }
 
-/// The text of a case of language 1 up to its last line.
-fn opened(alloc: Global, program: &[u8], inputs: &[u8]) -> Result<Vec<u8>, AllocError> {
-    opened_in(alloc, b'1', program, inputs)
-}
-
-/// The same in a language.
-fn opened_in(
-    alloc: Global,
-    language: u8,
-    program: &[u8],
-    inputs: &[u8],
-) -> Result<Vec<u8>, AllocError> {
-    let mut text = Vec::new(alloc);
-    text.extend_from_slice(b"gkr case ")?;
-    text.push(language)?;
-    text.extend_from_slice(b"\nprogram ")?;
-    text.extend_from_slice(format!(in alloc; "{}", program.len())?.as_bytes())?;
-    text.push(b'\n')?;
-    text.extend_from_slice(program)?;
-    text.extend_from_slice(b"\ninput ")?;
-    text.extend_from_slice(inputs)?;
-    text.push(b'\n')?;
-    Ok(text)
-}
-
-/// The text of a case.
-fn case_of(alloc: Global, program: &[u8], inputs: &[u8]) -> Result<Vec<u8>, AllocError> {
-    let mut text = opened(alloc, program, inputs)?;
-    text.extend_from_slice(b"end\n")?;
-    Ok(text)
-}
-
-/// The text of a case with outputs and a proof of so many bytes, up to the proof's digits.
-fn claimed(
-    alloc: Global,
-    program: &[u8],
-    inputs: &[u8],
-    outputs: &[u8],
-    proof: usize,
-) -> Result<Vec<u8>, AllocError> {
-    let mut text = opened(alloc, program, inputs)?;
-    text.extend_from_slice(b"output ")?;
-    text.extend_from_slice(outputs)?;
-    text.extend_from_slice(format!(in alloc; "\nproof {}\n", proof)?.as_bytes())?;
-    Ok(text)
-}
-
-fn sees_rows<R: Threads + Wait + Sync + Abort + AllocGlobal>(
+/// Runs the program over an input that is read whole, and sees that it does what it was asked for; answers what it wrote.
+fn done<R: Threads + Wait + Sync + Abort + AllocGlobal, G: Gate>(
     rt: &R,
-    command: &str,
-    rows: &[Row],
-) -> Result<(), Fail> {
-    for row in rows {
-        let input = case_of(rt.alloc(), row.program, row.inputs)?;
-        sees(
-            rt,
-            &["gkr", command],
-            &Ends::steady(&input),
-            row.status,
-            row.reply,
-        )?;
-    }
-    Ok(())
-}
-
-const fn done(program: &'static [u8], inputs: &'static [u8], reply: &'static [u8]) -> Row {
-    Row {
-        program,
-        inputs,
-        status: Status::Done,
-        reply,
-    }
-}
-
-const fn refused(program: &'static [u8], reply: &'static [u8]) -> Row {
-    Row {
-        program,
-        inputs: b"1 5",
-        status: Status::BadProgram,
-        reply,
-    }
+    words: &[&str],
+    input: &[u8],
+    gate: &G,
+) -> Result<Vec<u8>, Fail> {
+    let ends = Ends {
+        input,
+        piece: 4096,
+        failing_reads: &[],
+        failing_writes: &[],
+    };
+    let capacity = Capacity {
+        most: 262_144,
+        piece: 4096,
+    };
+    let (status, text) = ended_by(rt, words, &ends, capacity, gate)?;
+    assert_eq!(rt; status, Status::Done);
+    Ok(text)
 }
