@@ -12,7 +12,7 @@ with commas between them. Each indented line is a row, whose cells stand between
     texts       text | reply: any text
     prefixes    text: each shorter text that it begins with is refused as a case that ends there
     filled      byte | count | reply: so many of this byte
-    longest     front | part | end | reply: a program with this part as often as 65,535 bytes hold it
+    nested      front | open | count | inner | close | end | inputs | reply: a program that opens and closes so many times
     words       words: behind the colon stands the reply, and the rows are command lines, with the case of `input a; output a;` on 5
 
 Cells have the escapes of bytes in Python; in a program none is needed. In a reply ` / ` stands between lines, and the last one ends. The exit
@@ -166,12 +166,11 @@ class Rows:
         for words in commands:
             self.sees(at, words, raw(byte) * int(count), lines_of(reply))
 
-    def longest(self, at, commands, cells):
-        front, part, end, reply = cells
-        front, part, end = raw(front), raw(part), raw(end)
-        program = front + part * ((65_535 - len(front)) // len(part)) + end
+    def nested(self, at, commands, cells):
+        front, opens, count, inner, closes, end, inputs, reply = cells
+        program = raw(front) + raw(opens) * int(count) + raw(inner) + raw(closes) * int(count) + raw(end)
         for words in commands:
-            self.sees(at, words, case_of(program, "0"), lines_of(reply))
+            self.sees(at, words, case_of(program, inputs), lines_of(reply))
 
     def table(self, path, head, rows):
         kind, rest = head.split(":", 1)
@@ -247,6 +246,20 @@ def heights(rows):
     for terms, reply in ((256, b"accepted\n"), (301, b"refused program deep 301\n")):
         program = "input a; output " + "+".join(["a"] * terms) + ";"
         rows.sees(at, ["verify"], claim_of(program, "1 0", "1 0", proof_of("GKR1 30608")), reply)
+
+
+def chains(rows):
+    """Functions that each call the one before, within 60 levels of nesting: 64 of them, which is the most, end with their answer."""
+    at = "chains"
+
+    def chain(count, levels):
+        bodies = ["x", *[f"f{n:02}(x)" for n in range(count - 1)]]
+        text = "".join(f"def f{n:02}(x)={'(' * levels}{body}{')' * levels};" for n, body in enumerate(bodies))
+        return text + f"output f{count - 1:02}(7);"
+
+    rows.sees(at, ["eval"], case_of(chain(64, 60), "0", 2), b"output 1 7\n")
+    last = len(chain(65, 0)) - len("def f64(x)=f63(x);output f64(7);")
+    rows.sees(at, ["eval"], case_of(chain(65, 0), "0", 2), b"refused program defs %d\n" % last)
 
 
 def digits_of_proofs(rows):
@@ -337,5 +350,5 @@ def run(top, gkr, tell, status_of):
     for path in sorted(glob.glob(f"{top}/tests/*.rows")):
         for head, table in tables(path):
             rows.table(os.path.relpath(path, top), head, table)
-    for part in (false_claims, heights, digits_of_proofs, generated_cases, many_workers, scripts):
+    for part in (false_claims, heights, chains, digits_of_proofs, generated_cases, many_workers, scripts):
         part(rows)

@@ -11,13 +11,9 @@ mod evaluation;
 #[cfg(test)]
 mod gates;
 #[cfg(test)]
-mod grammar;
-#[cfg(test)]
 mod languages;
 #[cfg(test)]
 mod layouts;
-#[cfg(test)]
-mod limits;
 #[cfg(test)]
 mod lists;
 #[cfg(test)]

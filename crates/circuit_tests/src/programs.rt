@@ -1,10 +1,10 @@
-//! Programs with their counts or their refusal, and with the nodes that they are lowered to.
+//! Programs with their counts, and with the nodes that they are lowered to.
 
 ghost use Rattle.std.specs.Prelude.{◌≤◌, length};
 
 use crate::gates::{add_node, mul_node};
 use arr_ast::{Factor, Lang, Program, Statement, TopStatement};
-use arr_check::{CheckKind, CheckRefused, check};
+use arr_check::check;
 use arr_lex::tokens;
 use arr_lower::lower;
 use arr_parse::parse;
@@ -59,21 +59,6 @@ fn counts_inputs_outputs_and_nodes(rt: HostRuntime) -> Result<(), Fail> {
             assert_eq!(rt; checked.nodes, 2);
         }
         Err(refused) => assert!(rt; false, "{refused}"),
-    }
-    Ok(())
-}
-
-#[test]
-fn refuses_a_dimension_of_none_and_a_run_without_outputs(rt: HostRuntime) -> Result<(), Fail> {
-    for (text, at, kind) in [
-        (b"input v[0]; output v;".as_slice(), 8, CheckKind::Dims),
-        (b"".as_slice(), 0, CheckKind::NoOutput),
-    ] {
-        assert!(rt; text.len() <= 65536);
-        assert_eq!(rt;
-            check(rt.alloc(), tree(rt.alloc(), text)?, Lang::One).err(),
-            Some(CheckRefused::Bad { at, kind })
-        );
     }
     Ok(())
 }

@@ -1,6 +1,6 @@
-//! Texts with their tokens, and texts with the byte that is no token's.
+//! Texts with their tokens.
 
-use arr_lex::{LexRefused, Symbol, Token, tokens};
+use arr_lex::{Symbol, Token, tokens};
 
 fn token(symbol: Symbol, start: usize, end: usize) -> Token {
     Token { symbol, start, end }
@@ -34,22 +34,5 @@ fn finds_the_longest_tokens(rt: HostRuntime) {
             Ok(found) => assert_eq!(rt; found.as_slice(), want),
             Err(refused) => assert!(rt; false, "{refused}"),
         }
-    }
-}
-
-#[test]
-fn refuses_at_the_byte_of_no_token(rt: HostRuntime) {
-    for (text, at) in [
-        (b"output 2147483647;".as_slice(), 16),
-        (b"00".as_slice(), 1),
-        (b"a . b".as_slice(), 2),
-        (b"1.".as_slice(), 1),
-        (b"a$".as_slice(), 1),
-    ] {
-        assert!(rt; text.len() <= 65536);
-        assert_eq!(rt;
-            tokens(rt.alloc(), text).err(),
-            Some(LexRefused::Lex { at })
-        );
     }
 }
