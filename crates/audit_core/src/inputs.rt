@@ -11,7 +11,7 @@ ghost use Rattle.audit_core.specs.Leaves.{AreLeafValues, GiveValues};
 use circuit_core::{Circuit, Leaf};
 use circuit_eval::Values;
 use field_ext::Fp;
-use mle_table::Table;
+use mle_table::BaseTable;
 use std::alloc::{AllocError, Global};
 
 /// Inputs of the right count with which the circuit's leaves have these values: what its leaves don't read is 0.
@@ -36,7 +36,7 @@ pub(crate) fn inputs_of(
 }
 
 /// Writes each input that a leaf reads, as it is found after position 0 of the table of the input layer.
-fn read_leaves(leaves: &[Leaf], table: &Table, inputs: &mut [Fp])
+fn read_leaves(leaves: &[Leaf], table: &BaseTable, inputs: &mut [Fp])
     requires within { All (IsLeafWithin (length inputs.old)) leaves.now }
     requires capacity { length leaves.now < 2 ^ table.now.k }
     ensures { (wanted : List F) → AreLeafValues wanted leaves.now table.now.items

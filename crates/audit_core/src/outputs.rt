@@ -31,8 +31,7 @@ pub(crate) fn claimed_less_true(
         (map embed_k (padded_values (width_of circuit.now.parts 0) outputs.now))
         (table_of circuit.now.parts inputs 0)) }
 {
-    let table = values.table(0);
-    let mut items = Vec::from_slice(alloc, table.values())?;
+    let mut items = values.table(0).elements(alloc)?;
     subtract_from(outputs, &mut items);
     let Ok(table) = Table::of_values(items) else {
         unreachable!()

@@ -24,7 +24,7 @@ use circuit_eval::{Values, layer_values};
 use field_ext::Fp;
 use gkr_prove::prove_as;
 use io_edge::Gate;
-use mle_table::Table;
+use mle_table::BaseTable;
 use proof_two::{ProofKind, encode_kind};
 use proof_wire::{Messages, ProofForm};
 use std::alloc::{AllocError, Global};
@@ -109,7 +109,7 @@ pub fn meant_outputs(
 }
 
 /// The parts without `i` of so many values of a table, from position 1 on.
-fn real_parts(alloc: Global, table: &Table, count: usize) -> Result<Vec<Fp>, AllocError>
+fn real_parts(alloc: Global, table: &BaseTable, count: usize) -> Result<Vec<Fp>, AllocError>
     requires { count < length table.now.items }
     ensures { IfOk result (λ parts. parts.items ≡ map
         (λ x. x.re) (take count (drop 1 table.now.items))) }

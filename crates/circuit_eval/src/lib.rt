@@ -1,4 +1,4 @@
-//! The values of a circuit's layers, as tables of elements of K.
+//! The values of a circuit's layers, as tables of elements of K that lie in the base field.
 //!
 //! The value of a leaf is its input or constant, and the value of a gate the sum or product of its operands' values in the
 //! layer below; position 0 and padding hold 0. Layers are evaluated from the leaves up, and all their tables are kept.

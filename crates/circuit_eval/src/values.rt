@@ -6,7 +6,7 @@ ghost use Rattle.circuit_eval.specs.Tables.{AreTables};
 use crate::layer::{gate_values, input_values};
 use circuit_core::Circuit;
 use field_ext::Fp;
-use mle_table::Table;
+use mle_table::BaseTable;
 use std::alloc::{AllocError, Global};
 use std::marker::{Model, Sync};
 use std::thread::Threads;
@@ -14,7 +14,7 @@ use std::thread::Threads;
 /// The tables of a circuit's layers, that of the outputs first.
 #[derive(Drop)]
 pub struct Values {
-    tables: Vec<Table>,
+    tables: Vec<BaseTable>,
 }
 
 impl Model for Values {
@@ -28,7 +28,7 @@ impl Model for Values {
 
 impl Values {
     /// The table of a layer: its values by position.
-    pub fn table(&self, layer: usize) -> &Table
+    pub fn table(&self, layer: usize) -> &BaseTable
         requires { layer < length self.now }
         ensures { result.now.items ≡ slice_index_or self.now layer [] }
     {
@@ -47,13 +47,13 @@ pub fn layer_values<R: Threads + Sync>(
     ensures { IfOk result (AreTables circuit.now.parts inputs.now) }
 {
     let mut below = input_values(alloc, circuit, inputs)?;
-    let mut tables: Vec<Table> = Vec::with_capacity(alloc, circuit.height() + 1)?;
-    tables.push(Table::of_base(alloc, &below)?)?;
+    let mut tables: Vec<BaseTable> = Vec::with_capacity(alloc, circuit.height() + 1)?;
     for layer in (0..circuit.height()).rev() {
         let values = gate_values(rt, alloc, circuit.gates(layer), &below)?;
-        tables.push(Table::of_base(alloc, &values)?)?;
+        tables.push(BaseTable::of(below))?;
         below = values;
     }
+    tables.push(BaseTable::of(below))?;
     tables.reverse();
     Ok(Values { tables })
 }

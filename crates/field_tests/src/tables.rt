@@ -4,7 +4,7 @@ ghost use Rattle.std.specs.Prelude.{◌≡◌};
 
 use crate::numbers::{P, number};
 use field_ext::{Ext, Fp};
-use mle_table::Table;
+use mle_table::{BaseTable, Table};
 use std::alloc::{AllocError, Global};
 use std::process::Abort;
 use std::test::Fail;
@@ -65,22 +65,25 @@ fn folds_and_evaluates_by_hand(rt: HostRuntime) -> Result<(), Fail> {
     Ok(folds_and_evaluates(&rt, &mut table)?)
 }
 
-/// Sees that the table 5, 2 is of values of the base field, and that it is of others once it is bound to the imaginary unit.
-fn leaves_the_base_field<R: Abort>(rt: &R, table: &mut Table) {
-    assert!(rt; table.is_base());
-    assert!(rt; table.values() == [number(5), number(2)].as_slice());
+/// Sees the table 5, 2 of the base field, and its extension at the imaginary unit, which lies outside it.
+fn leaves_the_base_field<R: Abort + AllocGlobal>(
+    rt: &R,
+    table: &BaseTable,
+) -> Result<(), AllocError> {
+    assert!(rt; table.values() == [Fp::reduce(5), Fp::reduce(2)].as_slice());
+    assert_eq!(rt; table.k(), 1);
     if table.k() == 1 {
-        table.fold(Ext::of(Fp::zero(), Fp::one()));
-        assert!(rt; !table.is_base());
-        assert!(rt; table.values() == [Ext::of(Fp::reduce(5), Fp::reduce(P - 3))].as_slice());
+        assert!(rt; table.at(0) == number(5) && table.at(1) == number(2));
+        let value = table.eval_at(rt.alloc(), &[Ext::of(Fp::zero(), Fp::one())])?;
+        assert!(rt; value == Ext::of(Fp::reduce(5), Fp::reduce(P - 3)));
     }
+    Ok(())
 }
 
 #[test]
-fn knows_values_of_the_base_field(rt: HostRuntime) -> Result<(), AllocError> {
-    let mut table = Table::of_base(rt.alloc(), &[Fp::reduce(5), Fp::reduce(P + 2)])?;
-    leaves_the_base_field(&rt, &mut table);
-    Ok(())
+fn keeps_values_of_the_base_field(rt: HostRuntime) -> Result<(), AllocError> {
+    let values = vec![in rt.alloc(); Fp::reduce(5), Fp::reduce(P + 2)]?;
+    leaves_the_base_field(&rt, &BaseTable::of(values))
 }
 
 /// Sees the four values of a table.

@@ -1,19 +1,19 @@
 //! The tables of a phase, built from the gates.
 
-ghost use Rattle.std.specs.Prelude.{◌≡◌, ◌≢◌, ◌≤◌, ◌<◌, ◌+◌, ◌^◌, ℕ, All, IfNone, IfSome, length, if◌then◌else◌, ◌==◌, slice_index_or};
+ghost use Rattle.std.specs.Prelude.{◌≡◌, ◌≢◌, ◌≤◌, ◌<◌, ◌+◌, ◌^◌, ℕ, All, IfNone, IfSome, length, map, if◌then◌else◌, ◌==◌, slice_index_or};
 ghost use Rattle.circuit_core.specs.Parts.{IsOver};
-ghost use Rattle.field_ext.specs.Field.{K, k_ops, add_k, zero_k};
+ghost use Rattle.field_ext.specs.Field.{K, k_ops, add_k, zero_k, embed_k};
 ghost use Rattle.field_ext.specs.Multilinear.{eq_poly};
 ghost use Rattle.wiring_poly.specs.Wiring.{by_kind};
 ghost use Rattle.gate_gather.specs.Gathering.{left_scale, left_shift, add_factor, mul_factor, GathersLeft, GathersFactors, GathersRight};
 
 use crate::choosing::{ByLeft, ByRight, choose};
-use crate::operand::Operand;
+use crate::operand::{Base, Operand};
 use crate::scaling::scale_by;
 use crate::weights::{EqualityAt, Weights};
 use crate::zeros::clear;
 use circuit_core::{CircuitGate, Kind};
-use field_ext::Ext;
+use field_ext::{Ext, Fp};
 use std::sync::ledger::Ledger;
 use step_count::Steps;
 
@@ -67,11 +67,11 @@ fn place_in(place: usize, from: usize, count: usize) -> Option<usize>
 /// Adds what the gate of a position gives in the first phase to both tables, which begin with the place `from`. A gate that is sent
 /// to none of their places gives nothing, and its weight isn't worked out.
 #[inline]
-fn send_left<V: Operand, W: Weights>(
+fn send_left<W: Weights>(
     gate: CircuitGate,
     weights: &W,
     position: usize,
-    values: &[Ext],
+    values: &[Fp],
     from: usize,
     scales: &mut [Ext],
     shifts: &mut [Ext],
@@ -80,31 +80,31 @@ fn send_left<V: Operand, W: Weights>(
     requires weights { position < W.positions weights.now }
     requires in_range { gate.right < length values.now }
     requires same { length shifts.old ≡ length scales.old }
-    requires values { (i : ℕ) → V.holds (slice_index_or values.now i zero_k) }
     ensures scales { (x : ℕ) → x < length scales.old
         → slice_index_or scales.new x zero_k ≡ add_k (slice_index_or scales.old x zero_k)
         (if gate.left == from + x
-        then left_scale k_ops (W.weight weights.now) values.now position gate else zero_k) }
+        then left_scale k_ops (W.weight weights.now) (map embed_k values.now) position gate else zero_k) }
     ensures shifts { (x : ℕ) → x < length scales.old
         → slice_index_or shifts.new x zero_k ≡ add_k (slice_index_or shifts.old x zero_k)
         (if gate.left == from + x
-        then left_shift k_ops (W.weight weights.now) values.now position gate else zero_k) }
+        then left_shift k_ops (W.weight weights.now) (map embed_k values.now) position gate else zero_k) }
 {
     let Some(place) = place_in(gate.left as usize, from, scales.len()) else {
         return;
     };
     let factor = weights.at(position);
-    let product = V::times(factor, values[gate.right as usize]);
+    let value = Ext::embed(values[gate.right as usize]);
+    let product = Base::times(factor, value);
     add_at(scales, place, pick(gate.kind, factor, product));
     add_at(shifts, place, pick(gate.kind, product, Ext::zero()));
 }
 
-/// The tables of the first phase, of the places from `from` on: what the gates give by their left operands. The weights are those
-/// of the gates' positions.
-pub fn gather_left<V: Operand, W: Weights>(
+/// The tables of the first phase, of the places from `from` on: what the gates give by their left operands, over values of the base
+/// field. The weights are those of the gates' positions.
+pub fn gather_left<W: Weights>(
     gates: &[CircuitGate],
     weights: &W,
-    values: &[Ext],
+    values: &[Fp],
     from: usize,
     scales: &mut [Ext],
     shifts: &mut [Ext],
@@ -113,9 +113,8 @@ pub fn gather_left<V: Operand, W: Weights>(
     requires weights { length gates.now ≤ W.positions weights.now }
     requires in_range { All (IsOver (length values.now)) gates.now }
     requires same { length shifts.old ≡ length scales.old }
-    requires values { (i : ℕ) → V.holds (slice_index_or values.now i zero_k) }
-    ensures { GathersLeft K k_ops gates.now (W.weight weights.now) values.now from scales.new
-        shifts.new }
+    ensures { GathersLeft K k_ops gates.now (W.weight weights.now) (map embed_k values.now) from
+        scales.new shifts.new }
 {
     clear(scales);
     clear(shifts);
@@ -126,7 +125,7 @@ pub fn gather_left<V: Operand, W: Weights>(
         let count = choose::<ByLeft>(gates, start, end, from, scales.len(), &mut chosen);
         for k in 0..count {
             let position = chosen[k];
-            send_left::<V, W>(
+            send_left(
                 gates[position],
                 weights,
                 position,

@@ -7,7 +7,7 @@
 //! Song, "Libra" (2019), 3.
 //!
 //! ```text
-//! gather_left::<Base, _>(gates, &weights, values, 0, &mut scales, &mut shifts);        // the first phase
+//! gather_left(gates, &weights, values, 0, &mut scales, &mut shifts);                   // the first phase
 //! gather_right(gates, &weights, &left, value, 0, &mut scales, &mut shifts, steps);     // the second
 //! ```
 #![tactic(auto)]

@@ -18,7 +18,7 @@ use field_ext::Fp;
 use gkr_prove::prove_as;
 use gkr_verify::Verdict;
 use io_edge::OpenGate;
-use mle_table::Table;
+use mle_table::BaseTable;
 use proof_wire::{Messages, ProofForm};
 use std::alloc::{AllocError, Global};
 use std::io;
@@ -37,11 +37,11 @@ pub(crate) struct Evaluation {
 }
 
 /// The outputs that the circuit has, which are after position 0 of the output layer's table.
-fn outputs_of(alloc: Global, circuit: &Circuit, table: &Table) -> Result<Vec<Fp>, AllocError> {
+fn outputs_of(alloc: Global, circuit: &Circuit, table: &BaseTable) -> Result<Vec<Fp>, AllocError> {
     let mut outputs = Vec::new(alloc);
     let items = table.values();
     for value in items.iter().skip(1).take(circuit.outputs() as usize) {
-        outputs.push(value.re())?;
+        outputs.push(*value)?;
     }
     Ok(outputs)
 }

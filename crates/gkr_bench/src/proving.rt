@@ -11,7 +11,7 @@ use circuit_core::{Circuit, CircuitGate, Layer, Leaf};
 use field_ext::{Ext, Fp};
 use io_edge::OpenGate;
 use line_reduce::line_poly;
-use mle_table::Table;
+use mle_table::BaseTable;
 use round_tables::{Buffers, GateTables};
 use std::alloc::{AllocError, Global};
 use std::io;
@@ -33,7 +33,7 @@ pub(crate) struct LayerPoints {
 #[derive(Drop)]
 pub(crate) struct LayerCase {
     pub(crate) circuit: Circuit,
-    pub(crate) values: Table,
+    pub(crate) values: BaseTable,
     pub(crate) points: LayerPoints,
 }
 
@@ -55,12 +55,12 @@ fn circuit_of(alloc: Global, random: &mut Random, k: u32) -> Result<Option<Circu
     layer_of(alloc, gates, 1u32 << k.clamp(1, 20))
 }
 
-fn table_of(alloc: Global, random: &mut Random, k: u32) -> Result<Table, AllocError> {
+fn table_of(alloc: Global, random: &mut Random, k: u32) -> Result<BaseTable, AllocError> {
     let mut values = vec![in alloc; Fp::zero(); 1usize << k.min(20)]?;
     for i in 0..values.len() {
         values[i] = Fp::reduce(random.next());
     }
-    Table::of_base(alloc, &values)
+    Ok(BaseTable::of(values))
 }
 
 /// Points of k random coordinates each.
@@ -103,7 +103,7 @@ pub(crate) fn case_of(alloc: Global, k: u32) -> Result<Option<LayerCase>, AllocE
 fn started<'a>(
     buffers: Buffers,
     circuit: &'a Circuit,
-    values: &'a Table,
+    values: &'a BaseTable,
     point: &'a [Ext],
 ) -> Result<Option<GateTables<'a>>, AllocError>
     ensures { IfOk result (λ found. IfSome found (λ tables. tables.lent ≡ [])) }
@@ -265,7 +265,7 @@ struct PlainCase {
 }
 
 fn plain_case(alloc: Global, case: &LayerCase) -> Result<PlainCase, AllocError> {
-    let values = plain(alloc, case.values.values())?;
+    let values = plain(alloc, &case.values.elements(alloc)?)?;
     let point = plain(alloc, &case.points.output)?;
     let left = plain(alloc, &case.points.left)?;
     let right = plain(alloc, &case.points.right)?;

@@ -2,7 +2,6 @@
 
 ghost use Rattle.std.specs.Prelude.{◌≡◌, ◌+◌, ◌≤◌, IfOk, IfSome, [], IsTrue, length, vec_len};
 ghost use Rattle.crew.specs.Crews.{IsCrewCount};
-ghost use Rattle.mle_table.specs.Shape.{AreBase};
 ghost use Rattle.phase_run.specs.Work.{IsWorkerCount};
 ghost use Rattle.gkr_prove.specs.Kept.{kept_place};
 ghost use Rattle.gkr_prove.specs.Rounds.{AreBegun, IsLineFor, IsLineAhead, CanProve, AreProved};
@@ -16,7 +15,7 @@ use crew::{Crew, Lead, with_crew};
 use field_ext::Ext;
 use io_edge::Gate;
 use line_reduce::part_count;
-use mle_table::Table;
+use mle_table::BaseTable;
 use proof_wire::{LayerMessages, ProofForm};
 use round_tables::{Buffers, OpenTables};
 use std::alloc::{AllocError, Global};
@@ -63,7 +62,7 @@ impl<'r, 'x, 'y, 'a, R: Wait> Rounds<'a> for ByCrew<'r, 'x, 'y, 'a, R> {
         alloc: Global,
         form: ProofForm,
         tables: OpenTables<'a>,
-        values: &'a Table,
+        values: &'a BaseTable,
         challenges: &mut C,
     ) -> Result<ProvedRounds, AllocError> {
         let parts = parts_of_layer(values, self.parts);
@@ -84,7 +83,7 @@ impl<'r, 'x, 'y, 'a, R: Wait> Rounds<'a> for ByCrew<'r, 'x, 'y, 'a, R> {
 }
 
 /// How many parts of a layer's tables a crew for so many works, or 0 where the lead works alone.
-fn parts_of_layer(values: &Table, most: usize) -> usize
+fn parts_of_layer(values: &BaseTable, most: usize) -> usize
     requires { values.now.k ≤ 20 }
     ensures most { result ≤ most }
     ensures few { result ≤ 512 }
@@ -99,11 +98,10 @@ fn parts_of_layer(values: &Table, most: usize) -> usize
 fn line_jobs<'a>(
     alloc: Global,
     form: ProofForm,
-    values: &'a Table,
+    values: &'a BaseTable,
     parts: usize,
 ) -> Result<Option<LineJobs<'a>>, AllocError>
     requires most { values.now.k ≤ 20 }
-    requires base { AreBase values.now.items }
     requires few { parts ≤ 512 }
     ensures { IfOk result (λ line. IfSome line
         (λ l. IsLineFor l values.now.k values.now.items parts)) }
@@ -198,7 +196,7 @@ fn layer_by<'a, R: Wait, C: Challenges>(
     rt: &R,
     alloc: Global,
     tables: OpenTables<'a>,
-    values: &Table,
+    values: &BaseTable,
     line: Option<LineJobs<'a>>,
     challenges: &mut C,
     crew: &mut Crew<'_, Jobs<'a>>,
@@ -288,7 +286,7 @@ fn rounds_by<'a, R: Wait, C: Challenges>(
 /// The line of a layer, where it has jobs for that, at the challenges of its rounds.
 fn line_ahead<'a, R: Wait>(
     rt: &R,
-    values: &Table,
+    values: &BaseTable,
     drawn: &[Ext],
     crew: &mut Crew<'_, Jobs<'a>>,
     line: Option<LineJobs<'a>>,

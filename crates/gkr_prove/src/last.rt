@@ -9,7 +9,7 @@ ghost use Rattle.proof_wire.specs.Forms.{last_degree};
 
 use field_ext::Ext;
 use line_reduce::line_poly;
-use mle_table::Table;
+use mle_table::BaseTable;
 use pair_reduce::pair_at;
 use proof_wire::ProofForm;
 use std::alloc::{AllocError, Global};
@@ -19,7 +19,7 @@ use std::alloc::{AllocError, Global};
 pub fn last_message(
     alloc: Global,
     form: ProofForm,
-    values: &Table,
+    values: &BaseTable,
     left: &[Ext],
     right: &[Ext],
 ) -> Result<Vec<Ext>, AllocError>
@@ -46,7 +46,7 @@ pub fn last_message(
 pub(crate) fn last_with(
     alloc: Global,
     form: ProofForm,
-    values: &Table,
+    values: &BaseTable,
     left: &[Ext],
     right: &[Ext],
     line: Option<Vec<Ext>>,

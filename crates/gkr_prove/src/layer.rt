@@ -2,7 +2,6 @@
 
 ghost use Rattle.std.specs.Prelude.{◌≡◌, ◌≤◌, ◌+◌, IfOk, IsTrue, length};
 ghost use Rattle.field_ext.specs.Field.{K, k_ops};
-ghost use Rattle.mle_table.specs.Shape.{AreBase};
 ghost use Rattle.round_tables.specs.Phase.{IsLayer};
 ghost use Rattle.transcript_fs.specs.Source.{draws, state_after};
 ghost use Rattle.proof_wire.specs.Lists.{messages_of, HasShape};
@@ -16,7 +15,7 @@ use crate::last::last_with;
 use crate::rounds::{ProvedRounds, Rounds};
 use circuit_core::CircuitGate;
 use gkr_layers::ClaimPlace;
-use mle_table::Table;
+use mle_table::BaseTable;
 use proof_wire::{LayerMessages, Listed, ProofForm};
 use round_tables::{Buffers, OpenTables};
 use std::alloc::{AllocError, Global};
@@ -37,14 +36,13 @@ pub(crate) fn prove_layer<'a, C: Challenges, P: Rounds<'a>>(
     form: ProofForm,
     buffers: Buffers,
     gates: &'a [CircuitGate],
-    values: &'a Table,
+    values: &'a BaseTable,
     place: &ClaimPlace<'_>,
     challenges: &mut C,
     prover: &mut P,
 ) -> Result<ProvedLayer, AllocError>
     requires ready { P.ready prover.old }
     requires layer { IsLayer K values.now.k gates.now values.now.items (place_of place.now) }
-    requires base { AreBase values.now.items }
     requires few { length gates.now ≤ 1048576 }
     requires has { IsTrue
         (C.source.has (C.state challenges.old) (values.now.k + values.now.k + 1)) }

@@ -1,11 +1,10 @@
 //! The rounds of a layer.
 
 ghost use Rattle.std.specs.Prelude.{◌≡◌, ◌+◌, ◌≤◌, IfOk, None, [], IsTrue};
-ghost use Rattle.mle_table.specs.Shape.{AreBase};
 ghost use Rattle.gkr_prove.specs.Rounds.{IsNoted, AreBegun, IsLineAhead};
 
 use field_ext::Ext;
-use mle_table::Table;
+use mle_table::BaseTable;
 use proof_wire::{ProofForm, Round};
 use round_tables::{Buffers, GateTables, OpenTables};
 use std::alloc::{AllocError, Global};
@@ -33,14 +32,13 @@ pub(crate) trait Rounds<'a> {
         alloc: Global,
         form: ProofForm,
         tables: OpenTables<'a>,
-        values: &'a Table,
+        values: &'a BaseTable,
         challenges: &mut C,
     ) -> Result<ProvedRounds, AllocError>
         requires ready { ready self.old }
         requires begun { tables.bound ≡ [] }
         requires most { values.now.k ≤ 20 }
         requires k { tables.k ≡ values.now.k }
-        requires base { AreBase values.now.items }
         requires has { IsTrue (C.source.has (C.state challenges.old) (tables.k + tables.k)) }
         ensures rounds { IfOk result (λ rounds. AreBegun C.source tables.entry
             (C.state challenges.old) (tables.entry.k + tables.entry.k) rounds.messages.items
@@ -66,7 +64,7 @@ impl<'a, E: Entry> Rounds<'a> for Alone<E> {
         alloc: Global,
         _form: ProofForm,
         tables: OpenTables<'a>,
-        _values: &'a Table,
+        _values: &'a BaseTable,
         challenges: &mut C,
     ) -> Result<ProvedRounds, AllocError> {
         rounds_alone(alloc, tables.gathered(), challenges, &self.entry)

@@ -2,14 +2,14 @@
 
 use field_ext::{Ext, Fp};
 use line_reduce::{LinePart, claim_at, line_poly, point_at};
-use mle_table::Table;
+use mle_table::BaseTable;
 use std::alloc::{AllocError, Global};
 use std::process::Abort;
 use std::test::Fail;
 use test_circuits::number;
 
 /// Sees the extension of a table on the line from (1, 2) to (4, 3).
-fn meets_on_the_line<R: Abort + AllocGlobal>(rt: &R, table: &Table) -> Result<(), Fail> {
+fn meets_on_the_line<R: Abort + AllocGlobal>(rt: &R, table: &BaseTable) -> Result<(), Fail> {
     assert_eq!(rt; table.k(), 2);
     // The extension is 1 + x + 2 y, and the line from (1, 2) to (4, 3) is (1 + 3 t, 2 + t).
     let (b, c) = ([number(1), number(2)], [number(4), number(3)]);
@@ -27,24 +27,21 @@ fn meets_on_the_line<R: Abort + AllocGlobal>(rt: &R, table: &Table) -> Result<()
 
 #[test]
 fn meets_the_extension_on_the_line(rt: HostRuntime) -> Result<(), Fail> {
-    let values = Vec::from_slice(rt.alloc(), &[1, 2, 3, 4].map(number))?;
-    let Ok(table) = Table::of_values(values) else {
-        return Err(Fail::new("no table"));
-    };
-    meets_on_the_line(&rt, &table)
+    let values = Vec::from_slice(rt.alloc(), &[1, 2, 3, 4].map(Fp::reduce))?;
+    meets_on_the_line(&rt, &BaseTable::of(values))
 }
 
 /// The numbers 0 to `2^k - 1`: for 12 the extension is x0 + 2 x1 + 4 x2 + .. + 2,048 x11.
-fn in_order(alloc: Global, k: u32) -> Result<Table, AllocError> {
+fn in_order(alloc: Global, k: u32) -> Result<BaseTable, AllocError> {
     let mut values = vec![in alloc; Fp::zero(); 1usize << k.min(20)]?;
     for i in 0..values.len() {
         values[i] = Fp::reduce(i as u64);
     }
-    Table::of_base(alloc, &values)
+    Ok(BaseTable::of(values))
 }
 
 /// Sees the line from (1, .., 1) to (2, .., 2), which is 4,095 + 4,095 t.
-fn meets_on_a_wide_line<R: Abort + AllocGlobal>(rt: &R, table: &Table) -> Result<(), Fail> {
+fn meets_on_a_wide_line<R: Abort + AllocGlobal>(rt: &R, table: &BaseTable) -> Result<(), Fail> {
     assert_eq!(rt; table.k(), 12);
     let line = line_poly(rt.alloc(), table, &[number(1); 12], &[number(2); 12])?;
     let mut want = [Ext::zero(); 13];
@@ -55,8 +52,7 @@ fn meets_on_a_wide_line<R: Abort + AllocGlobal>(rt: &R, table: &Table) -> Result
 }
 
 /// Sees the second part of it, which is 2,048 and 2,047 + 2,047 t. There is no third, so that nothing changes.
-fn meets_the_second_part<R: Abort + AllocGlobal>(rt: &R, table: &Table, part: &mut LinePart) {
-    assert!(rt; table.is_base());
+fn meets_the_second_part<R: Abort + AllocGlobal>(rt: &R, table: &BaseTable, part: &mut LinePart) {
     part.aim(&[number(1); 12], &[number(2); 12]);
     let mut want = [Ext::zero(); 12];
     want[0] = number(4095);

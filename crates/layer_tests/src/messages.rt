@@ -5,30 +5,16 @@ ghost use Rattle.circuit_core.specs.Parts.{height};
 ghost use Rattle.circuit_core.specs.Sound.{exponent_at};
 ghost use Rattle.circuit_eval.specs.Tables.{FitLayers};
 
-use circuit_core::{Circuit, Kind};
+use circuit_core::Circuit;
 use circuit_eval::laws::tables_fit;
 use circuit_eval::{Values, layer_values};
 use field_ext::{Ext, Fp};
-use mle_table::Table;
-use round_tables::{Buffers, GateTables};
-use std::alloc::Global;
+use round_tables::GateTables;
 use std::marker::Sync;
 use std::process::Abort;
 use std::test::Fail;
 use std::thread::Threads;
-use test_circuits::{copy, gate, number, product};
-
-/// A table of these multiples of an element, which are a power of two.
-fn table(alloc: Global, ns: &[i32], unit: Ext) -> Result<Table, Fail> {
-    let mut values = Vec::new(alloc);
-    for n in ns {
-        values.push(number(*n) * unit)?;
-    }
-    match Table::of_values(values) {
-        Ok(table) => Ok(table),
-        Err(_) => Err(Fail::new("no power of two")),
-    }
-}
+use test_circuits::{copy, number, product};
 
 /// The values of a circuit's layers for these inputs.
 pub(crate) fn values_of<R: Threads + Sync + AllocGlobal>(
@@ -51,33 +37,25 @@ pub(crate) fn message(coefficients: [i32; 3]) -> [Ext; 3] {
     [number(c0), number(c1), number(c2)]
 }
 
-/// Sees the message of a round of one piece, as multiples of an element, and binds the challenge.
-fn follows_round<R: Abort>(
-    rt: &R,
-    sum: &mut GateTables<'_>,
-    coefficients: [i32; 3],
-    challenge: i32,
-    unit: Ext,
-)
+/// Sees the message of a round of one piece, and binds the challenge.
+fn follows_round<R: Abort>(rt: &R, sum: &mut GateTables<'_>, coefficients: [i32; 3], challenge: i32)
     requires { sum.old.lent ≡ [] }
     ensures { sum.new.lent ≡ [] }
 {
     assert!(rt; sum.rounds_left() > 0);
     assert_eq!(rt; sum.pieces(), 1);
-    let [c0, c1, c2] = message(coefficients);
-    let want = [c0 * unit, c1 * unit, c2 * unit];
-    assert_eq!(rt; sum.piece_sum(0), want);
+    assert_eq!(rt; sum.piece_sum(0), message(coefficients));
     sum.bind(number(challenge));
     assert!(rt; !sum.is_fresh());
 }
 
-/// Sees the messages of all rounds, of one piece each, as multiples of an element, and binds each challenge.
-fn follows<R: Abort>(rt: &R, sum: &mut GateTables<'_>, rounds: &[([i32; 3], i32)], unit: Ext)
+/// Sees the messages of all rounds, of one piece each, and binds each challenge.
+fn follows<R: Abort>(rt: &R, sum: &mut GateTables<'_>, rounds: &[([i32; 3], i32)])
     requires { sum.old.lent ≡ [] }
 {
     assert!(rt; sum.is_fresh());
     for (coefficients, challenge) in rounds {
-        follows_round(rt, sum, *coefficients, *challenge, unit);
+        follows_round(rt, sum, *coefficients, *challenge);
     }
     assert_eq!(rt; sum.rounds_left(), 0);
 }
@@ -96,7 +74,7 @@ fn follows_layer<R: Abort + AllocGlobal>(
     requires position { length point.now ≡ exponent_at circuit.now.parts layer }
 {
     let mut sum = GateTables::start(rt.alloc(), circuit, layer, values, point)?;
-    follows(rt, &mut sum, rounds, Ext::one());
+    follows(rt, &mut sum, rounds);
     Ok(())
 }
 
@@ -122,29 +100,6 @@ fn copies_one_value(rt: HostRuntime) -> Result<(), Fail> {
     follows_a_copy(&rt, &circuit)
 }
 
-/// Sees the messages of two gates that copy the values of a table of two, with the claim at 2, as multiples of an element.
-fn follows_gates<R: Abort + AllocGlobal>(rt: &R, values: &Table, unit: Ext) -> Result<(), Fail> {
-    let gates = [gate(Kind::Add, 0, 0), gate(Kind::Add, 1, 0)];
-    let point = [number(2)];
-    if values.k() != 1 {
-        return Err(Fail::new("another size"));
-    }
-    let buffers = Buffers::new(rt.alloc(), 2, 2)?;
-    let Ok(mut sum) = GateTables::start_in(buffers, &gates, values, &point) else {
-        return Err(Fail::new("too little room"));
-    };
-    let rounds = [([0, -5, 15], 3), ([120, -80, -40], 4)];
-    follows(rt, &mut sum, &rounds, unit);
-    Ok(())
-}
-
-#[test]
-fn copies_a_value_outside_the_base_field(rt: HostRuntime) -> Result<(), Fail> {
-    let unit = Ext::of(Fp::zero(), Fp::one());
-    let values = table(rt.alloc(), &[0, 5], unit)?;
-    follows_gates(&rt, &values, unit)
-}
-
 /// Sees the messages of the copy of these values, with a claim at 2 and, four times, at 3.
 fn follows_two_points<R: Abort + AllocGlobal>(
     rt: &R,
@@ -160,7 +115,7 @@ fn follows_two_points<R: Abort + AllocGlobal>(
     let four = number(4);
     let mut sum = GateTables::start_two(rt.alloc(), circuit, 0, values, &first, &second, four)?;
     let rounds = [([0, -45, 115], 3), ([900, -600, -300], 4)];
-    follows(rt, &mut sum, &rounds, Ext::one());
+    follows(rt, &mut sum, &rounds);
     Ok(())
 }
 

@@ -18,7 +18,8 @@ fn holds<R: Abort + AllocGlobal>(
     requires { layer < length values.now }
 {
     let want = numbers(rt.alloc(), want)?;
-    assert_eq!(rt; values.table(layer).values(), want.as_slice());
+    let found = values.table(layer).elements(rt.alloc())?;
+    assert_eq!(rt; found.as_slice(), want.as_slice());
     Ok(())
 }
 

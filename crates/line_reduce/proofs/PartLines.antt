@@ -3,7 +3,7 @@ use Rattle.std.proofs.Common.{◌≡◌, ℕ, zero, suc, ◌+◌, ◌*◌, ◌^�
 use Rattle.std.proofs.lemmas.Bool.{cases_eq}
 use Rattle.std.proofs.lemmas.List.{get_or_append_left, take_all}
 use Rattle.field_ext.specs.Ring.{Ops, Laws}
-use Rattle.field_ext.specs.Field.{K, k_ops, zero_k, of}
+use Rattle.field_ext.specs.Field.{K, k_ops, zero_k}
 use Rattle.field_ext.specs.Polynomial.{value_at}
 use Rattle.field_ext.specs.Multilinear.{eq_poly, folded_all}
 use Rattle.field_ext.proofs.api.KLaws.{k_laws}

@@ -1,17 +1,16 @@
 //! The polynomial of a line.
 
-ghost use Rattle.std.specs.Prelude.{◌≡◌, ◌≤◌, ◌+◌, ◌^◌, length, vec_len, IfOk};
-ghost use Rattle.field_ext.specs.Field.{k_ops};
+ghost use Rattle.std.specs.Prelude.{◌≡◌, ◌≤◌, ◌+◌, ◌^◌, length, map, vec_len, IfOk};
+ghost use Rattle.field_ext.specs.Field.{k_ops, embed_k};
 ghost use Rattle.field_ext.specs.Polynomial.{value_at, coefficients};
 ghost use Rattle.gkr_layers.specs.Sumcheck.{line_polynomial};
-ghost use Rattle.mle_table.specs.Shape.{AreBase};
 ghost use Rattle.line_reduce.specs.Parts.{most_coordinates};
 ghost use Rattle.line_reduce.specs.Rows.{most_known};
 
 use crate::blocks::fill_line;
 use crate::rows::fold_by_line;
-use field_ext::Ext;
-use mle_table::Table;
+use field_ext::{Ext, Fp};
+use mle_table::BaseTable;
 use poly_roots::Poly;
 use std::alloc::{AllocError, Global};
 
@@ -20,19 +19,18 @@ const MOST_KNOWN: usize = 6;
 
 /// The restriction of a table's extension to the line from `b`, at 0, to `c`, at 1: one coefficient more than the table
 /// has coordinates, constant first. Err only where no memory is found.
-pub fn line_poly(alloc: Global, table: &Table, b: &[Ext], c: &[Ext]) -> Result<Poly, AllocError>
+pub fn line_poly(alloc: Global, table: &BaseTable, b: &[Ext], c: &[Ext]) -> Result<Poly, AllocError>
     requires most { table.now.k ≤ most_coordinates }
     requires start { length b.now ≡ table.now.k }
     requires end { length c.now ≡ table.now.k }
     ensures { IfOk result (λ line. line ≡ coefficients k_ops (table.now.k + 1)
         (line_polynomial k_ops table.now.items b.now c.now)) }
 {
-    let values = table.values();
-    if table.is_base() && b.len() >= 8 {
+    if b.len() >= 8 {
         let known = (b.len() / 2 - 2).min(MOST_KNOWN);
-        Ok(Poly::of_coeffs(by_blocks(alloc, values, known, b, c)?))
+        Ok(Poly::of_coeffs(by_blocks(alloc, table.values(), known, b, c)?))
     } else {
-        let rows = Vec::from_slice(alloc, values)?;
+        let rows = table.elements(alloc)?;
         Ok(Poly::of_coeffs(by_rows(rows, b, c)))
     }
 }
@@ -58,10 +56,10 @@ fn by_rows(rows: Vec<Ext>, b: &[Ext], c: &[Ext]) -> Vec<Ext>
     line
 }
 
-/// The same for a table of the base field, whose first coordinates are bound in each block of values at once.
+/// The same from numbers of the base field, where the first coordinates are bound in each block of values at once.
 fn by_blocks(
     alloc: Global,
-    values: &[Ext],
+    values: &[Fp],
     known: usize,
     b: &[Ext],
     c: &[Ext],
@@ -69,12 +67,11 @@ fn by_blocks(
     requires most { length b.now ≤ most_coordinates }
     requires end { length c.now ≡ length b.now }
     requires size { length values.now ≡ 2 ^ length b.now }
-    requires base { AreBase values.now }
     requires some { 2 ≤ known }
     requires few { known ≤ most_known }
     requires known { known ≤ length b.now }
     ensures { IfOk result (λ line. line.items ≡ coefficients k_ops (length b.now + 1)
-        (line_polynomial k_ops values.now b.now c.now)) }
+        (line_polynomial k_ops (map embed_k values.now) b.now c.now)) }
 {
     let width = known + 1;
     let mut weights = vec![in alloc; Ext::zero(); (1usize << known) * width]?;

@@ -1,16 +1,15 @@
 //! The line by parts of the table, each of which can be worked by itself.
 
-ghost use Rattle.std.specs.Prelude.{◌≡◌, ◌≤◌, ◌<◌, ◌+◌, length, take, MatchOption, IfOk};
-ghost use Rattle.field_ext.specs.Field.{k_ops};
+ghost use Rattle.std.specs.Prelude.{◌≡◌, ◌≤◌, ◌<◌, ◌+◌, length, map, take, MatchOption, IfOk};
+ghost use Rattle.field_ext.specs.Field.{k_ops, embed_k};
 ghost use Rattle.field_ext.specs.Polynomial.{coefficients};
 ghost use Rattle.gkr_layers.specs.Sumcheck.{line_polynomial};
-ghost use Rattle.mle_table.specs.Shape.{AreBase};
 ghost use Rattle.line_reduce.specs.Parts.{most_coordinates, part_coordinates, parts_of, worked_part, part_lines};
 
 use crate::blocks::fill_line;
 use crate::rows::fold_by_line;
-use field_ext::Ext;
-use mle_table::Table;
+use field_ext::{Ext, Fp};
+use mle_table::BaseTable;
 use std::alloc::{AllocError, Global};
 use std::marker::Model;
 
@@ -81,9 +80,8 @@ impl LinePart {
     }
 
     /// Works part `k` of a table of the base field. Where the table has no such part, nothing changes.
-    pub fn work(&mut self, values: &[Ext], k: u32)
-        requires base { AreBase values.now }
-        ensures { self.new ≡ worked_part values.now k self.old }
+    pub fn work(&mut self, values: &[Fp], k: u32)
+        ensures { self.new ≡ worked_part (map embed_k values.now) k self.old }
     {
         let from = k as usize * VALUES;
         if values.len() < from + VALUES {
@@ -120,7 +118,7 @@ pub fn part_count(k: u32) -> Option<usize>
 
 /// The line from `b`, at 0, to `c`, at 1, as `line_poly` gives it, from the lines of all parts of the table, one after another. It
 /// takes no memory.
-pub fn line_of_parts(table: &Table, lines: Vec<Ext>, b: &[Ext], c: &[Ext]) -> Vec<Ext>
+pub fn line_of_parts(table: &BaseTable, lines: Vec<Ext>, b: &[Ext], c: &[Ext]) -> Vec<Ext>
     requires least { part_coordinates ≤ table.now.k }
     requires most { table.now.k ≤ most_coordinates }
     requires start { length b.now ≡ table.now.k }

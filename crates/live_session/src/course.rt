@@ -20,7 +20,7 @@ use field_ext::Ext;
 use gkr_layers::ClaimPlace;
 use gkr_prove::{KeptPlace, last_message};
 use io_edge::Gate;
-use mle_table::Table;
+use mle_table::BaseTable;
 use proof_wire::ProofForm;
 use round_tables::{Buffers, GateTables};
 use std::alloc::{AllocError, Global};
@@ -245,7 +245,7 @@ fn descend<'a, R: Threads + Sync, G: Gate>(
 fn send<R: Threads + Sync, G: Gate>(
     rt: &R,
     alloc: Global,
-    values: &Table,
+    values: &BaseTable,
     tables: &GateTables<'_>,
     drawn: &[Ext],
     sent: &mut Vec<u8>,

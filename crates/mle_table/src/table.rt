@@ -1,14 +1,13 @@
 //! Tables of a power of two of values.
 
-ghost use Rattle.std.specs.Prelude.{◌≡◌, ◌≤◌, ◌*◌, ◌<◌, ◌^◌, ◌+◌, ◌↔◌, ℕ, length, map, vec_len, slice_get, Some, IsOk, IfOk, IfErr, IsTrue};
-ghost use Rattle.field_ext.specs.Field.{k_ops, embed_k};
+ghost use Rattle.std.specs.Prelude.{◌≡◌, ◌≤◌, ◌*◌, ◌<◌, ◌^◌, ◌+◌, ◌↔◌, ℕ, length, vec_len, slice_get, Some, IsOk, IfOk, IfErr};
+ghost use Rattle.field_ext.specs.Field.{k_ops};
 ghost use Rattle.field_ext.specs.Multilinear.{folded, extension_at};
 ghost use Rattle.mle_table.specs.Equality.{IsEqTable};
-ghost use Rattle.mle_table.specs.Shape.{AreBase};
 
 use crate::equality::fill_equality;
 use crate::values;
-use field_ext::{Ext, Fp};
+use field_ext::Ext;
 use std::alloc::{AllocError, Global};
 use std::marker::Model;
 
@@ -17,10 +16,7 @@ use std::marker::Model;
 pub struct Table {
     k: u32,
     values: Vec<Ext>,
-    // Whether all values are known to lie in the base field.
-    base: bool,
     ghost whole: { vec_len values ≡ 2 ^ k },
-    ghost in_base: { IsTrue base → AreBase values.items },
 }
 
 impl Model for Table {
@@ -55,28 +51,10 @@ impl Table {
         }
         let k = values.len().ilog2();
         if values.len() == 1usize << k {
-            Ok(Table {
-                k,
-                values,
-                base: false,
-            })
+            Ok(Table { k, values })
         } else {
             Err(NotPower { values })
         }
-    }
-
-    /// The table of these values of the base field, of which there is a power of two, as elements of K.
-    /// Err only where no memory is found.
-    pub fn of_base(alloc: Global, values: &[Fp]) -> Result<Table, AllocError>
-        requires { (k : ℕ) × (length values.now ≡ 2 ^ k) }
-        ensures { IfOk result (λ t. t.items ≡ map embed_k values.now) }
-    {
-        let items = values::embedded(alloc, values)?;
-        Ok(Table {
-            k: values.len().ilog2(),
-            values: items,
-            base: true,
-        })
     }
 
     /// How many coordinates the table has: it has `2^k` values.
@@ -103,21 +81,12 @@ impl Table {
         self.values.as_slice()
     }
 
-    /// Whether all values are known to lie in the base field, as those of `of_base` are.
-    #[inline]
-    pub fn is_base(&self) -> bool
-        ensures { IsTrue result → AreBase self.now.items }
-    {
-        self.base
-    }
-
     /// Binds the first coordinate to `r`, in place: half as many values, the line through two neighbours at `r`.
     pub fn fold(&mut self, r: Ext)
         requires { 1 ≤ self.old.k }
         ensures items { self.new.items ≡ folded k_ops self.old.items r }
         ensures k { self.new.k + 1 ≡ self.old.k }
     {
-        self.base = false;
         values::fold_values(&mut self.values, r);
         self.k -= 1;
     }
@@ -151,7 +120,6 @@ impl Table {
         Ok(Table {
             k: point.len() as u32,
             values,
-            base: false,
         })
     }
 }

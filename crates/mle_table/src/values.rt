@@ -12,11 +12,12 @@ pub(crate) fn embedded(alloc: Global, values: &[Fp]) -> Result<Vec<Ext>, AllocEr
     ensures { IfOk result (λ v. v.items ≡ map embed_k values.now) }
 {
     let mut items = vec![in alloc; Ext::zero(); values.len()]?;
-    embed(values, &mut items);
+    embed_into(values, &mut items);
     Ok(items)
 }
 
-fn embed(values: &[Fp], items: &mut [Ext])
+/// Writes numbers of the base field as elements of K.
+pub fn embed_into(values: &[Fp], items: &mut [Ext])
     requires { length items.old ≡ length values.now }
     ensures { items.new ≡ map embed_k values.now }
 {

@@ -5,7 +5,7 @@ use crate::spelled::bytes_of;
 use circuit_core::{Circuit, Shape};
 use field_ext::{Ext, Fp};
 use gkr_verify::Verdict;
-use mle_table::Table;
+use mle_table::BaseTable;
 use pair_reduce::{decode_pair, encode_pair, pair_at, proof_len_pair};
 use proof_wire::{BadProof, ProofForm, ProofRefused};
 use std::alloc::{AllocError, Global};
@@ -238,7 +238,7 @@ fn tells_lengths_by_pairs(rt: HostRuntime) -> Result<(), Fail> {
 }
 
 /// Sees the values of the table of 0, 3, 4, 0 at (2, -1) and at (3, 5).
-fn sees_both_values<R: Abort + AllocGlobal>(rt: &R, table: &Table) -> Result<(), Fail> {
+fn sees_both_values<R: Abort + AllocGlobal>(rt: &R, table: &BaseTable) -> Result<(), Fail> {
     if table.k() != 2 {
         return Err(Fail::new("another size"));
     }
@@ -252,9 +252,7 @@ fn sees_both_values<R: Abort + AllocGlobal>(rt: &R, table: &Table) -> Result<(),
 /// The extension of 0, 3, 4, 0 at (2, -1) and at (3, 5).
 #[test]
 fn gives_the_values_at_both_points(rt: HostRuntime) -> Result<(), Fail> {
-    let values = numbers(rt.alloc(), &[0, 3, 4, 0])?;
-    let Ok(table) = Table::of_values(values) else {
-        return Err(Fail::new("no power of two"));
-    };
-    sees_both_values(&rt, &table)
+    let zero = Fp::zero();
+    let values = vec![in rt.alloc(); zero, Fp::reduce(3), Fp::reduce(4), zero]?;
+    sees_both_values(&rt, &BaseTable::of(values))
 }

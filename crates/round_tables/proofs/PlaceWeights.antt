@@ -75,5 +75,4 @@ copied-layer layer first second is one two =
           ∙ ap (λ (p : Place K). position_weight k_ops p g) (sym place);
       first_rows = copied-rows (length layer.gates.now) layer.first first one is.first_rows;
       second_rows = λ b. copied-rows (length layer.gates.now) layer.second second two (is.second_rows b);
-      in_base = is.in_base;
     }

@@ -2,7 +2,6 @@
 use Rattle.std.specs.Prelude.{◌≡◌, ⊤, ℕ, ◌+◌, ◌-◌, ◌^◌, ◌≤◌, ◌<◌, true, false, IsTrue, List, [], ◌∷◌, ◌++◌, length, map, take, vec_len, if◌then◌else◌, All, Option, Some, None}
 use Rattle.std.specs.declared.snapshot.Snapshot.{Snapshot}
 use Rattle.field_ext.specs.Field.{K, k_ops, add_k}
-use Rattle.mle_table.specs.Shape.{AreBase}
 use Rattle.circuit_core.specs.declared.gate.CircuitGate.{CircuitGate}
 use Rattle.round_tables.specs.declared.layer_gates.LayerGates.{LayerGates}
 use Rattle.round_tables.specs.declared.working.Working.{Working}
@@ -32,7 +31,6 @@ pub record IsLayerGates (layer : LayerGates) : Type 0 where
       → weights_of layer g ≡ position_weight k_ops (place_of layer) g
   pub first_rows : HasRows (length layer.gates.now) layer.first
   pub second_rows : IsTrue layer.both → HasRows (length layer.gates.now) layer.second
-  pub in_base : IsTrue layer.base → AreBase layer.values.now.items
 
 -- the challenges bound so far
 abbrev pub bound_of : Working → List K

@@ -20,7 +20,7 @@ use circuit_core::{Circuit, CircuitGate};
 use circuit_eval::Values;
 use field_ext::Ext;
 use gkr_layers::ClaimPlace;
-use mle_table::Table;
+use mle_table::BaseTable;
 use std::alloc::{AllocError, Global};
 use std::marker::{Brand, Model};
 use std::snapshot::Snapshot;
@@ -82,7 +82,7 @@ impl<'a> GateTables<'a> {
     pub fn start_in(
         buffers: Buffers,
         gates: &'a [CircuitGate],
-        values: &'a Table,
+        values: &'a BaseTable,
         point: &[Ext],
     ) -> Result<GateTables<'a>, TooSmallBuffers>
         requires least { 1 ≤ values.now.k }
@@ -127,7 +127,7 @@ impl<'a> GateTables<'a> {
     pub fn start_two_in(
         buffers: Buffers,
         gates: &'a [CircuitGate],
-        values: &'a Table,
+        values: &'a BaseTable,
         first: &[Ext],
         second: &[Ext],
         weight: Ext,
@@ -152,7 +152,7 @@ impl<'a> GateTables<'a> {
     pub fn start_at(
         buffers: Buffers,
         gates: &'a [CircuitGate],
-        values: &'a Table,
+        values: &'a BaseTable,
         place: &ClaimPlace<'_>,
     ) -> Result<GateTables<'a>, TooSmallBuffers>
         requires layer { IsLayer K values.now.k gates.now values.now.items

@@ -11,7 +11,7 @@ use crate::kept_point::KeptPoint;
 use circuit_core::CircuitGate;
 use field_ext::Ext;
 use gate_gather::Weights;
-use mle_table::Table;
+use mle_table::BaseTable;
 
 /// The gates of a layer over the `2^k` values of the layer below, and where the claim on it is: at `first`, or at
 /// `first` with weight 1 and `second` with the weight given, by which its values are multiplied.
@@ -19,13 +19,11 @@ use mle_table::Table;
 pub(crate) struct LayerGates<'a> {
     pub(crate) k: usize,
     pub(crate) gates: &'a [CircuitGate],
-    pub(crate) values: &'a Table,
+    pub(crate) values: &'a BaseTable,
     pub(crate) first: KeptPoint,
     pub(crate) second: KeptPoint,
     pub(crate) weight: Ext,
     pub(crate) both: bool,
-    /// Whether all values are known to lie in the base field.
-    pub(crate) base: bool,
 }
 
 /// Two to a small power.
@@ -40,7 +38,7 @@ impl<'a> LayerGates<'a> {
     /// Keeps the layer with the weights of its positions, for a claim at the first point.
     pub(crate) fn new(
         gates: &'a [CircuitGate],
-        values: &'a Table,
+        values: &'a BaseTable,
         mut first: KeptPoint,
         second: KeptPoint,
     ) -> LayerGates<'a>
@@ -62,14 +60,13 @@ impl<'a> LayerGates<'a> {
             second,
             weight: Ext::zero(),
             both: false,
-            base: values.is_base(),
         }
     }
 
     /// The same for a claim at both points.
     pub(crate) fn new_two(
         gates: &'a [CircuitGate],
-        values: &'a Table,
+        values: &'a BaseTable,
         mut first: KeptPoint,
         mut second: KeptPoint,
         weight: Ext,
@@ -96,7 +93,6 @@ impl<'a> LayerGates<'a> {
             second,
             weight,
             both: true,
-            base: values.is_base(),
         }
     }
 }

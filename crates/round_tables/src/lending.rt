@@ -146,7 +146,6 @@ impl<'a> Lending<'a> {
                 second,
                 weight: self.layer.weight,
                 both: self.layer.both,
-                base: self.layer.base,
             },
             bound,
             value: self.value,

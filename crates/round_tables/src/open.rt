@@ -16,7 +16,7 @@ use crate::working::Working;
 use circuit_core::CircuitGate;
 use field_ext::Ext;
 use gkr_layers::ClaimPlace;
-use mle_table::Table;
+use mle_table::BaseTable;
 use std::marker::{Brand, Model};
 use std::sync::ledger::{Blank, Ledger};
 use step_count::Steps;
@@ -63,7 +63,7 @@ impl<'a> OpenTables<'a> {
     pub(crate) fn start_in(
         buffers: Buffers,
         gates: &'a [CircuitGate],
-        values: &'a Table,
+        values: &'a BaseTable,
         point: &[Ext],
     ) -> Result<OpenTables<'a>, TooSmallBuffers>
         requires least { 1 ≤ values.now.k }
@@ -93,7 +93,7 @@ impl<'a> OpenTables<'a> {
     pub(crate) fn start_two_in(
         buffers: Buffers,
         gates: &'a [CircuitGate],
-        values: &'a Table,
+        values: &'a BaseTable,
         first: &[Ext],
         second: &[Ext],
         weight: Ext,
@@ -128,7 +128,7 @@ impl<'a> OpenTables<'a> {
     pub fn start_at(
         buffers: Buffers,
         gates: &'a [CircuitGate],
-        values: &'a Table,
+        values: &'a BaseTable,
         place: &ClaimPlace<'_>,
     ) -> Result<OpenTables<'a>, TooSmallBuffers>
         requires layer { IsLayer K values.now.k gates.now values.now.items

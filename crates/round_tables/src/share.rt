@@ -74,7 +74,6 @@ impl<'a> Share<'a> {
             &self.layer.values.values()[self.from..to],
             &self.scales,
             &self.shifts,
-            self.layer.base,
         );
         self.done = true;
     }

@@ -1,7 +1,7 @@
 //! The working tables of a layer's sumcheck.
 
-ghost use Rattle.std.specs.Prelude.{◌≡◌, ◌≢◌, ℕ, ◌≤◌, ◌<◌, ◌+◌, ◌-◌, ◌*◌, ◌^◌, IfOk, IsTrue, false, [], ◌∷◌, ◌++◌, All, length, if◌then◌else◌, ◌==◌, slice_index_or};
-ghost use Rattle.field_ext.specs.Field.{K, k_ops, zero_k};
+ghost use Rattle.std.specs.Prelude.{◌≡◌, ◌≢◌, ℕ, ◌≤◌, ◌<◌, ◌+◌, ◌-◌, ◌*◌, ◌^◌, IfOk, IsTrue, false, [], ◌∷◌, ◌++◌, All, length, map, if◌then◌else◌, ◌==◌, slice_index_or};
+ghost use Rattle.field_ext.specs.Field.{K, k_ops, zero_k, embed_k};
 ghost use Rattle.field_ext.specs.Multilinear.{eq_poly};
 ghost use Rattle.gate_gather.specs.Gathering.{GathersLeft, GathersRight};
 ghost use Rattle.table_parts.specs.PartTables.{PartTables, HasSize, flat_table, flat_scales, flat_shifts, AreLaidOut};
@@ -10,8 +10,8 @@ ghost use Rattle.round_tables.specs.LayerSum.{left_in_phase, half_size, part_of_
 ghost use Rattle.round_tables.specs.Working.{place_of, weights_of, parts_of, IsLayerGates, HasCapacities, AreSameCapacities, AreFolded, IsAdvanced, IsBeginning, GathersPhase, Begins, WorksFor, bound_of};
 
 use crate::layer_gates::{LayerGates, power};
-use field_ext::Ext;
-use gate_gather::{Base, EqualityAt, Whole, gather_left, gather_right};
+use field_ext::{Ext, Fp};
+use gate_gather::{EqualityAt, gather_left, gather_right};
 use std::alloc::{AllocError, Global};
 use std::mem::replace;
 use std::snapshot::Snapshot;
@@ -48,22 +48,18 @@ pub(crate) fn pair_count(k: usize, count: usize) -> usize
 /// The tables of the first phase, of the places from `from` on, over these values of the layer.
 fn gather_first(
     layer: &LayerGates<'_>,
-    values: &[Ext],
+    values: &[Fp],
     from: usize,
     scales: &mut [Ext],
     shifts: &mut [Ext],
 )
     requires layer { IsLayerGates layer.now }
-    requires values { values.now ≡ layer.now.values.now.items }
+    requires values { map embed_k values.now ≡ layer.now.values.now.items }
     requires same { length shifts.old ≡ length scales.old }
-    ensures { GathersLeft K k_ops layer.now.gates.now (weights_of layer.now) values.now from
-        scales.new shifts.new }
+    ensures { GathersLeft K k_ops layer.now.gates.now (weights_of layer.now) (map embed_k values.now)
+        from scales.new shifts.new }
 {
-    if layer.base {
-        gather_left::<Base, LayerGates<'_>>(layer.gates, layer, values, from, scales, shifts);
-    } else {
-        gather_left::<Whole, LayerGates<'_>>(layer.gates, layer, values, from, scales, shifts);
-    }
+    gather_left(layer.gates, layer, values, from, scales, shifts);
 }
 
 /// The tables of the second phase, of the places from `from` on, where the left operand is bound at this point and has this value.
@@ -220,7 +216,6 @@ impl Working {
             layer.values.values(),
             &self.scales,
             &self.shifts,
-            layer.base,
         );
         self.merged = false;
     }

@@ -10,7 +10,7 @@ use crate::adding::{no_message, plus};
 use crate::lines::LineShare;
 use crew::Crew;
 use field_ext::Ext;
-use mle_table::Table;
+use mle_table::BaseTable;
 use phase_run::PartWork;
 use round_tables::Share;
 use std::alloc::{AllocError, Global};
@@ -34,7 +34,7 @@ pub struct Job<'a> {
 /// The work of a crew: each job is done as it says.
 #[derive(Drop)]
 pub struct Jobs<'a> {
-    tables: PhantomData<&'a Table>,
+    tables: PhantomData<&'a BaseTable>,
 }
 
 impl<'a> Jobs<'a> {

@@ -5,7 +5,6 @@ ghost use Rattle.field_ext.specs.Field.{k_ops};
 ghost use Rattle.field_ext.specs.Polynomial.{coefficients};
 ghost use Rattle.gkr_layers.specs.Sumcheck.{line_polynomial};
 ghost use Rattle.line_reduce.specs.Parts.{joined, most_coordinates, part_coefficients, part_coordinates, parts_of};
-ghost use Rattle.mle_table.specs.Shape.{AreBase};
 ghost use Rattle.sumcheck_prove.specs.Jobs.{HasLine, aimed, line_of};
 ghost use Rattle.sumcheck_prove.specs.Lines.{aimed_line, worked_line};
 
@@ -13,33 +12,29 @@ use crate::jobs::{Job, Jobs, job_with};
 use crew::Crew;
 use field_ext::Ext;
 use line_reduce::{LinePart, PART_COEFFICIENTS, line_of_parts};
-use mle_table::Table;
+use mle_table::BaseTable;
 use std::alloc::{AllocError, Global};
 use std::marker::Model;
 use std::sync::Wait;
 
-/// A part of a line, and the table of the base field over which it is.
+/// A part of a line, and the table over which it is.
 #[derive(Drop)]
 pub(crate) struct LineShare<'a> {
     part: LinePart,
-    table: &'a Table,
+    table: &'a BaseTable,
 }
 
 impl<'a> Model for LineShare<'a> {
-    ghost use Rattle.mle_table.specs.Shape.{AreBase};
     ghost use Rattle.sumcheck_prove.specs.Lines.{LineView};
 
     ghost Value = { LineView };
 
     ghost view = { λ l. record { part = l.part; values = l.table.now.items } };
-
-    ghost invariant = { λ l. AreBase l.table.now.items };
 }
 
 impl<'a> LineShare<'a> {
     /// A part of a line over this table, without points yet.
-    fn new(alloc: Global, table: &'a Table) -> Result<LineShare<'a>, AllocError>
-        requires { AreBase table.now.items }
+    fn new(alloc: Global, table: &'a BaseTable) -> Result<LineShare<'a>, AllocError>
         ensures { IfOk result (λ line. line.values ≡ table.now.items) }
     {
         Ok(LineShare {
@@ -77,7 +72,7 @@ impl<'a> LineShare<'a> {
 pub struct LineJobs<'a> {
     jobs: Vec<Job<'a>>,
     lines: Vec<Ext>,
-    table: &'a Table,
+    table: &'a BaseTable,
 }
 
 impl<'a> Model for LineJobs<'a> {
@@ -95,9 +90,12 @@ impl<'a> Model for LineJobs<'a> {
 }
 
 impl<'a> LineJobs<'a> {
-    /// For a line of so many parts over this table of the base field. Err only where no memory is found; no later call takes any.
-    pub fn new(alloc: Global, table: &'a Table, parts: usize) -> Result<LineJobs<'a>, AllocError>
-        requires base { AreBase table.now.items }
+    /// For a line of so many parts over this table. Err only where no memory is found; no later call takes any.
+    pub fn new(
+        alloc: Global,
+        table: &'a BaseTable,
+        parts: usize,
+    ) -> Result<LineJobs<'a>, AllocError>
         requires few { parts ≤ 512 }
         ensures number { IfOk result (λ jobs. jobs.number ≡ parts) }
         ensures values { IfOk result (λ jobs. jobs.values ≡ table.now.items) }
@@ -109,8 +107,11 @@ impl<'a> LineJobs<'a> {
 }
 
 /// Jobs for so many parts of a line over this table.
-fn line_jobs<'a>(alloc: Global, table: &'a Table, parts: usize) -> Result<Vec<Job<'a>>, AllocError>
-    requires { AreBase table.now.items }
+fn line_jobs<'a>(
+    alloc: Global,
+    table: &'a BaseTable,
+    parts: usize,
+) -> Result<Vec<Job<'a>>, AllocError>
     ensures count { IfOk result (λ jobs. vec_len jobs ≡ parts) }
     ensures lines { IfOk result (λ jobs. All (HasLine table.now.items) jobs.items) }
 {
@@ -177,7 +178,7 @@ fn collected(jobs: &[Job<'_>], mut lines: Vec<Ext>) -> Vec<Ext>
 /// works the parts of the table, in any order. It takes no memory.
 pub fn line_by<'a, R: Wait>(
     rt: &R,
-    table: &Table,
+    table: &BaseTable,
     b: &[Ext],
     c: &[Ext],
     crew: &mut Crew<'_, Jobs<'a>>,

@@ -1,7 +1,7 @@
 //! A part of a phase's tables.
 
-ghost use Rattle.std.specs.Prelude.{◌≡◌, ◌≤◌, ◌<◌, ◌+◌, ◌*◌, IfOk, IsTrue, [], ◌++◌, All, length};
-ghost use Rattle.field_ext.specs.Field.{K, k_ops};
+ghost use Rattle.std.specs.Prelude.{◌≡◌, ◌≤◌, ◌<◌, ◌+◌, ◌*◌, IfOk, IsTrue, [], ◌++◌, All, length, map, vec_capacity};
+ghost use Rattle.field_ext.specs.Field.{K, k_ops, embed_k};
 ghost use Rattle.field_ext.specs.Polynomial.{value_at};
 ghost use Rattle.field_ext.specs.Sums.{sum_below};
 ghost use Rattle.mle_table.specs.Shape.{AreBase};
@@ -12,8 +12,9 @@ use crate::column::Column;
 use crate::folding::halve;
 use crate::pairs::columns_sum;
 use crate::parts::PART_VALUES;
-use field_ext::Ext;
+use field_ext::{Ext, Fp};
 use gate_gather::{Base, Whole};
+use mle_table::embed_into;
 use std::alloc::{AllocError, Global};
 use std::marker::{Brand, Model};
 use std::sync::ledger::{Blank, Ledger};
@@ -48,6 +49,18 @@ impl Model for Part {
     ghost invariant = { λ p. (p.capacity ≤ vec_capacity p.table)
         × (p.capacity ≤ p.scales.capacity) × (p.capacity ≤ p.shifts.capacity)
         × (IsTrue p.base → AreBase p.table.items) };
+}
+
+/// Writes numbers of the base field in place of the values of a list, as elements of K.
+fn write_elements(items: &mut Vec<Ext>, values: &[Fp])
+    requires { length values.now ≤ vec_capacity items.old }
+    ensures items { items.new.items ≡ map embed_k values.now }
+    ensures capacity { vec_capacity items.old ≤ vec_capacity items.new }
+{
+    let Ok(()) = items.resize(values.len(), Ext::zero()) else {
+        unreachable!()
+    };
+    embed_into(values, items);
 }
 
 impl Part {
@@ -118,26 +131,23 @@ impl Part {
         self.table.as_slice()
     }
 
-    /// Writes the values of its range, of which those of the first table lie in the base field if `base` is true.
-    pub(crate) fn write(&mut self, table: &[Ext], scales: &[Ext], shifts: &[Ext], base: bool)
+    /// Writes the values of its range, of which those of the first table lie in the base field.
+    pub(crate) fn write(&mut self, table: &[Fp], scales: &[Ext], shifts: &[Ext])
         requires table { length table.now ≤ self.old.capacity }
         requires scales { length scales.now ≤ self.old.capacity }
         requires shifts { length shifts.now ≤ self.old.capacity }
-        requires base { IsTrue base → AreBase table.now }
         ensures { self.new ≡ record {
-          table = table.now;
+          table = map embed_k table.now;
           scales = scales.now;
           shifts = shifts.now;
           capacity = self.old.capacity;
         } }
     {
         self.clear();
-        let Ok(()) = self.table.extend_from_slice(table) else {
-            unreachable!()
-        };
+        write_elements(&mut self.table, table);
         self.scales.write(scales);
         self.shifts.write(shifts);
-        self.base = base;
+        self.base = true;
     }
 
     /// Puts the values of another part after its own.

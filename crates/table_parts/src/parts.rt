@@ -1,11 +1,11 @@
 //! The parts of a phase's tables, all together.
 
-ghost use Rattle.std.specs.Prelude.{◌≡◌, ◌≤◌, ◌<◌, ◌+◌, ◌-◌, ◌*◌, ◌^◌, IfOk, IsTrue, map, length, All};
-ghost use Rattle.mle_table.specs.Shape.{AreBase};
+ghost use Rattle.std.specs.Prelude.{◌≡◌, ◌≤◌, ◌<◌, ◌+◌, ◌-◌, ◌*◌, ◌^◌, IfOk, map, length, All};
+ghost use Rattle.field_ext.specs.Field.{embed_k};
 ghost use Rattle.table_parts.specs.PartTables.{HasSize, HasCapacity, cuts, folded_part, flat_table, flat_scales, flat_shifts};
 
 use crate::part::Part;
-use field_ext::Ext;
+use field_ext::{Ext, Fp};
 use std::alloc::{AllocError, Global};
 use std::sync::ledger::Ledger;
 use step_count::Steps;
@@ -59,29 +59,21 @@ fn fit_each(parts: &mut [Part], capacity: usize) -> Result<(), AllocError>
     Ok(())
 }
 
-/// Cuts three tables into the parts, `size` values to each.
-pub fn fill_parts(
-    parts: &mut [Part],
-    size: usize,
-    table: &[Ext],
-    scales: &[Ext],
-    shifts: &[Ext],
-    base: bool,
-)
+/// Cuts three tables into the parts, `size` values to each. The values of the first lie in the base field.
+pub fn fill_parts(parts: &mut [Part], size: usize, table: &[Fp], scales: &[Ext], shifts: &[Ext])
     requires table { length table.now ≡ length parts.old * size }
     requires scales { length scales.now ≡ length parts.old * size }
     requires shifts { length shifts.now ≡ length parts.old * size }
-    requires base { IsTrue base → AreBase table.now }
     requires capacities { All (HasCapacity size) parts.old }
     ensures capacities { All (HasCapacity size) parts.new }
     ensures sizes { All (HasSize size) parts.new }
-    ensures table { flat_table parts.new ≡ table.now }
+    ensures table { flat_table parts.new ≡ map embed_k table.now }
     ensures scales { flat_scales parts.new ≡ scales.now }
     ensures shifts { flat_shifts parts.new ≡ shifts.now }
 {
     for i in 0..parts.len() {
         let (from, to) = (i * size, i * size + size);
-        parts[i].write(&table[from..to], &scales[from..to], &shifts[from..to], base);
+        parts[i].write(&table[from..to], &scales[from..to], &shifts[from..to]);
     }
 }
 

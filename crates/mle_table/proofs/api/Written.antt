@@ -16,6 +16,10 @@ embedded_base [] i = refl
 embedded_base (x ∷ xs) zero = refl
 embedded_base (x ∷ xs) (suc i) = embedded_base xs i
 
+-- a value that is read of numbers of the base field, as an element of K
+pub embedded_read : (xs : List F) (i : ℕ) (x : F) (y : K) → i < length xs → x ≡ get_or xs i x → y ≡ embed_k x → y ≡ get_or (map embed_k xs) i zero_k
+embedded_read xs i x y u is e = e ∙ ap embed_k is ∙ sym (get_or-map embed_k xs i x zero_k u)
+
 -- a range of values of the base field
 pub base_range : (values : List K) (from size : ℕ) → AreBase values → AreBase (take size (drop from values))
 base_range values from size base i = by_size (cases_lt i size)

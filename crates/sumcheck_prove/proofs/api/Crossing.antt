@@ -35,8 +35,8 @@ use Rattle.sumcheck_prove.specs.contracts.lines.LineShare as line_share
 use Rattle.sumcheck_prove.specs.contracts.lines.LineShare.TheInside as inside_line_share
 use Rattle.sumcheck_prove.specs.contracts.pieces.PieceSums as sums
 use Rattle.circuit_core.specs.contracts.gate.CircuitGate as gate
-use Rattle.mle_table.specs.contracts.table.Table as table
-use Rattle.mle_table.specs.contracts.table.Table.TheInside as inside_table
+use Rattle.mle_table.specs.contracts.base_table.BaseTable as table
+use Rattle.mle_table.specs.contracts.base_table.BaseTable.TheInside as inside_table
 use Rattle.field_ext.specs.contracts.fp.Fp as fp
 use Rattle.field_ext.specs.contracts.fp.Fp.TheInside as inside_fp
 use Rattle.field_ext.specs.contracts.ext.Ext as ext
@@ -72,8 +72,11 @@ gate_sync = search (crosses, sendable) depth 14
 values_sync : IsSync (as_row (vec.the_field ext.the_row heap.the_row heap_impl.ghosts))
 values_sync = as_row_sync (vec.the_field ext.the_row heap.the_row heap_impl.ghosts) (Vec-sync ext.the_row ext_sync)
 
+numbers_sync : IsSync (as_row (vec.the_field fp.the_row heap.the_row heap_impl.ghosts))
+numbers_sync = as_row_sync (vec.the_field fp.the_row heap.the_row heap_impl.ghosts) (Vec-sync fp.the_row fp_sync)
+
 table_inside_sync : IsSync inside_table.the_row
-table_inside_sync = declared_sync inside_table.the_type (word_sync, (values_sync, (flag_sync, tt)))
+table_inside_sync = declared_sync inside_table.the_type (word_sync, (numbers_sync, tt))
 
 table_sync : IsSync table.the_row
 table_sync = search (view_sync, table_inside_sync)
@@ -106,7 +109,7 @@ kept_point_sync : IsSync kept_point.the_row
 kept_point_sync = declared_sync kept_point.the_type (values_sync, (values_sync, (values_sync, tt)))
 
 layer_sync : (κ : NamedLft) → IsSync (layer.the_row κ)
-layer_sync κ = declared_sync (layer.the_type κ) (size_sync, (gates_sync κ, (lent_table_sync κ, (kept_point_sync, (kept_point_sync, (as_row_sync ext.the_field ext_sync, (flag_sync, (flag_sync, tt))))))))
+layer_sync κ = declared_sync (layer.the_type κ) (size_sync, (gates_sync κ, (lent_table_sync κ, (kept_point_sync, (kept_point_sync, (as_row_sync ext.the_field ext_sync, (flag_sync, tt)))))))
 
 lent_sync : IsSync (as_row (option.the_field (snapshot.the_row working.the_row)))
 lent_sync = as_row_sync (option.the_field (snapshot.the_row working.the_row)) (search (crosses, sendable) depth 8)
@@ -175,7 +178,7 @@ kept_point_send : IsSend kept_point.the_row
 kept_point_send = declared_send kept_point.the_type (values_send, (values_send, (values_send, tt)))
 
 layer_send : (κ : NamedLft) → IsSend (layer.the_row κ)
-layer_send κ = declared_send (layer.the_type κ) (size_send, (gates_send κ, (lent_table_send κ, (kept_point_send, (kept_point_send, (as_row_send ext.the_field ext_send, (flag_send, (flag_send, tt))))))))
+layer_send κ = declared_send (layer.the_type κ) (size_send, (gates_send κ, (lent_table_send κ, (kept_point_send, (kept_point_send, (as_row_send ext.the_field ext_send, (flag_send, tt)))))))
 
 line_part_inside_send : IsSend inside_line_part.the_row
 line_part_inside_send = declared_send inside_line_part.the_type (values_send, (values_send, (values_send, (values_send, tt))))

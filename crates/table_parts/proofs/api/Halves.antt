@@ -1,7 +1,7 @@
 -- Parts of a table that are folded by themselves, and put one after another
 use Rattle.std.proofs.Common.{◌≡◌, ℕ, zero, suc, ◌+◌, ◌-◌, ◌*◌, ◌/◌, ◌<◌, ◌≤◌, List, [], ◌∷◌, ◌++◌, length, map, take, drop, set, get_or, All, Bool, if◌then◌else◌, refl, sym, ◌∙◌, ap, ap₂, arith, subst, length-append, lt-ltb, append-nil, append_assoc, add-one}
 use Rattle.std.proofs.lemmas.Bool.{le-ltb}
-use Rattle.std.proofs.lemmas.List.{ext_get_or, length-take-le, length-drop, get_or_append_left, get_or-append_right, take_all, take_more_set}
+use Rattle.std.proofs.lemmas.List.{ext_get_or, length-take-le, length-drop, get_or_append_left, get_or-append_right, take_all, take_more_set, take-map, drop-map}
 use Rattle.std.specs.List.{slice_range}
 use Rattle.std.proofs.lemmas.List.Elements.{All-nil, All-cons, All-append}
 use Rattle.field_ext.specs.Ring.{Ops}
@@ -24,6 +24,10 @@ same-front d n a b u v e =
 
 take-all : {A : Type 0} (n : ℕ) (l : List A) → length l ≡ n → take n l ≡ l
 take-all n l e = take_all n l (omega arith)
+
+-- a range of what is made of each element
+pub range-map : {X Y : Type 0} (f : X → Y) (xs : List X) (a b : ℕ) → map f (slice_range xs a b) ≡ slice_range (map f xs) a b
+range-map f xs a b = sym (ap (take (b - a)) (drop-map f a xs) ∙ take-map f (b - a) (drop a xs))
 
 module _ {A : Type 0} (o : Ops A) where
   -- a table of 2 n values folds to one of n

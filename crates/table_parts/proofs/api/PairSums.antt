@@ -2,7 +2,7 @@
 use Rattle.std.proofs.Common.{◌≡◌, ℕ, ◌*◌, ◌≤◌, List, length, refl, sym, ◌∙◌, arith, lit<}
 use Rattle.field_ext.specs.Field.{K, k_ops}
 use Rattle.field_ext.proofs.api.KLaws.{k_laws}
-use Rattle.field_ext.specs.Polynomial.{coefficients, value_at, polynomial_ops}
+use Rattle.field_ext.specs.Polynomial.{value_at, polynomial_ops}
 use Rattle.field_ext.specs.Sums.{sum_below}
 use Rattle.mle_table.proofs.api.SumLaws.{sum_below-same}
 use Rattle.wiring_poly.proofs.api.Hom.{sum_below-hom}

@@ -14,15 +14,15 @@ use Rattle.audit_core.proofs.outputs.claimed_less_true.Goals as goal
 pub subtract_from-requires : goal.subtract_from-requires
 subtract_from-requires c =
     let circuit = c.args.circuit.now in
-    let table = c.table-table.ensures ∙ c.requires.values.1.each 0 (omega arith) in
-    let size = c.deref_mut.ensures.len ∙ c.in_ok-items.ensures.len ∙ ap length (c.values.ensures ∙ table) ∙ table_width circuit c.requires.values.0 c.args.outputs.now c.requires.outputs in
+    let table = c.table.ensures ∙ c.requires.values.1.each 0 (omega arith) in
+    let size = c.deref_mut.ensures.len ∙ c.in_ok-items.items.ok.0 ∙ ap length (c.in_ok-items.ensures ∙ table) ∙ table_width circuit c.requires.values.0 c.args.outputs.now c.requires.outputs in
     omega (arith, size, c.requires.outputs, outputs_room circuit)
 
 pub returns-clause-k : goal.returns-clause-k
 returns-clause-k c =
     let circuit = c.args.circuit.now in
-    let table = c.table-table.ensures ∙ c.requires.values.1.each 0 (omega arith) in
-    let size = c.deref_mut.ensures.len ∙ c.in_ok-items.ensures.len ∙ ap length (c.values.ensures ∙ table) ∙ table_width circuit c.requires.values.0 c.args.outputs.now c.requires.outputs in
+    let table = c.table.ensures ∙ c.requires.values.1.each 0 (omega arith) in
+    let size = c.deref_mut.ensures.len ∙ c.in_ok-items.items.ok.0 ∙ ap length (c.in_ok-items.ensures ∙ table) ∙ table_width circuit c.requires.values.0 c.args.outputs.now c.requires.outputs in
     let written = c.in-Ok.ensures.table ∙ written_back c.in_ok-items.items.items c.subtract_from.new.items c.in_ok-items.items.len (c.subtract_from.auto.items ∙ c.deref_mut.ensures.len) in
     same_exponent c.in-Ok.table.k (exponent_at c.args.circuit.now.parts 0)
     (sym c.in-Ok.table.whole ∙ ap length written ∙ c.subtract_from.auto.items ∙ size ∙ (size_of circuit 0 (omega arith)).0)
@@ -30,8 +30,8 @@ returns-clause-k c =
 pub returns-clause-items : goal.returns-clause-items
 returns-clause-items c inputs tables =
     let circuit = c.args.circuit.now in
-    let table = c.table-table.ensures ∙ tables.each 0 (omega arith) in
-    let old = c.deref_mut.ensures.value ∙ c.in_ok-items.ensures.items ∙ c.values.ensures ∙ table in
+    let table = c.table.ensures ∙ tables.each 0 (omega arith) in
+    let old = c.deref_mut.ensures.value ∙ c.in_ok-items.ensures ∙ table in
     let size = ap length old ∙ table_width circuit inputs c.args.outputs.now c.requires.outputs in
     c.in-Ok.ensures.table
     ∙ written_back c.in_ok-items.items.items c.subtract_from.new.items c.in_ok-items.items.len (c.subtract_from.auto.items ∙ c.deref_mut.ensures.len)

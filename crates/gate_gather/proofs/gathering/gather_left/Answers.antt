@@ -1,6 +1,6 @@
 -- Block after block, the gates that are sent into the range are sent to their left operands
-use Rattle.std.proofs.Common.{◌≡◌, ◌≤◌, ◌<◌, ◌+◌, ◌*◌, ℕ, min, length, get_or, arith}
-use Rattle.field_ext.specs.Field.{K, k_ops}
+use Rattle.std.proofs.Common.{◌≡◌, ◌≤◌, ◌<◌, ◌+◌, ◌*◌, ℕ, min, length, map, get_or, arith}
+use Rattle.field_ext.specs.Field.{K, k_ops, embed_k}
 use Rattle.field_ext.proofs.api.KLaws.{k_laws}
 use Rattle.circuit_core.specs.Parts.{zero_gate}
 use Rattle.gate_gather.specs.Gathering.{left_of, left_scale, left_shift}
@@ -22,7 +22,7 @@ loop-block-init g c = record {
 
 pub loop-k-preserved : goal.loop-k-preserved
 loop-k-preserved g c =
-    let values = c.args.values.now in
+    let values = map embed_k c.args.values.now in
     let weight : ℕ → K = g.W.Weights.weight c.args.weights.now in
     let start = c.loop-block.block * 128 in
     let within : c.min-end.result ≤ length c.args.gates.now = omega (arith, c.min-end.ensures) in
@@ -36,7 +36,7 @@ loop-k-preserved g c =
 
 pub loop-block-preserved : goal.loop-block-preserved
 loop-block-preserved g c =
-    let values = c.args.values.now in
+    let values = map embed_k c.args.values.now in
     let weight : ℕ → K = g.W.Weights.weight c.args.weights.now in
     let start = c.loop-block.block * 128 in
     let within : c.min-end.result ≤ length c.args.gates.now = omega (arith, c.min-end.ensures) in

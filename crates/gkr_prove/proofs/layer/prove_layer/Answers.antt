@@ -32,10 +32,7 @@ rounds-requires g c κs =
             c.requires.layer.most,
             (
               c.in_ok-tables.ensures.k,
-              (
-                c.requires.base,
-                subst (λ (n : ℕ). IsTrue (source.has s (n + n))) (sym c.in_ok-tables.ensures.k) (has_front source s (k + k) 1 c.requires.has),
-              ),
+              subst (λ (n : ℕ). IsTrue (source.has s (n + n))) (sym c.in_ok-tables.ensures.k) (has_front source s (k + k) 1 c.requires.has),
             ),
           ),
         ),

@@ -1,10 +1,9 @@
 -- One layer more
 use Rattle.std.proofs.Common.{◌≡◌, ℕ, ◌+◌, ◌<◌, ◌≤◌, ◌++◌, List, [], ◌∷◌, IsTrue, length, get_or, arith, refl, ◌∙◌, ap, sym, subst, append-nil, append_assoc}
 use Rattle.field_ext.specs.Field.{F, K, k_ops}
-use Rattle.circuit_core.specs.Parts.{Parts, height, input_table, layer_values}
+use Rattle.circuit_core.specs.Parts.{Parts, height, input_table}
 use Rattle.circuit_core.specs.Sound.{exponent_at}
-use Rattle.mle_table.specs.Shape.{TableValues, AreBase}
-use Rattle.mle_table.proofs.api.Written.{embedded_base}
+use Rattle.mle_table.specs.Shape.{TableValues}
 use Rattle.gkr_layers.specs.Layers.{GateLayer, layers_of, lower_exponents, message_count, layers_below, layer_at, next_place}
 use Rattle.transcript_fs.specs.Source.{Source, draws, state_after}
 use Rattle.proof_wire.specs.declared.messages.LayerMessages.{LayerMessages}
@@ -41,11 +40,8 @@ prove_layer-requires g c κs =
         (
           is_layer circuit i c.table.result.now c.gates.result.now (place_of c.claim_place.result) u e c.gates.ensures.value (subst (IsOver (exponent_at c.args.circuit.now.parts c.loop-layer.layer)) (sym c.claim_place.ensures) c.loop-layer.invariant.position),
           (
-            subst AreBase (sym (c.table.ensures ∙ c.requires.can.values_are.1.each (i + 1) v)) (embedded_base (layer_values p inputs (i + 1))),
-            (
-              few_gates circuit i c.gates.result.now u c.gates.ensures.value,
-              subst (λ (k : ℕ). IsTrue (source.has s (k + k + 1))) (sym e) (has_layer source s (layer_at p i) (layers_below p (i + 1)) (has_here p source s i u c.loop-layer.invariant.has)),
-            ),
+            few_gates circuit i c.gates.result.now u c.gates.ensures.value,
+            subst (λ (k : ℕ). IsTrue (source.has s (k + k + 1))) (sym e) (has_layer source s (layer_at p i) (layers_below p (i + 1)) (has_here p source s i u c.loop-layer.invariant.has)),
           ),
         ),
       ),

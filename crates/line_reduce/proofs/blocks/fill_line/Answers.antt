@@ -1,5 +1,5 @@
-use Rattle.std.proofs.Common.{◌+◌, ◌-◌, ◌*◌, ◌/◌, ◌%◌, ◌^◌, ℕ, length, arith, refl, sym, ◌∙◌, ap}
-use Rattle.field_ext.specs.Field.{k_ops}
+use Rattle.std.proofs.Common.{◌+◌, ◌-◌, ◌*◌, ◌/◌, ◌%◌, ◌^◌, ℕ, length, map, arith, refl, sym, ◌∙◌, ap}
+use Rattle.field_ext.specs.Field.{k_ops, embed_k}
 use Rattle.field_ext.proofs.api.KLaws.{k_laws}
 use Rattle.line_reduce.specs.Rows.{weighted_sum}
 use Rattle.line_reduce.proofs.BlockSums.{a_block, blocks_of, block_folds, line_in_front, line_fits}
@@ -33,7 +33,7 @@ pub returns : goal.returns
 returns c =
     let s : ℕ = 1 * 2 ^ c.args.known % 18446744073709551616 in
     let n = c.args.known in
-    let values = c.args.values.now in
+    let values = map embed_k c.args.values.now in
     let b = c.args.b.now in
     let block = a_block c.args.known (1 * 2 ^ c.args.known % 18446744073709551616) c.requires.some c.requires.few refl in
     let blocks = blocks_of (length c.args.b.now) c.args.known s (length c.args.values.now) c.requires.known block.size c.requires.size in

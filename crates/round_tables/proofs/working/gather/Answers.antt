@@ -1,5 +1,5 @@
 -- What is gathered is the phase's
-use Rattle.std.proofs.Common.{rules, ◌≡◌, ◌<◌, length}
+use Rattle.std.proofs.Common.{rules, ◌≡◌, ◌<◌, length, sym}
 use Rattle.field_ext.specs.Field.{K, k_ops}
 use Rattle.gate_gather.specs.Gathering.{GathersLeft}
 use Rattle.round_tables.specs.Working.{place_of, weights_of}
@@ -11,7 +11,7 @@ returns-then-is_empty-clause-gathers g c =
     let layer = c.args.layer.now in
     let none : length c.args.bound.now ≡ 0 = search rules in
     let gathers : GathersLeft K k_ops c.args.layer.now.gates.now (weights_of c.args.layer.now) c.args.layer.now.values.now.items c.args.from c.gather_first.new.scales c.gather_first.new.shifts =
-    coe 0 1 (i. GathersLeft K k_ops c.args.layer.now.gates.now (weights_of c.args.layer.now) (c.values.ensures i) c.args.from c.gather_first.new.scales c.gather_first.new.shifts) c.gather_first.ensures in
+    coe 0 1 (i. GathersLeft K k_ops c.args.layer.now.gates.now (weights_of c.args.layer.now) (sym c.values.ensures i) c.args.from c.gather_first.new.scales c.gather_first.new.shifts) c.gather_first.ensures in
     first-phase layer.k layer.gates.now layer.values.now.items (place_of layer) c.requires.layer.layer_is (weights_of layer) c.args.bound.now c.args.from c.gather_first.new.scales c.gather_first.new.shifts
     (no-values c.args.bound.now none) c.requires.layer.weights gathers
 

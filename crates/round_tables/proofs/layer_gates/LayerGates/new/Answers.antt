@@ -16,5 +16,4 @@ returns-clause-holds c =
       weights = λ g u. product-is point g c.fill.ensures.tables (omega (arith, u, whole));
       first_rows = record { low = c.fill.ensures.rows.low; high = c.fill.ensures.rows.high ∙ ap (λ (n : ℕ). n / 1024 + 1) positions };
       second_rows = search rules;
-      in_base = search rules;
     }

@@ -1,5 +1,5 @@
 -- The weights are the sums of both points' values
-use Rattle.std.proofs.Common.{rules, ◌≡◌, ℕ, ◌+◌, ◌/◌, ◌^◌, length, vec_len, sym, ◌∙◌, ap, ap₂, arith}
+use Rattle.std.proofs.Common.{◌≡◌, ℕ, ◌+◌, ◌/◌, ◌^◌, length, vec_len, sym, ◌∙◌, ap, ap₂, arith}
 use Rattle.field_ext.specs.Field.{k_ops, add_k, mul_k}
 use Rattle.field_ext.specs.Multilinear.{eq_poly}
 use Rattle.gkr_layers.specs.Places.Place.{AtBoth}
@@ -26,5 +26,4 @@ returns-clause-holds c =
           ∙ (λ i. mul_k c.args.weight (eq_poly k_ops (sym c.scale.ensures.point i).items g)));
       first_rows = record { low = c.fill.ensures.rows.low; high = c.fill.ensures.rows.high ∙ ap (λ (n : ℕ). n / 1024 + 1) positions };
       second_rows = λ _. record { low = ap vec_len c.scale.ensures.low ∙ c.fill-2.ensures.rows.low; high = c.scale.ensures.high ∙ c.fill-2.ensures.rows.high ∙ ap (λ (n : ℕ). n / 1024 + 1) positions' };
-      in_base = search rules;
     }

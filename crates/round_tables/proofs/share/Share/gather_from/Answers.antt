@@ -1,15 +1,11 @@
 -- The parts have the values of the range, and what is gathered
 use Rattle.std.proofs.Common.{◌≡◌, ℕ, ◌+◌, ◌-◌, ◌*◌, ◌++◌, length, take, drop, vec_len, All, arith, sym, ◌∙◌, ap, subst}
 use Rattle.wiring_poly.proofs.api.Identity.{written_back}
-use Rattle.mle_table.specs.Shape.{AreBase}
+use Rattle.field_ext.specs.Field.{embed_k}
 use Rattle.table_parts.specs.PartTables.{HasCapacity, HasSize, flat_table, flat_scales, flat_shifts}
 use Rattle.round_tables.specs.Working.{GathersPhase, place_of}
-use Rattle.mle_table.proofs.api.Written.{base_range}
+use Rattle.table_parts.proofs.api.Halves.{range-map}
 use Rattle.round_tables.proofs.share.Share.gather_from.Goals as goal
-
-pub fill_parts-requires-clause-base : goal.fill_parts-requires-clause-base
-fill_parts-requires-clause-base g c =
-    λ b. base_range c.values.result.now c.self.inside.from (c.self.inside.from + c.len.result - c.self.inside.from) (subst AreBase (sym c.values.ensures) (c.self.invariant.layer_is.in_base b))
 
 pub invariant_of-self : goal.invariant_of-self
 invariant_of-self g c =
@@ -30,7 +26,7 @@ invariant_of-self g c =
       capacities = subst (All (HasCapacity self.size)) (sym back) c.fill_parts.ensures.capacities;
       gathered = λ _. record {
         sizes = subst (All (HasSize self.size)) (sym back) c.fill_parts.ensures.sizes;
-        table = ap flat_table back ∙ c.fill_parts.ensures.table ∙ (λ i. take (width i) (drop self.from (c.values.ensures i)));
+        table = ap flat_table back ∙ c.fill_parts.ensures.table ∙ range-map embed_k c.values.result.now self.from (self.from + c.len.result) ∙ (λ i. take (width i) (drop self.from (sym c.values.ensures i)));
         gathers = coe 0 1 (i. GathersPhase self.layer.gates.now self.layer.values.now.items (place_of self.layer) (c.deref.ensures.value i) self.from (sym scales i) (sym shifts i)) c.gather.ensures.gathers;
       };
     }

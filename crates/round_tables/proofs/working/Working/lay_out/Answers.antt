@@ -1,12 +1,14 @@
 -- The values fill the parts
 use Rattle.std.proofs.Common.{ℕ, ◌-◌, ◌*◌, ◌^◌, length, ◌∙◌, ap, ap₂, sym}
+use Rattle.std.proofs.lemmas.List.{length-map}
+use Rattle.field_ext.specs.Field.{embed_k}
 use Rattle.round_tables.proofs.Advances.{whole-parts}
 use Rattle.round_tables.proofs.working.Working.lay_out.Goals as goal
 
 pub fill_parts-requires-clause-table : goal.fill_parts-requires-clause-table
 fill_parts-requires-clause-table c =
     let k = c.args.layer.now.k in
-    ap length c.values.ensures ∙ c.requires.layer.layer_is.size ∙ sym (whole-parts k)
+    sym (length-map c.values.result.now embed_k) ∙ ap length (sym c.values.ensures) ∙ c.requires.layer.layer_is.size ∙ sym (whole-parts k)
     ∙ ap₂ (λ (a b : ℕ). a * b) (sym (ap length c.deref_mut.ensures.value ∙ c.requires.capacities.many)) (sym (c.power.ensures ∙ ap (λ (x : ℕ). 2 ^ (k - x)) c.cut_count.ensures.cuts))
 
 pub fill_parts-requires-clause-scales : goal.fill_parts-requires-clause-scales

@@ -2,7 +2,7 @@
 use Rattle.std.proofs.Common.{arith}
 use Rattle.field_ext.specs.Field.{embed_k, zero_k, of}
 use Rattle.mle_table.proofs.api.Written.{written}
-use Rattle.mle_table.proofs.values.embed.Goals as goal
+use Rattle.mle_table.proofs.values.embed_into.Goals as goal
 
 pub returns : goal.returns
 returns c =
