@@ -1,3 +1,4 @@
+mod Lines
 mod Numbers
 mod WordLaws
 mod WordsRead
