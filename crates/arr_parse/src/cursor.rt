@@ -1,6 +1,6 @@
 //! The tokens of a text, from the left.
 
-ghost use Rattle.std.specs.Prelude.{◌≡◌, ◌≤◌, ◌<◌, ℕ, suc, true, List, [], ◌∷◌, Some, length, IfOk, OnOk, IfErr, IfNone, IfSome, OnSome, MatchBool, MatchResult, map};
+ghost use Rattle.std.specs.Prelude.{◌≡◌, ◌≤◌, ◌<◌, ℕ, suc, true, false, List, [], ◌∷◌, Some, length, IfOk, OnOk, IfErr, IfNone, IfSome, OnSome, MatchBool, MatchResult, map};
 ghost use Rattle.arr_lex.specs.declared.token.Symbol.TheVariants.{Input as InputWord, Def as DefinitionWord, Output as OutputWord, Star, OpenRound, CloseRound, OpenSquare, Comma, Equals, Semicolon};
 ghost use Rattle.arr_ast.specs.declared.lang.Lang.{Lang};
 ghost use Rattle.arr_parse.specs.declared.refused.ParseRefused.TheVariants.{Syntax, Nesting};
@@ -107,7 +107,7 @@ impl<'t> Cursor<'t> {
             self.old.tokens) }
     {
         let token = self.next()?;
-        if token.symbol == due {
+        if is_due(due, token.symbol) {
             Ok(())
         } else {
             Err(ParseRefused::Syntax { at: token.start })
@@ -405,4 +405,12 @@ impl<'t> Cursor<'t> {
             _ => false,
         }
     }
+}
+
+/// Whether a symbol is the separator that is due.
+fn is_due(due: Symbol, symbol: Symbol) -> bool
+    requires { is_the due due ≡ true }
+    ensures { MatchBool result (symbol ≡ due) (is_the due symbol ≡ false) }
+{
+    symbol == due
 }

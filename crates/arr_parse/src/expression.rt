@@ -1,12 +1,12 @@
 //! Expressions, from the left.
 
-ghost use Rattle.std.specs.Prelude.{◌≡◌, ◌<◌, ◌≤◌, suc, [], ◌∷◌, ◌++◌, List, length, map, IfOk, OnOk, flat_map};
-ghost use Rattle.arr_lex.specs.declared.token.Symbol.TheVariants.{OpenRound, CloseRound};
+ghost use Rattle.std.specs.Prelude.{◌≡◌, ◌<◌, ◌≤◌, suc, [], ◌∷◌, ◌++◌, List, Some, length, map, IfOk, OnOk, flat_map};
+ghost use Rattle.arr_lex.specs.declared.token.Symbol.TheVariants.{Minus, OpenRound, CloseRound};
 ghost use Rattle.arr_parse.specs.Mark.{Placed, Separator, mark};
 ghost use Rattle.arr_parse.specs.IndexSpelling.{name_spelling};
 ghost use Rattle.arr_parse.specs.Spelling.{single_symbol, pair_symbol, expression_spelling, term_spelling, factor_spelling, added_term_spelling, times_factor_spelling, further_spelling};
-ghost use Rattle.arr_parse.specs.Grammar.{Part, The, AnExpression, MoreTerms, ATerm, MoreFactors, AFactor, AfterName, MoreArguments, FirstIndex, OneArgument, TwoArguments};
-ghost use Rattle.arr_parse.specs.Reading.{levels as levels_of, refusal};
+ghost use Rattle.arr_parse.specs.Grammar.{Part, The, AnExpression, MoreTerms, ATerm, MoreFactors, AFactor, EndOfNegation, AfterName, MoreArguments, FirstIndex, OneArgument, TwoArguments};
+ghost use Rattle.arr_parse.specs.Reading.{levels as levels_of, unless_refused, refusal};
 ghost use Rattle.arr_parse.specs.Parsed.{Agrees};
 ghost use Rattle.arr_parse.specs.Steps.{Takes, Reads};
 
@@ -35,7 +35,6 @@ pub fn expression(cursor: &mut Cursor) -> Result<Expression, ParseRefused>
 /// The same on the heap, as all that is nested in it is made.
 #[cycle(expression)]
 #[inline(never)]
-#[tactic(auto, using(crate::proofs::Rows::of_expressions))]
 fn boxed_expression(cursor: &mut Cursor) -> Result<Box<Expression>, ParseRefused>
     ensures spelled { IfOk result
         (λ found. Takes [] cursor.old (expression_spelling found.value) cursor.new) }
@@ -51,7 +50,6 @@ fn boxed_expression(cursor: &mut Cursor) -> Result<Box<Expression>, ParseRefused
 
 /// Adds the further terms of an expression.
 #[cycle(expression)]
-#[tactic(auto, using(crate::proofs::Rows::of_expressions))]
 fn added_terms(cursor: &mut Cursor, added: &mut Vec<AddedTerm>) -> Result<(), ParseRefused>
     ensures spelled { OnOk result (Takes (flat_map added_term_spelling added.old.items) cursor.old
         (flat_map added_term_spelling added.new.items) cursor.new) }
@@ -66,7 +64,6 @@ fn added_terms(cursor: &mut Cursor, added: &mut Vec<AddedTerm>) -> Result<(), Pa
 
 #[cycle(expression)]
 #[inline(never)]
-#[tactic(auto, using(crate::proofs::Rows::of_expressions))]
 fn term(cursor: &mut Cursor) -> Result<Box<Term>, ParseRefused>
     ensures spelled { IfOk result
         (λ found. Takes [] cursor.old (term_spelling found.value) cursor.new) }
@@ -82,7 +79,6 @@ fn term(cursor: &mut Cursor) -> Result<Box<Term>, ParseRefused>
 
 /// Adds the further factors of a term.
 #[cycle(expression)]
-#[tactic(auto, using(crate::proofs::Rows::of_expressions))]
 fn times_factors(cursor: &mut Cursor, times: &mut Vec<TimesFactor>) -> Result<(), ParseRefused>
     ensures spelled { OnOk result (Takes (flat_map times_factor_spelling times.old.items) cursor.old
         (flat_map times_factor_spelling times.new.items) cursor.new) }
@@ -97,7 +93,6 @@ fn times_factors(cursor: &mut Cursor, times: &mut Vec<TimesFactor>) -> Result<()
 
 #[cycle(expression)]
 #[inline(never)]
-#[tactic(auto, using(crate::proofs::Rows::of_expressions))]
 fn factor(cursor: &mut Cursor) -> Result<Box<Factor>, ParseRefused>
     ensures spelled { IfOk result
         (λ found. Takes [] cursor.old (factor_spelling found.value) cursor.new) }
@@ -111,18 +106,8 @@ fn factor(cursor: &mut Cursor) -> Result<Box<Factor>, ParseRefused>
             let name = cursor.name(token);
             after_name(cursor, name)
         }
-        Symbol::Minus => {
-            cursor.open(at)?;
-            let operand = factor(cursor)?;
-            cursor.end_level();
-            Ok(negation(cursor.alloc(), at, operand)?)
-        }
-        Symbol::OpenRound => {
-            cursor.open(at)?;
-            let inner = boxed_expression(cursor)?;
-            cursor.close(Symbol::CloseRound)?;
-            Ok(parenthesized(cursor.alloc(), at, inner)?)
-        }
+        Symbol::Minus => negated(cursor, at),
+        Symbol::OpenRound => in_parentheses(cursor, at),
         Symbol::Sum => single(cursor, SingleFunction::Sum, at),
         Symbol::Transpose => single(cursor, SingleFunction::Transpose, at),
         Symbol::Scale => pair(cursor, PairFunction::Scale, at),
@@ -132,10 +117,66 @@ fn factor(cursor: &mut Cursor) -> Result<Box<Factor>, ParseRefused>
     }
 }
 
+/// A negation, after its `-`.
+#[cycle(expression)]
+#[inline(never)]
+fn negated(cursor: &mut Cursor, at: usize) -> Result<Box<Factor>, ParseRefused>
+    ensures spelled { IfOk result (λ found. Takes (Placed at Minus ∷ []) cursor.old
+        (factor_spelling found.value) cursor.new) }
+    ensures exact { (due : List Part) → levels_of due ≡ cursor.old.levels →
+        Agrees (λ _. refusal cursor.old.source.lang (length cursor.old.source.text) due
+        cursor.new.tokens) result
+        (unless_refused at (Some (AFactor ∷ EndOfNegation ∷ due)) (λ next.
+        refusal cursor.old.source.lang (length cursor.old.source.text) next cursor.old.tokens)) }
+{
+    cursor.open(at)?;
+    let operand = factor(cursor)?;
+    cursor.end_level();
+    Ok(negation(cursor.alloc(), at, operand)?)
+}
+
+/// An expression in parentheses, after its `(`.
+#[cycle(expression)]
+#[inline(never)]
+fn in_parentheses(cursor: &mut Cursor, at: usize) -> Result<Box<Factor>, ParseRefused>
+    ensures spelled { IfOk result (λ found. Takes (Placed at OpenRound ∷ []) cursor.old
+        (factor_spelling found.value) cursor.new) }
+    ensures exact { (due : List Part) → levels_of due ≡ cursor.old.levels →
+        Agrees (λ _. refusal cursor.old.source.lang (length cursor.old.source.text) due
+        cursor.new.tokens) result
+        (unless_refused at (Some (AnExpression ∷ The CloseRound ∷ due)) (λ next.
+        refusal cursor.old.source.lang (length cursor.old.source.text) next cursor.old.tokens)) }
+{
+    cursor.open(at)?;
+    let inner = closed_expression(cursor)?;
+    Ok(parenthesized(cursor.alloc(), at, inner)?)
+}
+
+/// An expression and the `)` after it.
+#[cycle(expression)]
+#[inline(never)]
+fn closed_expression(cursor: &mut Cursor) -> Result<Box<Expression>, ParseRefused>
+    requires { 0 < cursor.old.levels }
+    ensures spelled { IfOk result (λ found. map (mark cursor.old.source) cursor.old.tokens
+        ≡ expression_spelling found.value
+        ++ (Separator CloseRound ∷ map (mark cursor.old.source) cursor.new.tokens)) }
+    ensures shorter { OnOk result (length cursor.new.tokens < length cursor.old.tokens) }
+    ensures source { OnOk result (cursor.new.source ≡ cursor.old.source) }
+    ensures levels { OnOk result (cursor.old.levels ≡ suc cursor.new.levels) }
+    ensures exact { (others : List Part) → suc (levels_of others) ≡ cursor.old.levels →
+        Agrees (λ _. refusal cursor.old.source.lang (length cursor.old.source.text) others
+        cursor.new.tokens) result
+        (refusal cursor.old.source.lang (length cursor.old.source.text)
+        (AnExpression ∷ The CloseRound ∷ others) cursor.old.tokens) }
+{
+    let inner = boxed_expression(cursor)?;
+    cursor.close(Symbol::CloseRound)?;
+    Ok(inner)
+}
+
 /// A name, its element at the indices after it, or a call with the arguments after it.
 #[cycle(expression)]
 #[inline(never)]
-#[tactic(auto, using(crate::proofs::Rows::of_expressions))]
 fn after_name(cursor: &mut Cursor, name: Name) -> Result<Box<Factor>, ParseRefused>
     ensures spelled { IfOk result (λ found.
         Takes (name_spelling name) cursor.old (factor_spelling found.value) cursor.new) }
@@ -162,7 +203,6 @@ fn name_or_element(cursor: &mut Cursor, name: Name) -> Result<Box<Factor>, Parse
 /// A call, after the `(` of its arguments.
 #[cycle(expression)]
 #[inline(never)]
-#[tactic(auto, using(crate::proofs::Rows::of_expressions))]
 fn call(cursor: &mut Cursor, name: Name, parenthesis: usize) -> Result<Box<Factor>, ParseRefused>
     requires { 0 < cursor.old.levels }
     ensures spelled { IfOk result (λ found.
@@ -189,7 +229,6 @@ fn call(cursor: &mut Cursor, name: Name, parenthesis: usize) -> Result<Box<Facto
 /// Adds the further arguments of a call, up to the `)` after them.
 #[cycle(expression)]
 #[inline(never)]
-#[tactic(auto, using(crate::proofs::Rows::of_expressions))]
 fn closed_arguments(cursor: &mut Cursor, further: &mut Vec<Expression>) -> Result<(), ParseRefused>
     requires { 0 < cursor.old.levels }
     ensures spelled { OnOk result (flat_map further_spelling further.old.items
@@ -212,7 +251,6 @@ fn closed_arguments(cursor: &mut Cursor, further: &mut Vec<Expression>) -> Resul
 
 /// Adds the further arguments of a call.
 #[cycle(expression)]
-#[tactic(auto, using(crate::proofs::Rows::of_expressions))]
 fn further_arguments(cursor: &mut Cursor, further: &mut Vec<Expression>) -> Result<(), ParseRefused>
     ensures spelled { OnOk result (Takes (flat_map further_spelling further.old.items) cursor.old
         (flat_map further_spelling further.new.items) cursor.new) }
@@ -228,7 +266,6 @@ fn further_arguments(cursor: &mut Cursor, further: &mut Vec<Expression>) -> Resu
 /// A call of a function of one argument, after the function's word.
 #[cycle(expression)]
 #[inline(never)]
-#[tactic(auto, using(crate::proofs::Rows::of_expressions))]
 fn single(
     cursor: &mut Cursor,
     function: SingleFunction,
@@ -239,8 +276,7 @@ fn single(
     ensures exact { Reads (OneArgument ∷ []) cursor.old result cursor.new }
 {
     let parenthesis = cursor.open_call()?;
-    let argument = boxed_expression(cursor)?;
-    cursor.close(Symbol::CloseRound)?;
+    let argument = closed_expression(cursor)?;
     let call = single_call(cursor.alloc(), function, at, parenthesis, argument)?;
     Ok(call)
 }
@@ -248,7 +284,6 @@ fn single(
 /// A call of a function of two arguments, after the function's word.
 #[cycle(expression)]
 #[inline(never)]
-#[tactic(auto, using(crate::proofs::Rows::of_expressions))]
 fn pair(cursor: &mut Cursor, function: PairFunction, at: usize) -> Result<Box<Factor>, ParseRefused>
     ensures spelled { IfOk result (λ found. Takes (Placed at (pair_symbol function) ∷ [])
         cursor.old (factor_spelling found.value) cursor.new) }
@@ -257,8 +292,7 @@ fn pair(cursor: &mut Cursor, function: PairFunction, at: usize) -> Result<Box<Fa
     let parenthesis = cursor.open_call()?;
     let left = boxed_expression(cursor)?;
     cursor.take(Symbol::Comma)?;
-    let right = boxed_expression(cursor)?;
-    cursor.close(Symbol::CloseRound)?;
+    let right = closed_expression(cursor)?;
     let call = pair_call(cursor.alloc(), function, at, parenthesis, left, right)?;
     Ok(call)
 }

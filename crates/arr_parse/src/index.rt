@@ -12,7 +12,6 @@ use arr_lex::Symbol;
 
 /// The index expression that is due.
 #[cycle(index)]
-#[tactic(auto, using(crate::proofs::IndexRows::of_indices))]
 pub fn index_expression(cursor: &mut Cursor) -> Result<IndexExpression, ParseRefused>
     ensures spelled { IfOk result (λ found. Takes [] cursor.old (index_spelling found) cursor.new) }
     ensures exact { Reads (AnIndex ∷ []) cursor.old result cursor.new }
@@ -27,7 +26,6 @@ pub fn index_expression(cursor: &mut Cursor) -> Result<IndexExpression, ParseRef
 }
 
 #[cycle(index)]
-#[tactic(auto, using(crate::proofs::IndexRows::of_indices))]
 fn index_term(cursor: &mut Cursor) -> Result<IndexTerm, ParseRefused>
     ensures spelled { IfOk result
         (λ found. Takes [] cursor.old (index_term_spelling found) cursor.new) }
@@ -41,7 +39,6 @@ fn index_term(cursor: &mut Cursor) -> Result<IndexTerm, ParseRefused>
 
 /// Adds the further factors of a term.
 #[cycle(index)]
-#[tactic(auto, using(crate::proofs::IndexRows::of_indices))]
 fn times_index_factors(
     cursor: &mut Cursor,
     times: &mut Vec<TimesIndexFactor>,
@@ -58,7 +55,6 @@ fn times_index_factors(
 }
 
 #[cycle(index)]
-#[tactic(auto, using(crate::proofs::IndexRows::of_indices))]
 fn index_factor(cursor: &mut Cursor) -> Result<IndexFactor, ParseRefused>
     ensures spelled { IfOk result
         (λ found. Takes [] cursor.old (index_factor_spelling found) cursor.new) }

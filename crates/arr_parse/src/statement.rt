@@ -3,7 +3,7 @@
 ghost use Rattle.std.specs.Prelude.{◌<◌, [], ◌∷◌, ◌++◌, length, IfOk, OnOk, flat_map};
 ghost use Rattle.arr_lex.specs.declared.token.Symbol.TheVariants.{In, Range, Equals, Semicolon, OpenCurly, CloseCurly, For as ForWord, Let as LetWord};
 ghost use Rattle.arr_parse.specs.Mark.{Separator, Placed};
-ghost use Rattle.arr_parse.specs.IndexSpelling.{name_spelling};
+ghost use Rattle.arr_parse.specs.IndexSpelling.{name_spelling, index_spelling};
 ghost use Rattle.arr_parse.specs.Spelling.{expression_spelling};
 ghost use Rattle.arr_parse.specs.ProgramSpelling.{statement_spelling};
 ghost use Rattle.arr_parse.specs.Grammar.{The, AName, AnExpression, AnIndex, FirstIndex, AStatement, Statements, Block};
@@ -15,7 +15,7 @@ use crate::expression::expression;
 use crate::index::index_expression;
 use crate::indices::maybe_indices;
 use crate::refused::ParseRefused;
-use arr_ast::{Expression, Name, Statement};
+use arr_ast::{Expression, IndexExpression, Name, Statement};
 use arr_lex::Symbol;
 
 /// The statement that is due.
@@ -32,7 +32,6 @@ pub fn statement(cursor: &mut Cursor) -> Result<Statement, ParseRefused>
 /// The same on the heap, as all that is nested in it is made.
 #[cycle(statement)]
 #[inline(never)]
-#[tactic(auto, using(crate::proofs::StatementRows::of_statements))]
 fn boxed_statement(cursor: &mut Cursor) -> Result<Box<Statement>, ParseRefused>
     ensures spelled { IfOk result
         (λ found. Takes [] cursor.old (statement_spelling found.value) cursor.new) }
@@ -104,7 +103,6 @@ pub fn ended_value(cursor: &mut Cursor) -> Result<Expression, ParseRefused>
 /// A loop, after its word.
 #[cycle(statement)]
 #[inline(never)]
-#[tactic(auto, using(crate::proofs::StatementRows::of_statements))]
 fn counted_loop(cursor: &mut Cursor, at: usize) -> Result<Box<Statement>, ParseRefused>
     ensures spelled { IfOk result (λ found. Takes (Placed at ForWord ∷ []) cursor.old
         (statement_spelling found.value) cursor.new) }
@@ -112,18 +110,29 @@ fn counted_loop(cursor: &mut Cursor, at: usize) -> Result<Box<Statement>, ParseR
         cursor.old result cursor.new }
 {
     let name = cursor.declared_name()?;
+    let (low, high) = bounds(cursor)?;
+    let body = block(cursor)?;
+    Ok(loop_of(cursor.alloc(), at, name, low, high, body)?)
+}
+
+/// `in l .. h`
+#[inline(never)]
+fn bounds(cursor: &mut Cursor) -> Result<(IndexExpression, IndexExpression), ParseRefused>
+    ensures spelled { IfOk result (λ found. Takes [] cursor.old (Separator In
+        ∷ (index_spelling found.0 ++ Separator Range ∷ index_spelling found.1)) cursor.new) }
+    ensures exact { Reads (The In ∷ AnIndex ∷ The Range ∷ AnIndex ∷ [])
+        cursor.old result cursor.new }
+{
     cursor.take(Symbol::In)?;
     let low = index_expression(cursor)?;
     cursor.take(Symbol::Range)?;
     let high = index_expression(cursor)?;
-    let body = block(cursor)?;
-    Ok(loop_of(cursor.alloc(), at, name, low, high, body)?)
+    Ok((low, high))
 }
 
 /// The statements of a block, with its brackets.
 #[cycle(statement)]
 #[inline(never)]
-#[tactic(auto, using(crate::proofs::StatementRows::of_statements))]
 fn block(cursor: &mut Cursor) -> Result<Vec<Statement>, ParseRefused>
     ensures spelled { IfOk result (λ found. Takes [] cursor.old (Separator OpenCurly
         ∷ (flat_map statement_spelling found.items ++ Separator CloseCurly ∷ [])) cursor.new) }
@@ -144,7 +153,6 @@ fn block(cursor: &mut Cursor) -> Result<Vec<Statement>, ParseRefused>
 /// As many statements as there are.
 #[cycle(statement)]
 #[inline(never)]
-#[tactic(auto, using(crate::proofs::StatementRows::of_statements))]
 fn statements(cursor: &mut Cursor) -> Result<Vec<Statement>, ParseRefused>
     ensures spelled { IfOk result (λ found. Takes [] cursor.old
         (flat_map statement_spelling found.items) cursor.new) }
