@@ -96,8 +96,22 @@ module _ {A S : Type 0} (operations : Operations A S) (definitions : List Defini
       ap (λ x. x >>= after_tasks operations definitions names tasks) (bind_assoc first product others)
       ∙ waits_for operations definitions names first (λ found. product found >>= others) tasks all task made e
 
--- a call goes by the definition that its name has, and begins with its first argument
+-- a call goes by the definition that its name has, and begins with its first argument, and each argument after it likewise
 module _ {A S : Type 0} (operations : Operations A S) (definitions : List Definition) (names : Names A) where
+  pub argument-begins : (at place : ℕ) (argument : ExpressionTree) (rest : List Expression) (passed : Passed A S) (tasks : List (Task A)) (task : Task A) →
+      ((found : Valued A S) → after_task operations definitions names task found ≡
+      (argument_values operations (calls_of operations definitions) rest names (with_argument passed.0 found) >>= call_at operations definitions at place)) →
+      (argument_value operations (calls_of operations definitions) argument names passed >>= argument_values operations (calls_of operations definitions) rest names >>=
+      call_at operations definitions at place >>= after_tasks operations definitions names tasks) ≡
+      expression_with operations definitions names argument (tasks ++ task ∷ []) passed.1 passed.2
+  argument-begins at place argument rest passed tasks task made =
+      let calls = calls_of operations definitions in
+      let first : Answer (Valued A S) = value_of operations calls argument names passed.1 passed.2 in
+      ap (λ x. x >>= after_tasks operations definitions names tasks)
+      (regroup first (with_argument passed.0) (argument_values operations calls rest names) (call_at operations definitions at place)
+      ∙ (λ i. first >>= λ found. sym (made found) i))
+      ∙ waits operations definitions names first tasks (tasks ++ task ∷ []) task refl
+
   pub call-goes : (name : NameTree) (parenthesis : ℕ) (first : ExpressionTree) (further : Vec Expression Global) (count : ℕ) (counts : Counts) (kept : S) → count ≡ length further.items →
       factor_value operations (calls_of operations definitions) (Call name parenthesis first (arguments_tree (hidden-the_row-Expression-0 further))) names counts kept ≡
       (named_with name.at (suc count) (definition_named name.number (newest_first definitions)) >>= λ found. callable_of operations name.at found >>= λ callable.
@@ -111,23 +125,19 @@ module _ {A S : Type 0} (operations : Operations A S) (definitions : List Defini
       ∙ called-with operations name.at (suc (length further.items)) (definition_named name.number (newest_first definitions)) go_on
       ∙ ap (λ (n : ℕ). named_with name.at (suc n) (definition_named name.number (newest_first definitions)) >>= λ found. callable_of operations name.at found >>= go_on) (sym counted)
 
-  pub call-begins : (name : NameTree) (parenthesis : ℕ) (first : ExpressionTree) (further : Vec Expression Global) (count place : ℕ) (counts : Counts) (kept : S) (tasks all : List (Task A)) (task : Task A) → count ≡ length further.items →
+  pub call-begins : (name : NameTree) (parenthesis : ℕ) (first : ExpressionTree) (further : Vec Expression Global) (count place : ℕ) (counts : Counts) (kept : S) (tasks : List (Task A)) (task : Task A) → count ≡ length further.items →
       named_with name.at (suc count) (definition_named name.number (newest_first definitions)) ≡ Ok (definition_at place definitions) →
       ((found : Valued A S) → after_task operations definitions names task found ≡
       (argument_values operations (calls_of operations definitions) further.items names (with_argument [] found) >>= call_at operations definitions name.at place)) →
-      all ≡ tasks ++ task ∷ [] →
-      factor_with operations definitions names (Call name parenthesis first (arguments_tree (hidden-the_row-Expression-0 further))) tasks counts kept ≡ expression_with operations definitions names first all counts kept
-  call-begins name parenthesis first further count place counts kept tasks all task counted named made e =
+      factor_with operations definitions names (Call name parenthesis first (arguments_tree (hidden-the_row-Expression-0 further))) tasks counts kept ≡ expression_with operations definitions names first (tasks ++ task ∷ []) counts kept
+  call-begins name parenthesis first further count place counts kept tasks task counted named made =
       let calls = calls_of operations definitions in
       let arguments : Answer (Passed A S) = argument_value operations calls first names ([], counts, kept) >>= argument_values operations calls further.items names in
-      let first_value : Answer (Valued A S) = value_of operations calls first names counts kept in
       let before : Option (DefinitionTree × List DefinitionTree) → Answer (Valued A S) = λ o. callable_of operations name.at o >>= λ callable. arguments >>= call_value name.at callable in
       let after : Option (DefinitionTree × List DefinitionTree) → Answer (Valued A S) = λ o. arguments >>= λ passed. callable_of operations name.at o >>= λ callable. call_value name.at callable passed in
       let it = named_with-some name.at (suc count) (definition_named name.number (newest_first definitions)) (definition_at place definitions) named in
       ap (λ x. x >>= after_tasks operations definitions names tasks)
       (call-goes name parenthesis first further count counts kept counted
       ∙ ap (λ x. x >>= before) named
-      ∙ ap before it.1 ∙ sym (ap after it.1)
-      ∙ regroup first_value (with_argument []) (argument_values operations calls further.items names) (call_at operations definitions name.at place)
-      ∙ (λ i. first_value >>= λ found. sym (made found) i))
-      ∙ waits operations definitions names first_value tasks all task e
+      ∙ ap before it.1 ∙ sym (ap after it.1))
+      ∙ argument-begins name.at place first further.items ([], counts, kept) tasks task made

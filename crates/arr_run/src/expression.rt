@@ -5,26 +5,24 @@
 //! are nested no deeper than there are definitions.
 
 ghost use Rattle.std.specs.Prelude.{◌≡◌, ◌+◌, ◌<◌, ◌≤◌, sum_by, IfOk};
-ghost use Rattle.arr_ast.specs.ExpressionTree.{expression_tree, term_tree, factor_tree};
+ghost use Rattle.arr_ast.specs.ExpressionTree.{expression_tree};
 ghost use Rattle.arr_run.specs.declared.counts.Counts.{Counts};
+ghost use Rattle.arr_run.specs.declared.task.Task.TheVariants.{Signed, Product, Argument};
 ghost use Rattle.arr_run.specs.Agrees.{Agrees};
-ghost use Rattle.arr_run.specs.Expression.{value_of};
+ghost use Rattle.arr_run.specs.Expression.{with_argument, value_of};
 ghost use Rattle.arr_run.specs.Steps.{calls_of};
-ghost use Rattle.arr_run.specs.Tasks.{Continues, call_at, expression_with, term_with, factor_with, task_with, added_with, times_with, arguments_with, next_with};
-ghost use Rattle.arr_run.specs.Work.{expression_work, term_work, factor_work, added_term_work, times_factor_work, further_work, task_work, tasks_work, next_work};
+ghost use Rattle.arr_run.specs.Tasks.{Continues, call_at, task_with, added_with, times_with, arguments_with, next_with};
+ghost use Rattle.arr_run.specs.Work.{added_term_work, times_factor_work, further_work, task_work, tasks_work, next_work};
 
 use crate::counts::{Counts, step};
-use crate::defined::{Defined, bind_parameters, callable_place};
+use crate::defined::{Defined, bind_parameters};
+use crate::factor::{begin, begin_operand, first_factor, first_of_term};
 use crate::machine::Machine;
-use crate::operation::{
-    constant_value, element_value, name_value, opposite_value, pair_value, product_value,
-    signed_value, single_value,
-};
+use crate::operation::{opposite_value, pair_value, product_value, signed_value, single_value};
 use crate::refused::{CheckKind, CheckRefused};
 use crate::scope::Scope;
 use crate::task::{Next, Task};
-use arr_ast::{AddedTerm, Expression, Factor, ShapeOf, Term, TimesFactor};
-use std::alloc::AllocError;
+use arr_ast::{AddedTerm, Expression, ShapeOf, Sign, TimesFactor};
 
 /// The value of an expression: its shape and its array. The list is emptied first.
 #[cycle(expression)]
@@ -57,140 +55,6 @@ pub fn value<'t, M: Machine>(
     }
 }
 
-/// The first factor of an expression, where what comes after it waits.
-fn first_factor<'t, M: Machine>(
-    defined: &Defined,
-    scope: &Scope<M::Array>,
-    tasks: &mut Vec<Task<'t, M::Array>>,
-    expression: &'t Expression,
-) -> Result<&'t Factor, AllocError>
-    ensures value { IfOk result (λ first. (counts : Counts) (kept : M) →
-        expression_with M.operations defined.now.definitions.now scope.now
-        (expression_tree expression.now) tasks.old.items counts kept
-        ≡ factor_with M.operations defined.now.definitions.now scope.now
-        (factor_tree first.now) tasks.new.items counts kept) }
-    ensures work { IfOk result (λ first.
-        factor_work (factor_tree first.now) + 1 + tasks_work tasks.new.items
-        ≤ expression_work (expression_tree expression.now) + tasks_work tasks.old.items) }
-{
-    if expression.added.is_empty() {
-        let first = first_of_term::<M>(defined, scope, tasks, &expression.first)?;
-        return Ok(first);
-    }
-    tasks.push(Task::Terms(&expression.added))?;
-    let first = first_of_term::<M>(defined, scope, tasks, &expression.first)?;
-    Ok(first)
-}
-
-/// The first factor of a term, where what comes after it waits.
-fn first_of_term<'t, M: Machine>(
-    defined: &Defined,
-    scope: &Scope<M::Array>,
-    tasks: &mut Vec<Task<'t, M::Array>>,
-    term: &'t Term,
-) -> Result<&'t Factor, AllocError>
-    ensures value { IfOk result (λ first. (counts : Counts) (kept : M) →
-        term_with M.operations defined.now.definitions.now scope.now
-        (term_tree term.now) tasks.old.items counts kept
-        ≡ factor_with M.operations defined.now.definitions.now scope.now
-        (factor_tree first.now) tasks.new.items counts kept) }
-    ensures work { IfOk result (λ first.
-        factor_work (factor_tree first.now) + 1 + tasks_work tasks.new.items
-        ≤ term_work (term_tree term.now) + tasks_work tasks.old.items) }
-{
-    if term.times.is_empty() {
-        return Ok(&term.first);
-    }
-    tasks.push(Task::Factors(&term.times))?;
-    Ok(&term.first)
-}
-
-/// Begins with a factor: with what is inside, or with its value.
-fn begin<'t, M: Machine>(
-    defined: &Defined,
-    scope: &Scope<M::Array>,
-    counts: &mut Counts,
-    machine: &mut M,
-    tasks: &mut Vec<Task<'t, M::Array>>,
-    factor: &'t Factor,
-) -> Result<Next<'t, M::Array>, CheckRefused>
-    ensures value { Continues (λ next. next_with M.operations defined.now.definitions.now scope.now
-        next tasks.new.items counts.new machine.new) result
-        (factor_with M.operations defined.now.definitions.now scope.now (factor_tree factor.now)
-        tasks.old.items counts.old machine.old) }
-    ensures work { IfOk result (λ next. next_work next + tasks_work tasks.new.items
-        ≤ factor_work (factor_tree factor.now) + tasks_work tasks.old.items) }
-{
-    match factor {
-        Factor::Number { at, value } => {
-            let (shape, array) = constant_value(counts, machine, *at, *value)?;
-            Ok(Next::Found(shape, array))
-        }
-        Factor::Name(name) => {
-            let (shape, array) = name_value(scope, counts, machine, name)?;
-            Ok(Next::Found(shape, array))
-        }
-        Factor::Element { name, indices } => {
-            let (shape, array) = element_value(scope, machine, name, indices)?;
-            Ok(Next::Found(shape, array))
-        }
-        Factor::Negation { at, operand } => {
-            tasks.push(Task::Opposite { at: *at })?;
-            Ok(Next::Inner(operand))
-        }
-        Factor::Parenthesized { inner, .. } => {
-            let first = first_factor::<M>(defined, scope, tasks, inner)?;
-            Ok(Next::Inner(first))
-        }
-        Factor::Single {
-            function,
-            at,
-            argument,
-            ..
-        } => {
-            tasks.push(Task::Single {
-                function: *function,
-                at: *at,
-            })?;
-            let first = first_factor::<M>(defined, scope, tasks, argument)?;
-            Ok(Next::Inner(first))
-        }
-        Factor::Pair {
-            function,
-            at,
-            left,
-            right,
-            ..
-        } => {
-            tasks.push(Task::Left {
-                function: *function,
-                at: *at,
-                right,
-            })?;
-            let first = first_factor::<M>(defined, scope, tasks, left)?;
-            Ok(Next::Inner(first))
-        }
-        Factor::Call {
-            name,
-            first,
-            further,
-            ..
-        } => {
-            let place = callable_place(defined.definitions, name, further.len())?;
-            let at = name.at;
-            let passed = Vec::new(defined.alloc);
-            tasks.push(Task::Argument {
-                at,
-                place,
-                passed,
-                further,
-            })?;
-            let first = first_factor::<M>(defined, scope, tasks, first)?;
-            Ok(Next::Inner(first))
-        }
-    }
-}
-
 /// Does the newest task with a value that is found.
 #[cycle(expression)]
 fn go_on<'t, M: Machine>(
@@ -211,42 +75,84 @@ fn go_on<'t, M: Machine>(
         < task_work task.entry + tasks_work tasks.old.items) }
 {
     match task {
-        Task::Terms(terms) => {
-            let next = add_terms::<M>(defined, scope, tasks, shape, array, terms)?;
-            Ok(next)
-        }
+        Task::Argument {
+            at,
+            place,
+            passed,
+            further,
+        } => pass(
+            defined,
+            scope,
+            counts,
+            machine,
+            tasks,
+            at,
+            place,
+            passed,
+            (shape, array),
+            further,
+        ),
+        task => do_task(defined, scope, counts, machine, tasks, task, shape, array),
+    }
+}
+
+/// Does a task other than to pass an argument, so that no call follows from it.
+fn do_task<'t, M: Machine>(
+    defined: &Defined,
+    scope: &Scope<M::Array>,
+    counts: &mut Counts,
+    machine: &mut M,
+    tasks: &mut Vec<Task<'t, M::Array>>,
+    task: Task<'t, M::Array>,
+    shape: ShapeOf,
+    array: M::Array,
+) -> Result<Next<'t, M::Array>, CheckRefused>
+    requires { (at place : _) (passed : _) (further : _) →
+        task ≡ Argument at place passed further → ⊥ }
+    ensures value { Continues (λ next. next_with M.operations defined.now.definitions.now scope.now
+        next tasks.new.items counts.new machine.new) result
+        (task_with M.operations defined.now.definitions.now scope.now task.entry
+        (shape, array, counts.old, machine.old) tasks.old.items) }
+    ensures work { IfOk result (λ next. next_work next + tasks_work tasks.new.items
+        < task_work task.entry + tasks_work tasks.old.items) }
+{
+    match task {
+        Task::Terms(terms) => add_terms::<M>(defined, scope, tasks, shape, array, terms),
         Task::Signed {
             sign,
             at,
             shape: left,
             array: kept,
             further,
-        } => {
-            let (shape, array) = signed_value(
-                counts,
-                machine,
-                sign,
-                at,
-                (left, kept),
-                (shape, array),
-            )?;
-            let next = add_terms::<M>(defined, scope, tasks, shape, array, further)?;
-            Ok(next)
-        }
-        Task::Factors(factors) => {
-            let next = multiply::<M>(defined, scope, tasks, shape, array, factors)?;
-            Ok(next)
-        }
+        } => add(
+            defined,
+            scope,
+            counts,
+            machine,
+            tasks,
+            sign,
+            at,
+            (left, kept),
+            (shape, array),
+            further,
+        ),
+        Task::Factors(factors) => multiply::<M>(defined, scope, tasks, shape, array, factors),
         Task::Product {
             at,
             shape: left,
             array: kept,
             further,
-        } => {
-            let (shape, array) = product_value(counts, machine, at, (left, kept), (shape, array))?;
-            let next = multiply::<M>(defined, scope, tasks, shape, array, further)?;
-            Ok(next)
-        }
+        } => times(
+            defined,
+            scope,
+            counts,
+            machine,
+            tasks,
+            at,
+            (left, kept),
+            (shape, array),
+            further,
+        ),
         Task::Opposite { at } => {
             let (shape, array) = opposite_value(counts, machine, at, (shape, array))?;
             Ok(Next::Found(shape, array))
@@ -260,14 +166,13 @@ fn go_on<'t, M: Machine>(
             at,
             right,
         } => {
-            tasks.push(Task::Right {
+            let task = Task::Right {
                 function,
                 at,
                 shape,
                 array,
-            })?;
-            let first = first_factor::<M>(defined, scope, tasks, right)?;
-            Ok(Next::Inner(first))
+            };
+            begin_operand::<M>(defined, scope, tasks, task, right)
         }
         Task::Right {
             function,
@@ -285,19 +190,57 @@ fn go_on<'t, M: Machine>(
             )?;
             Ok(Next::Found(shape, array))
         }
-        Task::Argument {
-            at,
-            place,
-            passed,
-            further,
-        } => {
-            let mut passed = passed;
-            passed.push((shape, array))?;
-            pass(
-                defined, scope, counts, machine, tasks, at, place, passed, further,
-            )
-        }
+        Task::Argument { .. } => unreachable!(),
     }
+}
+
+/// Adds a value to another, or takes it from that, and goes on with further terms.
+fn add<'t, M: Machine>(
+    defined: &Defined,
+    scope: &Scope<M::Array>,
+    counts: &mut Counts,
+    machine: &mut M,
+    tasks: &mut Vec<Task<'t, M::Array>>,
+    sign: Sign,
+    at: usize,
+    left: (ShapeOf, M::Array),
+    right: (ShapeOf, M::Array),
+    further: &'t [AddedTerm],
+) -> Result<Next<'t, M::Array>, CheckRefused>
+    ensures value { Continues (λ next. next_with M.operations defined.now.definitions.now scope.now
+        next tasks.new.items counts.new machine.new) result
+        (task_with M.operations defined.now.definitions.now scope.now
+        (Signed sign at left.0 left.1 further.entry) (right.0, right.1, counts.old, machine.old)
+        tasks.old.items) }
+    ensures work { IfOk result (λ next. next_work next + tasks_work tasks.new.items
+        ≤ sum_by added_term_work further.now + tasks_work tasks.old.items) }
+{
+    let (shape, array) = signed_value(counts, machine, sign, at, left, right)?;
+    add_terms::<M>(defined, scope, tasks, shape, array, further)
+}
+
+/// Multiplies a value by another, and goes on with further factors.
+fn times<'t, M: Machine>(
+    defined: &Defined,
+    scope: &Scope<M::Array>,
+    counts: &mut Counts,
+    machine: &mut M,
+    tasks: &mut Vec<Task<'t, M::Array>>,
+    at: usize,
+    left: (ShapeOf, M::Array),
+    right: (ShapeOf, M::Array),
+    further: &'t [TimesFactor],
+) -> Result<Next<'t, M::Array>, CheckRefused>
+    ensures value { Continues (λ next. next_with M.operations defined.now.definitions.now scope.now
+        next tasks.new.items counts.new machine.new) result
+        (task_with M.operations defined.now.definitions.now scope.now
+        (Product at left.0 left.1 further.entry) (right.0, right.1, counts.old, machine.old)
+        tasks.old.items) }
+    ensures work { IfOk result (λ next. next_work next + tasks_work tasks.new.items
+        ≤ sum_by times_factor_work further.now + tasks_work tasks.old.items) }
+{
+    let (shape, array) = product_value(counts, machine, at, left, right)?;
+    multiply::<M>(defined, scope, tasks, shape, array, further)
 }
 
 /// Goes on with the terms that are added to a value.
@@ -308,12 +251,12 @@ fn add_terms<'t, M: Machine>(
     shape: ShapeOf,
     array: M::Array,
     terms: &'t [AddedTerm],
-) -> Result<Next<'t, M::Array>, AllocError>
-    ensures value { IfOk result (λ next. (counts : Counts) (kept : M) →
-        added_with M.operations defined.now.definitions.now scope.now terms.now
-        (shape, array, counts, kept) tasks.old.items
-        ≡ next_with M.operations defined.now.definitions.now scope.now next tasks.new.items
-        counts kept) }
+) -> Result<Next<'t, M::Array>, CheckRefused>
+    ensures value { (counts : Counts) (kept : M) →
+        Continues (λ next. next_with M.operations defined.now.definitions.now scope.now
+        next tasks.new.items counts kept) result
+        (added_with M.operations defined.now.definitions.now scope.now terms.now
+        (shape, array, counts, kept) tasks.old.items) }
     ensures work { IfOk result (λ next. next_work next + tasks_work tasks.new.items
         ≤ sum_by added_term_work terms.now + tasks_work tasks.old.items) }
 {
@@ -339,12 +282,12 @@ fn multiply<'t, M: Machine>(
     shape: ShapeOf,
     array: M::Array,
     factors: &'t [TimesFactor],
-) -> Result<Next<'t, M::Array>, AllocError>
-    ensures value { IfOk result (λ next. (counts : Counts) (kept : M) →
-        times_with M.operations defined.now.definitions.now scope.now factors.now
-        (shape, array, counts, kept) tasks.old.items
-        ≡ next_with M.operations defined.now.definitions.now scope.now next tasks.new.items
-        counts kept) }
+) -> Result<Next<'t, M::Array>, CheckRefused>
+    ensures value { (counts : Counts) (kept : M) →
+        Continues (λ next. next_with M.operations defined.now.definitions.now scope.now
+        next tasks.new.items counts kept) result
+        (times_with M.operations defined.now.definitions.now scope.now factors.now
+        (shape, array, counts, kept) tasks.old.items) }
     ensures work { IfOk result (λ next. next_work next + tasks_work tasks.new.items
         ≤ sum_by times_factor_work factors.now + tasks_work tasks.old.items) }
 {
@@ -360,7 +303,7 @@ fn multiply<'t, M: Machine>(
     Ok(Next::Inner(&times.factor))
 }
 
-/// Goes on with the arguments that are left of a call, or with the call.
+/// Passes an argument, and goes on with the arguments that are left of a call, or with the call.
 #[inline(never)]
 #[cycle(expression)]
 fn pass<'t, M: Machine>(
@@ -372,27 +315,30 @@ fn pass<'t, M: Machine>(
     at: usize,
     place: usize,
     passed: Vec<(ShapeOf, M::Array)>,
+    found: (ShapeOf, M::Array),
     further: &'t [Expression],
 ) -> Result<Next<'t, M::Array>, CheckRefused>
     ensures value { Continues (λ next. next_with M.operations defined.now.definitions.now scope.now
         next tasks.new.items counts.new machine.new) result
         (arguments_with M.operations defined.now.definitions.now scope.now at place further.now
-        (passed.items, counts.old, machine.old) tasks.old.items) }
+        (with_argument passed.items (found.0, found.1, counts.old, machine.old))
+        tasks.old.items) }
     ensures work { IfOk result (λ next. next_work next + tasks_work tasks.new.items
         ≤ sum_by further_work further.now + tasks_work tasks.old.items) }
 {
+    let mut passed = passed;
+    passed.push(found)?;
     let Some((argument, further)) = further.split_first() else {
         let (shape, array) = call(defined, counts, machine, at, place, passed)?;
         return Ok(Next::Found(shape, array));
     };
-    tasks.push(Task::Argument {
+    let task = Task::Argument {
         at,
         place,
         passed,
         further,
-    })?;
-    let first = first_factor::<M>(defined, scope, tasks, argument)?;
-    Ok(Next::Inner(first))
+    };
+    begin_operand::<M>(defined, scope, tasks, task, argument)
 }
 
 /// The value of a call of the definition at a place, with all its arguments.

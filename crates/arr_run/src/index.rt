@@ -3,7 +3,7 @@
 ghost use Rattle.std.specs.Prelude.{◌≡◌, ◌≤◌, ◌^◌, nat_abs, ◌*ℤ◌, IfOk};
 ghost use Rattle.arr_ast.specs.IndexTree.{sum_tree, product_tree, factor_tree};
 ghost use Rattle.arr_run.specs.Agrees.{Agrees};
-ghost use Rattle.arr_run.specs.Index.{index_value as value_of, index_term_value, index_factor_value, index_at as place_of, index_term_at, index_factor_at, within as part_within, turn_of};
+ghost use Rattle.arr_run.specs.Index.{index_value as value_of, index_term_value, index_factor_value, index_at as place_of, index_term_at, index_factor_at, within as part_within, signed, turn_of};
 ghost use Rattle.arr_run.specs.Scope.{binding_of};
 ghost use Rattle.arr_run.specs.Steps.{added_index_term_value, times_index_factor_value};
 
@@ -59,11 +59,21 @@ fn added_value<A: Drop>(
     ensures small { IfOk result (λ z. nat_abs z ≤ 2 ^ 31) }
 {
     let right = term_value(scope, whole, &added.term)?;
-    let sum = match added.sign {
-        Sign::Plus => left + right,
-        Sign::Minus => left - right,
-    };
-    within(whole, sum)
+    sum_within(whole, added.sign, left, right)
+}
+
+/// A sum or a difference, which is a part.
+#[tactic(auto, using(crate::proofs::IndexRows::of_indices))]
+fn sum_within(whole: usize, sign: Sign, left: i64, right: i64) -> Result<i64, CheckRefused>
+    requires left { nat_abs left ≤ 2 ^ 31 }
+    requires right { nat_abs right ≤ 2 ^ 31 }
+    ensures value { Agrees (λ z. z) result (part_within whole (signed sign left right)) }
+    ensures small { IfOk result (λ z. nat_abs z ≤ 2 ^ 31) }
+{
+    match sign {
+        Sign::Plus => within(whole, left + right),
+        Sign::Minus => within(whole, left - right),
+    }
 }
 
 #[cycle(index)]

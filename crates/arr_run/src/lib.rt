@@ -10,6 +10,7 @@ mod counts;
 mod defined;
 mod element;
 mod expression;
+mod factor;
 mod index;
 mod machine;
 mod operation;

@@ -4,8 +4,9 @@ ghost use Rattle.std.specs.Prelude.{◌≡◌, [], ◌∷◌, IfOk, map};
 ghost use Rattle.arr_ast.specs.ProgramTree.{input_tree, definition_tree, top_tree, program_tree};
 ghost use Rattle.arr_ast.specs.ExpressionTree.{name_tree};
 ghost use Rattle.arr_run.specs.Agrees.{Agrees, each};
-ghost use Rattle.arr_run.specs.Program.{after_input, after_top, dimension_of, end_of, input_count, input_shape as shape_of_input, none_counted, outputs_at};
+ghost use Rattle.arr_run.specs.Program.{after_input, after_top, dimension_of, end_of, if_any_output, input_count, input_shape as shape_of_input, none_counted, outputs_at, run_of};
 ghost use Rattle.arr_run.specs.Definitions.{after_definition, after_definitions, if_few, if_apart, if_parameters, is_among};
+ghost use Rattle.arr_run.specs.Scope.{Names};
 ghost use Rattle.arr_run.specs.State.{state};
 ghost use Rattle.arr_run.specs.Steps.{newest_first};
 
@@ -40,7 +41,6 @@ pub struct Ran {
 }
 
 /// The run of a program in a language, whose limits hold, or its first refusal.
-#[tactic(auto, using(crate::proofs::api::InputNodes::of_inputs))]
 pub fn run<M: Machine>(
     alloc: Global,
     machine: &mut M,
@@ -54,27 +54,51 @@ pub fn run<M: Machine>(
 {
     let mut scope = Scope::new(alloc);
     let mut counts = none_counted(alloc, lang);
-    run_inputs(&mut scope, &mut counts, machine, &program.inputs)?;
+    let inputs = run_parts(alloc, &mut scope, &mut counts, machine, program)?;
+    Ok(Ran { counts, inputs })
+}
+
+/// The run of a program's inputs, definitions and statements, from nothing. It gives how many numbers the inputs have.
+#[tactic(auto, using(crate::proofs::api::InputNodes::of_inputs))]
+fn run_parts<M: Machine>(
+    alloc: Global,
+    scope: &mut Scope<M::Array>,
+    counts: &mut Counts,
+    machine: &mut M,
+    program: &Program,
+) -> Result<u64, CheckRefused>
+    requires scope { scope.now ≡ [] }
+    requires counts { counts.now ≡ none_counted counts.now.lang }
+    ensures end { Agrees (λ _. state scope.new counts.new machine.new) result
+        (run_of M.operations counts.old.lang (program_tree program.now) machine.old) }
+    ensures inputs { IfOk result (λ inputs. inputs ≡ input_count
+        (program_tree program.now).inputs) }
+{
+    run_inputs(scope, counts, machine, &program.inputs)?;
     let inputs = counts.nodes;
-    run_definitions::<M>(&scope, &mut counts, &program.definitions)?;
+    run_definitions::<M>(scope, counts, &program.definitions)?;
     let defined = Defined {
         alloc,
         definitions: &program.definitions,
     };
-    run_top_statements(
-        &defined,
-        &mut scope,
-        &mut counts,
-        machine,
-        &program.statements,
-    )?;
+    run_top_statements(&defined, scope, counts, machine, &program.statements)?;
+    require_output::<M>(program.end, counts)?;
+    Ok(inputs)
+}
+
+/// Tests that there is an output.
+fn require_output<M: Machine>(end: usize, counts: &Counts) -> Result<(), CheckRefused>
+    ensures { (names : Names M.Array) (kept : M) →
+        Agrees (λ _. state names counts.now kept) result
+        (if_any_output end (state names counts.now kept)) }
+{
     if counts.outputs == 0 {
         return Err(CheckRefused::Bad {
-            at: program.end,
+            at: end,
             kind: CheckKind::NoOutput,
         });
     }
-    Ok(Ran { counts, inputs })
+    Ok(())
 }
 
 fn none_counted(alloc: Global, lang: Lang) -> Counts

@@ -1,11 +1,12 @@
 use Rattle.std.proofs.Common.{◌≡◌, length, ap, rules, arith}
 use Rattle.std.specs.Prelude.{sum_by}
 use Rattle.arr_ast.specs.declared.expression.Term.{out-Term}
+use Rattle.arr_run.specs.declared.task.Task.TheVariants.{Factors}
 use Rattle.arr_run.specs.Steps.{calls_of, times_values}
 use Rattle.arr_run.specs.Work.{times_factor_work}
 use Rattle.arr_run.proofs.Waiting.{term-begins, term_alone}
 use Rattle.arr_run.proofs.WorkRows.{term_work-out, work_pushed}
-use Rattle.arr_run.proofs.expression.first_of_term.Goals as goal
+use Rattle.arr_run.proofs.factor.first_of_term.Goals as goal
 
 pub returns-then-is_empty-clause-value : goal.returns-then-is_empty-clause-value
 returns-then-is_empty-clause-value g c = λ counts kept.
@@ -20,7 +21,7 @@ returns-clause-value g c = λ counts kept.
     let operations = g.M.Machine.operations in
     let definitions = c.args.defined.now.definitions.now in
     let names = c.args.scope.now in
-    term-begins operations definitions names c.args.term.now c.args.tasks.now.items _ _ counts kept
+    term-begins operations definitions names c.args.term.now c.args.tasks.now.items c.push.new.self.items (Factors c.deref.result) counts kept
     (λ found. ap (λ factors. times_values operations (calls_of operations definitions) factors names found) c.deref.ensures.value)
     c.in_ok-push.ensures.items
 
