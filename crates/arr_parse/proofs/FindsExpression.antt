@@ -14,7 +14,7 @@ use Rattle.arr_lex.specs.declared.token.Symbol.{Symbol}
 use Rattle.arr_lex.specs.declared.token.Symbol.TheVariants as symbol
 use Rattle.arr_lex.specs.declared.token.Token.{Token}
 use Rattle.arr_parse.specs.Mark.{Mark, Separator, Placed, Named, mark, mark_of, number_at, Source}
-use Rattle.arr_parse.specs.Grammar.{Part, The, AnExpression, MoreTerms, ATerm, MoreFactors, AFactor, EndOfNegation, OneArgument, TwoArguments, AfterName, MoreArguments, FirstIndex, SecondIndex, AnIndex, only_two, row, may_be_empty}
+use Rattle.arr_parse.specs.Grammar.{Part, The, AnExpression, MoreTerms, ATerm, MoreFactors, AFactor, EndOfNegation, OneArgument, TwoArguments, AfterName, MoreArguments, FirstIndex, SecondIndex, AnIndex, only_two, row}
 use Rattle.arr_parse.specs.Reading.{due_after, unless_refused, taken, refusal}
 use Rattle.arr_parse.specs.IndexSpelling.{sign_symbol, name_marks, sum_marks, bracket_marks, second_marks, indices_marks}
 use Rattle.arr_parse.specs.Spelling.{single_symbol, pair_symbol, expression_marks, added_marks, term_marks, times_marks, factor_marks, further_marks}

@@ -13,7 +13,7 @@ use Rattle.arr_lex.specs.declared.token.Symbol.TheVariants as symbol
 use Rattle.arr_lex.specs.declared.token.Token.{Token}
 use Rattle.arr_parse.specs.Mark.{Mark, Separator, Placed, Named, mark, mark_of, number_at, Source}
 use Rattle.arr_parse.specs.Names.{source_of}
-use Rattle.arr_parse.specs.Grammar.{Part, The, Inputs, Definitions, Parameters, MoreParameters, only_two, FirstDimension, SecondDimension, TopStatements, Statements, AStatement, Block, AnExpression, FirstIndex, AnIndex, AName, ANumber, row}
+use Rattle.arr_parse.specs.Grammar.{Part, The, Inputs, Definitions, Parameters, MoreParameters, FirstDimension, SecondDimension, TopStatements, Statements, AStatement, Block, AnExpression, FirstIndex, AnIndex, AName, ANumber, row}
 use Rattle.arr_parse.specs.Reading.{due_after, unless_refused, refusal}
 use Rattle.arr_parse.specs.Parsed.{IsTreeOf}
 use Rattle.arr_parse.specs.IndexSpelling.{name_marks, sum_marks}

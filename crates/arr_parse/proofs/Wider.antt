@@ -1,7 +1,6 @@
 -- Tokens that the first language reads are read in the second: what the second adds begins where the first refuses.
 use Rattle.std.proofs.Common.{◌≡◌, ◌⊎◌, inl, inr, ℕ, zero, suc, Bool, true, false, List, [], ◌∷◌, ◌++◌, Option, Some, None, length, refl, ap, sym, subst, ◌∙◌, append_assoc}
 use Rattle.std.specs.Prelude.{if◌then◌else◌, nat_lt}
-use Rattle.arr_ast.specs.declared.lang.Lang.{Lang}
 use Rattle.arr_ast.specs.declared.lang.Lang.TheVariants.{One, Two}
 use Rattle.arr_ast.specs.ProgramTree.{ProgramTree}
 use Rattle.arr_lex.specs.declared.token.Symbol.{Symbol}
@@ -11,7 +10,7 @@ use Rattle.arr_parse.specs.Grammar.{Part, Inputs, Definitions, Parameters, MoreP
 use Rattle.arr_parse.specs.Reading.{levels, taken, due_after, unless_refused, refusal}
 use Rattle.arr_parse.specs.Parsed.{IsTreeOf}
 use Rattle.arr_parse.specs.declared.refused.ParseRefused.{ParseRefused}
-use Rattle.arr_parse.specs.declared.refused.ParseRefused.TheVariants.{Syntax, Nesting}
+use Rattle.arr_parse.specs.declared.refused.ParseRefused.TheVariants.{Nesting}
 
 -- After what may end with a name in an expression, the first language takes no parenthesis.
 abbrev Claims : Part → List Part → Type 0

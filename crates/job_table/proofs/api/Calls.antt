@@ -1,5 +1,5 @@
 -- What a call leaves of a pass.
-use Rattle.std.proofs.Common.{◌≡◌, ◌≢◌, ℕ, zero, suc, ◌+◌, ◌-◌, ◌<◌, ◌≤◌, Bool, true, false, cond, List, [], ◌∷◌, ◌++◌, length, Option, Some, sym, refl, ap, ◌∙◌, subst, arith, length-append, append_assoc, append-nil, lt_of_not-le, ltb}
+use Rattle.std.proofs.Common.{◌≡◌, ◌≢◌, ℕ, zero, suc, ◌+◌, ◌<◌, ◌≤◌, Bool, true, false, cond, List, [], ◌∷◌, ◌++◌, length, Option, Some, sym, refl, ap, ◌∙◌, subst, arith, length-append, append_assoc, append-nil, lt_of_not-le, ltb}
 use mathlib.Core.Logic.{dite}
 use mathlib.Core.List.{IsPrefix}
 use native.Mathlib.Decide.{ℕ_discrete, dec_le}
@@ -12,7 +12,7 @@ use Rattle.turn_lock.specs.Lists.{put_in, unite, longer, shorter, IsRising}
 use Rattle.tallies.proofs.api.Once.{times-append}
 use Rattle.tallies.proofs.api.Totals.{total_snoc}
 use Rattle.turn_lock.proofs.api.United.{times-unite}
-use Rattle.job_core.specs.JobMachine.{after, are_steps, replay}
+use Rattle.job_core.specs.JobMachine.{are_steps, replay}
 use Rattle.job_core.specs.declared.entry.Entry.TheVariants as entry
 use Rattle.job_core.specs.declared.entry.JobState.{JobState}
 use Rattle.job_core.specs.declared.entry.JobState.TheVariants as state

@@ -3,7 +3,7 @@ use Rattle.std.specs.Prelude.{option_and_then}
 use Rattle.clap.specs.Words.{found_of, rows_of}
 use Rattle.clap.specs.declared.parser.matches.ArgMatches.TheViews.{out-ArgMatches}
 use Rattle.clap.proofs.WalkLemmas.{first_value-rows}
-use Rattle.gkr_words.specs.Commands.{command_named, command_of_rows}
+use Rattle.gkr_words.specs.Commands.{command_of_rows}
 use Rattle.gkr_words.proofs.WordsRead.{entered_is, same_named}
 use Rattle.gkr_words.proofs.words.command_found.Goals as goal
 

@@ -1,4 +1,4 @@
-use Rattle.std.proofs.Common.{rules, ◌≡◌, ◌∙◌, ℕ, List, length, sym, ap, subst}
+use Rattle.std.proofs.Common.{rules, ◌≡◌, ℕ, List, length, subst}
 use Rattle.tallies.specs.Tallies.{times, once_below}
 use Rattle.job_table.specs.declared.event.Event.{Event}
 use Rattle.job_table.specs.Passes.{NoneRunning}

@@ -1,15 +1,10 @@
-use Rattle.std.proofs.Common.{rules, ◌≡◌, ◌+◌, ◌-◌, ◌<◌, ◌∷◌, ◌++◌, [], true, ℕ, List, length, Some, MatchResult, slice_get, refl, sym, ap, ◌∙◌, subst, arith}
-use Rattle.job_core.specs.JobMachine.{are_steps}
-use Rattle.job_core.specs.declared.entry.JobState.TheVariants.{Queued}
+use Rattle.std.proofs.Common.{rules, ℕ, List, MatchResult, ap, subst}
 use Rattle.job_table.specs.declared.event.Event.{Event}
-use Rattle.job_table.specs.declared.event.Event.TheVariants.{Take, Withdraw}
-use Rattle.job_table.specs.History.{entries_of, jobs_of, Has, Submits, Finishes}
+use Rattle.job_table.specs.History.{Has, Finishes}
 use Rattle.job_table.specs.Slots.{IsSeen}
 use Rattle.job_table.specs.declared.event.Outcome.TheVariants.{Answer}
-use Rattle.job_table.specs.Passes.{Pairs, PassView, Holds}
-use Rattle.job_table.proofs.api.Calls.{Entered, entered, looked, looked_of, added, added_of, owned_more, owned_submit, owned_withdraw, owned_take, owned_finish, counts_submit, counts_finish, counts_take, counts_withdraw, now_held, holds_here, seen_longer, job_within, joined_of, prefix_more}
-use mathlib.Core.List.{IsPrefix}
-use Rattle.job_table.proofs.api.Kept.{has_longer}
+use Rattle.job_table.specs.Passes.{Pairs}
+use Rattle.job_table.proofs.api.Calls.{Entered, entered, looked, looked_of, job_within}
 use Rattle.job_table.proofs.table.TableOver+State+C+A+Event+C+A.fetch.Goals as goal
 
 pub fetch-seen-requires : goal.fetch-seen-requires
