@@ -7,6 +7,7 @@ use arr_ast::Lang;
 use arr_compile::read_program;
 use arr_eval::eval;
 use arr_lower::lower;
+use std::alloc::{AllocError, Global};
 use std::process::Abort;
 use std::test::Fail;
 
@@ -73,4 +74,51 @@ fn evaluates_calls(rt: HostRuntime) -> Result<(), Fail> {
     )?;
     // A body that isn't called is read, and not run.
     puts_out(&rt, b"def f(x) = y; output 1;", &[], &[1], 1)
+}
+
+/// A text of so many definitions, each of which calls the one before within so many levels, and a call of the last.
+fn chain(
+    alloc: Global,
+    definitions: u32,
+    open: &[u8],
+    close: &[u8],
+    levels: u32,
+) -> Result<Vec<u8>, AllocError> {
+    let mut text = Vec::new(alloc);
+    for n in 0..definitions {
+        text.extend_from_slice(b"def f")?;
+        push_two_digits(&mut text, n)?;
+        text.extend_from_slice(b"(x)=")?;
+        for _ in 0..levels {
+            text.extend_from_slice(open)?;
+        }
+        if n == 0 {
+            text.push(b'x')?;
+        } else {
+            text.push(b'f')?;
+            push_two_digits(&mut text, n - 1)?;
+            text.extend_from_slice(b"(x)")?;
+        }
+        for _ in 0..levels {
+            text.extend_from_slice(close)?;
+        }
+        text.extend_from_slice(b";")?;
+    }
+    text.extend_from_slice(b"output f")?;
+    push_two_digits(&mut text, definitions.saturating_sub(1))?;
+    text.extend_from_slice(b"(7);")?;
+    Ok(text)
+}
+
+fn push_two_digits(text: &mut Vec<u8>, n: u32) -> Result<(), AllocError> {
+    text.push(b'0' + (n / 10 % 10) as u8)?;
+    text.push(b'0' + (n % 10) as u8)?;
+    Ok(())
+}
+
+#[test]
+fn runs_a_chain_of_calls_to_its_end(rt: HostRuntime) -> Result<(), Fail> {
+    let text = chain(rt.alloc(), 64, b"(", b")", 60)?;
+    assert!(rt; text.len() <= 65536);
+    puts_out(&rt, &text, &[], &[7], 1)
 }

@@ -1,7 +1,9 @@
-//! Worked texts: cases that are read and written, and audits, of which no run of the program names a challenge.
+//! Worked texts: cases that are read and written, replies of made-up values, and audits, of which no run of the program names a
+//! challenge.
 
 use case_text::{
-    AuditLines, Form, MessagePlace, Reply, VerdictLine, read_case, write_case, write_reply,
+    AuditLines, Form, MessagePlace, Outputs, Reply, ServedJob, VerdictLine, read_case, write_case,
+    write_reply, write_served,
 };
 use field_ext::{Ext, Fp};
 use std::process::Abort;
@@ -38,11 +40,62 @@ fn writes_what_it_reads(rt: HostRuntime) -> Result<(), Fail> {
     Ok(())
 }
 
-/// Sees that an audit is written like this.
-fn tells<R: Abort + AllocGlobal>(rt: &R, lines: AuditLines, want: &[u8]) -> Result<(), Fail> {
-    let text = write_reply(rt.alloc(), &Reply::Audit(lines))?;
+/// Sees that a reply is written like this.
+fn tells<R: Abort + AllocGlobal>(rt: &R, reply: Reply, want: &[u8]) -> Result<(), Fail> {
+    let text = write_reply(rt.alloc(), &reply)?;
     assert_eq!(rt; text.as_slice(), want);
     Ok(())
+}
+
+#[test]
+fn tells_outputs_and_verdicts(rt: HostRuntime) -> Result<(), Fail> {
+    let number = |n: u64| Ext::embed(Fp::reduce(n));
+    let values = vec![in rt.alloc(); Fp::reduce(5), Fp::reduce(2147483646)]?;
+    tells(&rt, Reply::TooLong(6000000), b"refused long 6000000\n")?;
+    tells(
+        &rt,
+        Reply::Outputs(Outputs::new(values)),
+        b"output 2 5 2147483646\n",
+    )?;
+    let sum = VerdictLine::Sum {
+        layer: 0,
+        round: 1,
+        had: number(2),
+        claim: Ext::of(Fp::reduce(3), Fp::reduce(4)),
+    };
+    tells(&rt, Reply::Verdict(sum), b"rejected sum 0 1 2,0 3,4\n")?;
+    let end = VerdictLine::End {
+        layer: 0,
+        had: number(1),
+        want: number(0),
+    };
+    tells(&rt, Reply::Verdict(end), b"rejected end 0 1,0 0,0\n")?;
+    let input = VerdictLine::Input {
+        had: number(0),
+        want: number(5),
+    };
+    tells(&rt, Reply::Verdict(input), b"rejected input 0,0 5,0\n")
+}
+
+/// Sees what is written of two jobs, one of them refused.
+fn tells_of_jobs<R: Abort + AllocGlobal>(rt: &R, jobs: &[ServedJob]) -> Result<(), Fail> {
+    let text = write_served(rt.alloc(), jobs)?;
+    let want =
+        b"client 1\noutput 1 0\nclient 64\nrefused program unknown 7\njobs 2 proved 1 refused 1\n";
+    assert_eq!(rt; text.as_slice(), want.as_slice());
+    Ok(())
+}
+
+#[test]
+fn tells_replies_to_jobs(rt: HostRuntime) -> Result<(), Fail> {
+    let alloc = rt.alloc();
+    let outputs = Vec::from_slice(alloc, b"output 1 0\n")?;
+    let refusal = Vec::from_slice(alloc, b"refused program unknown 7\n")?;
+    let jobs = vec![in alloc;
+        ServedJob::new(1, true, outputs),
+        ServedJob::new(64, false, refusal),
+    ]?;
+    tells_of_jobs(&rt, &jobs)
 }
 
 #[test]
@@ -55,7 +108,7 @@ fn tells_audits(rt: HostRuntime) -> Result<(), Fail> {
         challenge: None,
     };
     let want = b"accepted\nmeaning same\nmessage none\nchallenge none\n";
-    tells(&rt, nothing, want)?;
+    tells(&rt, Reply::Audit(nothing), want)?;
     let round = AuditLines {
         verdict: VerdictLine::Accepted,
         same: false,
@@ -63,7 +116,7 @@ fn tells_audits(rt: HostRuntime) -> Result<(), Fail> {
         challenge: Some((1, value)),
     };
     let want = b"accepted\nmeaning differs\nmessage 0 1\nchallenge 1 3,4\n";
-    tells(&rt, round, want)?;
+    tells(&rt, Reply::Audit(round), want)?;
     let line = AuditLines {
         verdict: VerdictLine::Input {
             had: Ext::zero(),
@@ -74,5 +127,5 @@ fn tells_audits(rt: HostRuntime) -> Result<(), Fail> {
         challenge: None,
     };
     let want = b"rejected input 0,0 3,4\nmeaning same\nmessage 12 line\nchallenge none\n";
-    tells(&rt, line, want)
+    tells(&rt, Reply::Audit(line), want)
 }
