@@ -1,5 +1,5 @@
 -- What a step of the parser does to what is left to read.
-use Rattle.std.specs.Prelude.{◌≡◌, ℕ, suc, ◌≤◌, List, [], ◌∷◌, ◌++◌, Option, Some, None, Result, length, map}
+use Rattle.std.specs.Prelude.{◌≡◌, ℕ, suc, ◌<◌, ◌≤◌, List, [], ◌∷◌, ◌++◌, Option, Some, None, Result, length, map}
 use Rattle.arr_ast.specs.declared.lang.Lang.{Lang}
 use Rattle.arr_ast.specs.declared.program.Dimension.{Dimension}
 use Rattle.arr_lex.specs.declared.token.Token.{Token}
@@ -39,6 +39,17 @@ Leads first next old result new = (due : List Part) → levels due ≡ old.level
 -- these parts are read
 abbrev pub Reads : {X : Type 0} → List Part → Rest → Result X ParseRefused → Rest → Type 0
 Reads parts old result new = Leads parts (λ found. []) old result new
+
+-- These parts and the `)` after them are read, whatever is due after it, where it ends the level that was opened last.
+abbrev pub Closes : {X : Type 0} → List Part → Rest → Result X ParseRefused → Rest → Type 0
+Closes parts old result new = (due : List Part) → suc (levels due) ≡ old.levels
+    → Agrees (λ found. refusal old.source.lang (length old.source.text) due new.tokens) result
+    (refusal old.source.lang (length old.source.text) (parts ++ The CloseRound ∷ due) old.tokens)
+
+-- A level ends: tokens are taken, the source stays, and one level less is open.
+abbrev pub EndsLevel : Rest → Rest → Type 0
+EndsLevel old new = (length new.tokens < length old.tokens) × (new.source ≡ old.source)
+    × (old.levels ≡ suc new.levels)
 
 -- the part that is due after what was found
 abbrev pub after_found : {X : Type 0} → Part → Option X → List Part

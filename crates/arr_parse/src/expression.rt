@@ -1,6 +1,6 @@
 //! Expressions, from the left.
 
-ghost use Rattle.std.specs.Prelude.{◌≡◌, ◌<◌, ◌≤◌, suc, [], ◌∷◌, ◌++◌, List, Some, length, map, IfOk, OnOk, flat_map};
+ghost use Rattle.std.specs.Prelude.{◌≡◌, ◌<◌, [], ◌∷◌, ◌++◌, List, Some, length, map, IfOk, OnOk, flat_map};
 ghost use Rattle.arr_lex.specs.declared.token.Symbol.TheVariants.{Minus, OpenRound, CloseRound};
 ghost use Rattle.arr_parse.specs.Mark.{Placed, Separator, mark};
 ghost use Rattle.arr_parse.specs.IndexSpelling.{name_spelling};
@@ -8,7 +8,7 @@ ghost use Rattle.arr_parse.specs.Spelling.{single_symbol, pair_symbol, expressio
 ghost use Rattle.arr_parse.specs.Grammar.{Part, The, AnExpression, MoreTerms, ATerm, MoreFactors, AFactor, EndOfNegation, AfterName, MoreArguments, FirstIndex, OneArgument, TwoArguments};
 ghost use Rattle.arr_parse.specs.Reading.{levels as levels_of, unless_refused, refusal};
 ghost use Rattle.arr_parse.specs.Parsed.{Agrees};
-ghost use Rattle.arr_parse.specs.Steps.{Takes, Reads};
+ghost use Rattle.arr_parse.specs.Steps.{Takes, Reads, Closes, EndsLevel};
 
 use crate::boxed::{
     add_argument, add_factor, add_term, call_of, expression_of, let_go, named, negation, number,
@@ -160,14 +160,8 @@ fn closed_expression(cursor: &mut Cursor) -> Result<Box<Expression>, ParseRefuse
     ensures spelled { IfOk result (λ found. map (mark cursor.old.source) cursor.old.tokens
         ≡ expression_spelling found.value
         ++ (Separator CloseRound ∷ map (mark cursor.old.source) cursor.new.tokens)) }
-    ensures shorter { OnOk result (length cursor.new.tokens < length cursor.old.tokens) }
-    ensures source { OnOk result (cursor.new.source ≡ cursor.old.source) }
-    ensures levels { OnOk result (cursor.old.levels ≡ suc cursor.new.levels) }
-    ensures exact { (others : List Part) → suc (levels_of others) ≡ cursor.old.levels →
-        Agrees (λ _. refusal cursor.old.source.lang (length cursor.old.source.text) others
-        cursor.new.tokens) result
-        (refusal cursor.old.source.lang (length cursor.old.source.text)
-        (AnExpression ∷ The CloseRound ∷ others) cursor.old.tokens) }
+    ensures ends { OnOk result (EndsLevel cursor.old cursor.new) }
+    ensures exact { Closes (AnExpression ∷ []) cursor.old result cursor.new }
 {
     let inner = boxed_expression(cursor)?;
     cursor.close(Symbol::CloseRound)?;
@@ -209,14 +203,9 @@ fn call(cursor: &mut Cursor, name: Name, parenthesis: usize) -> Result<Box<Facto
         name_spelling name ++ (Placed parenthesis OpenRound
         ∷ map (mark cursor.old.source) cursor.old.tokens)
         ≡ factor_spelling found.value ++ map (mark cursor.old.source) cursor.new.tokens) }
-    ensures shorter { OnOk result (length cursor.new.tokens < length cursor.old.tokens) }
-    ensures source { OnOk result (cursor.new.source ≡ cursor.old.source) }
-    ensures levels { OnOk result (cursor.old.levels ≡ suc cursor.new.levels) }
-    ensures exact { (others : List Part) → suc (levels_of others) ≡ cursor.old.levels →
-        Agrees (λ _. refusal cursor.old.source.lang (length cursor.old.source.text) others
-        cursor.new.tokens) result
-        (refusal cursor.old.source.lang (length cursor.old.source.text)
-        (AnExpression ∷ MoreArguments ∷ The CloseRound ∷ others) cursor.old.tokens) }
+    ensures ends { OnOk result (EndsLevel cursor.old cursor.new) }
+    ensures exact { Closes (AnExpression ∷ MoreArguments ∷ []) cursor.old result
+        cursor.new }
 {
     let first = boxed_expression(cursor)?;
     let mut further = Vec::new(cursor.alloc());
@@ -235,14 +224,8 @@ fn closed_arguments(cursor: &mut Cursor, further: &mut Vec<Expression>) -> Resul
         ++ map (mark cursor.old.source) cursor.old.tokens
         ≡ flat_map further_spelling further.new.items
         ++ (Separator CloseRound ∷ map (mark cursor.old.source) cursor.new.tokens)) }
-    ensures shorter { OnOk result (length cursor.new.tokens < length cursor.old.tokens) }
-    ensures source { OnOk result (cursor.new.source ≡ cursor.old.source) }
-    ensures levels { OnOk result (cursor.old.levels ≡ suc cursor.new.levels) }
-    ensures exact { (others : List Part) → suc (levels_of others) ≡ cursor.old.levels →
-        Agrees (λ _. refusal cursor.old.source.lang (length cursor.old.source.text) others
-        cursor.new.tokens) result
-        (refusal cursor.old.source.lang (length cursor.old.source.text)
-        (MoreArguments ∷ The CloseRound ∷ others) cursor.old.tokens) }
+    ensures ends { OnOk result (EndsLevel cursor.old cursor.new) }
+    ensures exact { Closes (MoreArguments ∷ []) cursor.old result cursor.new }
 {
     further_arguments(cursor, further)?;
     cursor.close(Symbol::CloseRound)?;
