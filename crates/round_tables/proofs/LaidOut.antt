@@ -55,6 +55,13 @@ more-than-one a b u = here (cases_lt b a) where
   here (inl v) = let e : a - b ≡ suc (a - b - 1) = omega (arith, v) in subst (λ (x : ℕ). 1 < 2 ^ x) (sym e) (omega (pow-suc 2 (a - b - 1), pow_pos (a - b - 1), arith))
   here (inr v) = absurd (omega (arith, u, pow_up a b v))
 
+-- and more than one a part are more pairs than parts
+pub more-pairs : (a b : ℕ) → 1 < 2 ^ (a - b) → 2 ^ b < 2 ^ a
+more-pairs a b u = here (cases_lt b a) where
+  here : (b < a) ⊎ (a ≤ b) → 2 ^ b < 2 ^ a
+  here (inl v) = omega (arith, pow_up (suc b) a v, pow-suc 2 b, pow_pos b)
+  here (inr v) = let none : a - b ≡ 0 = omega (arith, v) in absurd (omega (arith, u, ap (λ (x : ℕ). 2 ^ x) none))
+
 -- the values of a part are pairs
 pub size-pairs : (k m : ℕ) → 0 < m → 2 ^ (m - cuts_left k m) ≡ 2 * 2 ^ (m - 1 - cuts_left k m)
 size-pairs k m some = let c = cuts-below k m some in let e : m - cuts_left k m ≡ suc (m - 1 - cuts_left k m) = omega arith in

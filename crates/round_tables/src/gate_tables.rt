@@ -1,6 +1,6 @@
 //! The public face of a layer's working tables.
 
-ghost use Rattle.std.specs.Prelude.{◌≡◌, ℕ, ◌<◌, ◌≤◌, ◌+◌, ◌^◌, ◌↔◌, All, IfOk, IsTrue, [], ◌∷◌, ◌++◌, length, map};
+ghost use Rattle.std.specs.Prelude.{◌≡◌, ◌<◌, ◌≤◌, ◌+◌, ◌^◌, ◌↔◌, All, IfOk, IsTrue, [], ◌∷◌, ◌++◌, length, map};
 ghost use Rattle.field_ext.specs.Field.{K, k_ops};
 ghost use Rattle.circuit_core.specs.Parts.{IsOver, height};
 ghost use Rattle.circuit_core.specs.Sound.{exponent_at};
@@ -331,6 +331,7 @@ impl<'a> GateTables<'a> {
         requires here { self.now.lent ≡ [] }
         requires left { length self.now.bound < self.now.k + self.now.k }
         ensures stays { IsTrue result → StaysInParts self.now }
+        ensures always { StaysInParts self.now → IsTrue result }
         ensures left { IsTrue result → length self.now.bound + 1 < self.now.k + self.now.k }
     {
         !self.ends_first() && self.pairs() > self.pieces()
