@@ -185,3 +185,25 @@ fn reads_nothing_for_the_generated_case(rt: HostRuntime) -> Result<(), Fail> {
     let want = done(&rt, &words, b"", &OpenGate)?;
     sees_read(&rt, &words, b"x", 1, Status::Done, &want)
 }
+
+/// A case of 95 bytes, whose circuit has the greatest height of language 1.
+const TALL: &[u8] = b"gkr case 1\nprogram 58\n\
+input a; let s = a; for i in 0..255 { s = s+a; } output s;\ninput 1 1\nend\n";
+
+/// The reply of 3,539 bytes takes 708 writes of 5.
+#[test]
+fn writes_a_long_reply_in_small_pieces(rt: HostRuntime) -> Result<(), Fail> {
+    let alloc = rt.alloc();
+    let mut reply = Vec::from_slice(alloc, b"circuit 256\nlayer 0 2 0\nlayer 1 2 0\n")?;
+    for layer in 2..256u32 {
+        reply.extend_from_slice(format!(in alloc; "layer {} 4 0\n", layer)?.as_bytes())?;
+    }
+    reply.extend_from_slice(b"layer 256 2 0\nproof 30612\nchallenges 1277\nbound 2551\n")?;
+    let ends = Ends {
+        input: TALL,
+        piece: 16,
+        failing_reads: &[],
+        failing_writes: &[],
+    };
+    sees(&rt, &["gkr", "circuit"], &ends, Status::Done, &reply)
+}
