@@ -1,6 +1,6 @@
 //! Lists that many may hold.
 
-ghost use Rattle.std.specs.Prelude.{◌≡◌, ◌<◌, ◌^◌, [], ◌∷◌, length, get_or, set, IsTrue, IfOk, IfSome, OnOk};
+ghost use Rattle.std.specs.Prelude.{◌≡◌, ◌<◌, ◌^◌, [], ◌∷◌, length, get_or, set, IsTrue, IfOk, IfSome, IfNone, OnOk, ◌≢◌};
 ghost use Rattle.shared_list.specs.Turned.{turned};
 
 use crate::held::Held;
@@ -92,13 +92,18 @@ impl<T: Copy> SharedList<T> {
         }
     }
 
-    /// The item of a list that was made of one item by itself.
+    /// The item of a list of one item.
     pub fn only(&self) -> Option<T>
-        ensures { IfSome result (λ item. self.now ≡ item ∷ []) }
+        ensures item { IfSome result (λ item. self.now ≡ item ∷ []) }
+        ensures none { IfNone result (length self.now ≢ 1) }
     {
+        if self.len() != 1 {
+            return None;
+        }
         match &self.held {
             Held::One(item) => Some(*item),
-            _ => None,
+            Held::Rows(items) => Some(items.as_slice()[0]),
+            Held::Turned { nothing, .. } => Some(self.item_or(0, *nothing)),
         }
     }
 
