@@ -69,22 +69,25 @@ fn refuses_in_order(rt: HostRuntime) -> Result<(), Fail> {
     Ok(())
 }
 
+/// Sees what a circuit of one layer tells of its lists.
+fn tells_its_lists<R: Abort>(rt: &R, circuit: &Circuit) {
+    assert_eq!(rt; circuit.height(), 1);
+    assert!(rt; circuit.shape().layers() == 2);
+    assert_eq!(rt; circuit.shape().k(0), 1);
+    assert_eq!(rt; circuit.shape().k(1), 2);
+    assert_eq!(rt; circuit.inputs(), 2);
+    assert_eq!(rt; circuit.outputs(), 1);
+    for (position, leaf) in [(0, None), (2, Some(Leaf::Input(1))), (3, None)] {
+        assert_eq!(rt; circuit.leaf_at(position), leaf);
+    }
+}
+
 #[test]
 fn keeps_its_lists(rt: HostRuntime) -> Result<(), Fail> {
     let Ok(circuit) = made(rt.alloc(), &[add(0, 0), mul(1, 2)], 4, &TWO) else {
         return Err(Fail::new("no circuit"));
     };
-    assert_eq!(rt; circuit.height(), 1);
-    if circuit.shape().layers() == 2 {
-        assert_eq!(rt; circuit.shape().k(0), 1);
-        assert_eq!(rt; circuit.shape().k(1), 2);
-    }
-    assert_eq!(rt; circuit.shape().layers(), 2);
-    for (position, leaf) in [(0, None), (2, Some(Leaf::Input(1))), (3, None)] {
-        assert_eq!(rt; circuit.leaf_at(position), leaf);
-    }
-    assert_eq!(rt; circuit.inputs(), 2);
-    assert_eq!(rt; circuit.outputs(), 1);
-    assert_eq!(rt; leaf_value(&[], Leaf::Const(Fp::one())), Fp::one());
+    tells_its_lists(&rt, &circuit);
+    assert_eq!(&rt; leaf_value(&[], Leaf::Const(Fp::one())), Fp::one());
     Ok(())
 }

@@ -112,10 +112,9 @@ fn lays_out_by_position(rt: HostRuntime) -> Result<(), Fail> {
     )
 }
 
-/// The sum of the product of two matrices of two rows and two columns: eight products, four sums of two, and their sum.
-#[test]
-fn lays_a_matrix_product_out_by_position(rt: HostRuntime) -> Result<(), Fail> {
-    let alloc = rt.alloc();
+/// The nodes of the sum of the product of two matrices of two rows and two columns: eight products, four sums of two, and their
+/// sum.
+fn product_nodes(alloc: Global) -> Result<Vec<Node>, AllocError> {
     let mut nodes = Vec::new(alloc);
     for j in 0..8 {
         nodes.push(Node::Input(j))?;
@@ -128,6 +127,13 @@ fn lays_a_matrix_product_out_by_position(rt: HostRuntime) -> Result<(), Fail> {
     nodes.push(add_node(10, 13))?;
     nodes.push(add_node(16, 19))?;
     nodes.push(add_node(20, 21))?;
+    Ok(nodes)
+}
+
+#[test]
+fn lays_a_matrix_product_out_by_position(rt: HostRuntime) -> Result<(), Fail> {
+    let alloc = rt.alloc();
+    let nodes = product_nodes(alloc)?;
     if nodes.len() >= 1 << 20 {
         return Err(Fail::new("too many nodes"));
     }

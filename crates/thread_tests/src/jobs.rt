@@ -1,11 +1,16 @@
 //! One table of jobs, its answers and the lengths of its history.
 
-ghost use Rattle.std.specs.Prelude.{◌≡◌, Some, length};
-ghost use Rattle.job_table.specs.Passes.{IsPassOf};
+ghost use Rattle.std.specs.Prelude.{◌≡◌, ℕ};
+ghost use mathlib.Core.List.{IsPrefix};
+ghost use Rattle.job_table.specs.History.{Has, Submits};
+ghost use Rattle.job_table.specs.Passes.{IsPassOf, Holds};
+ghost use Rattle.thread_tests.specs.Steps.{Keeps};
 
 use job_core::{Entry, Jobs};
-use job_table::{Copied, Fits, JobState, JobTable, Late, Outcome, Pass, Seen};
+use job_table::{Copied, Fits, JobState, JobTable, Late, Outcome, Pass, Receipt, Seen, Ticket};
 use std::alloc::{AllocError, Global};
+use std::process::Abort;
+use std::sync::Wait;
 
 #[derive(Drop)]
 struct Square(u32);
@@ -24,50 +29,187 @@ type Table = JobTable<u32, Square>;
 
 type Guest = Pass<u32, Square>;
 
+/// Gives a case to the table, which accepts it under this number: the history has so many entries then.
+fn accepted<R: Abort + Wait>(
+    rt: &R,
+    table: &Table,
+    pass: &mut Guest,
+    case: u32,
+    job: u32,
+    len: u64,
+) -> Receipt
+    requires of { IsPassOf table.now pass.old }
+    ensures of { IsPassOf table.now pass.new }
+    ensures keeps { Keeps pass.old pass.new }
+    ensures submitted { Has pass.new.seen (Submits result.job case) }
+{
+    let (submitted, history_len) = table.submit(rt, pass, case);
+    let Ok(receipt) = submitted else {
+        panic!(rt; "the table has room");
+    };
+    assert!(rt; receipt.job() == job);
+    assert!(rt; history_len == len);
+    receipt
+}
+
+/// Gives a case to the table, which has no room for it.
+fn refused<R: Abort + Wait>(
+    rt: &R,
+    table: &Table,
+    pass: &mut Guest,
+    case: u32,
+    capacity: u32,
+    len: u64,
+)
+    requires of { IsPassOf table.now pass.old }
+    ensures of { IsPassOf table.now pass.new }
+    ensures keeps { Keeps pass.old pass.new }
+{
+    let (submitted, history_len) = table.submit(rt, pass, case);
+    let Err(full) = submitted else {
+        panic!(rt; "the table has no room");
+    };
+    assert!(rt; full.case == case && full.capacity == capacity);
+    assert!(rt; history_len == len);
+}
+
+/// Takes a job, which has this number.
+fn taken<R: Abort + Wait>(
+    rt: &R,
+    table: &Table,
+    pass: &mut Guest,
+    job: u32,
+    len: u64,
+) -> Ticket<u32>
+    requires of { IsPassOf table.now pass.old }
+    ensures of { IsPassOf table.now pass.new }
+    ensures keeps { Keeps pass.old pass.new }
+    ensures job { result.job ≡ job }
+    ensures case { Has pass.new.seen (Submits result.job result.case) }
+    ensures holds { Holds pass.new.seen pass.new.mine result.job }
+{
+    let (taken, history_len) = table.take(rt, pass);
+    let Some(ticket) = taken else {
+        panic!(rt; "a job is queued");
+    };
+    assert!(rt; history_len == len);
+    if ticket.job() != job {
+        panic!(rt; "another job is taken");
+    }
+    ticket
+}
+
+/// Sees that no job is there to be taken.
+fn none_taken<R: Abort + Wait>(rt: &R, table: &Table, pass: &mut Guest, len: u64)
+    requires of { IsPassOf table.now pass.old }
+    ensures of { IsPassOf table.now pass.new }
+    ensures keeps { Keeps pass.old pass.new }
+{
+    let (taken, history_len) = table.take(rt, pass);
+    if let Some(ticket) = taken {
+        table.finish(rt, pass, ticket, Outcome::Memory);
+        panic!(rt; "no job is queued");
+    }
+    assert!(rt; history_len == len);
+}
+
+/// Ends a job with this answer.
+fn finished<R: Abort + Wait>(
+    rt: &R,
+    table: &Table,
+    pass: &mut Guest,
+    ticket: Ticket<u32>,
+    answer: u32,
+    len: u64,
+)
+    requires of { IsPassOf table.now pass.old }
+    requires holds { Holds pass.old.seen pass.old.mine ticket.job }
+    requires case { Has pass.old.seen (Submits ticket.job ticket.case) }
+    ensures of { IsPassOf table.now pass.new }
+    ensures begins { IsPrefix pass.old.seen pass.new.seen }
+    ensures holds { (job : ℕ) → ¬ (job ≡ ticket.job)
+        → Holds pass.old.seen pass.old.mine job → Holds pass.new.seen pass.new.mine job }
+{
+    let history_len = table.finish(rt, pass, ticket, Outcome::Answer(Square(answer)));
+    assert!(rt; history_len == len);
+}
+
+/// What is seen of a job that was submitted.
+fn seen<R: Abort + Wait + AllocGlobal>(
+    rt: &R,
+    table: &Table,
+    pass: &mut Guest,
+    receipt: &Receipt,
+    len: u64,
+) -> Result<Seen<Square>, AllocError>
+    requires of { IsPassOf table.now pass.old }
+    requires submitted { (c : ℕ) × Has pass.old.seen (Submits receipt.now.job c) }
+    ensures of { IsPassOf table.now pass.new }
+    ensures keeps { Keeps pass.old pass.new }
+{
+    let (seen, history_len) = table.fetch(rt, rt.alloc(), pass, receipt);
+    assert!(rt; history_len == len);
+    seen
+}
+
+/// Withdraws a job that was submitted. Gives the state that came before it, if one did.
+fn withdrawn<R: Abort + Wait>(
+    rt: &R,
+    table: &Table,
+    pass: &mut Guest,
+    receipt: &Receipt,
+    len: u64,
+) -> Option<JobState>
+    requires of { IsPassOf table.now pass.old }
+    requires submitted { (c : ℕ) × Has pass.old.seen (Submits receipt.now.job c) }
+    ensures of { IsPassOf table.now pass.new }
+    ensures keeps { Keeps pass.old pass.new }
+{
+    let (late, history_len) = table.withdraw(rt, pass, receipt);
+    assert!(rt; history_len == len);
+    match late {
+        Ok(()) => None,
+        Err(Late(state)) => Some(state),
+    }
+}
+
+/// Finishes both jobs of a table of two, of which the first is this receipt's, and looks at it between.
+fn finish_both<R: Abort + Wait + AllocGlobal>(
+    rt: &R,
+    table: &Table,
+    pass: &mut Guest,
+    receipt: &Receipt,
+    first: Ticket<u32>,
+    second: Ticket<u32>,
+)
+    requires of { IsPassOf table.now pass.old }
+    requires submitted { (c : ℕ) × Has pass.old.seen (Submits receipt.now.job c) }
+    requires two { ¬ (second.job ≡ first.job) }
+    requires first { Holds pass.old.seen pass.old.mine first.job }
+    requires first_case { Has pass.old.seen (Submits first.job first.case) }
+    requires second { Holds pass.old.seen pass.old.mine second.job }
+    requires second_case { Has pass.old.seen (Submits second.job second.case) }
+{
+    finished(rt, table, pass, first, 25, 5);
+    let done = seen(rt, table, pass, receipt, 5);
+    assert!(rt; matches!(done, Ok(Seen::Done(Outcome::Answer(Square(25))))));
+    let late = withdrawn(rt, table, pass, receipt, 5);
+    assert!(rt; matches!(late, Some(JobState::Done)));
+    finished(rt, table, pass, second, 36, 6);
+}
+
 #[test]
 fn one_pass_goes_through_all_states(rt: HostRuntime) -> Result<(), AllocError> {
     let (table, mut pass): (Table, Guest) = JobTable::new(rt.alloc(), 2, 1)?;
-    let (submitted, history_len) = table.submit(&rt, &mut pass, 5);
-    assert!(&rt; history_len == 1);
-    let Ok(receipt) = submitted else {
-        panic!(&rt; "the table has room");
-    };
-    let (submitted, history_len) = table.submit(&rt, &mut pass, 6);
-    assert!(&rt; history_len == 2 && matches!(&submitted, Ok(second) if second.job() == 1));
-    let (submitted, history_len) = table.submit(&rt, &mut pass, 7);
-    assert!(&rt;
-        history_len == 2 && matches!(&submitted, Err(full) if full.case == 7 && full.capacity == 2)
-    );
-    let (taken, history_len) = table.take(&rt, &mut pass);
-    let Some(first) = taken else {
-        panic!(&rt; "two jobs are queued");
-    };
-    assert!(&rt; history_len == 3 && first.job() == 0);
-    let (taken, history_len) = table.take(&rt, &mut pass);
-    let Some(second) = taken else {
-        panic!(&rt; "a job is queued");
-    };
-    assert!(&rt; history_len == 4 && second.job() == 1);
-    let (one, two) = (first.job(), second.job());
-    if one == two {
-        panic!(&rt; "a job is taken once");
-    }
-    let (taken, history_len) = table.take(&rt, &mut pass);
-    if let Some(ticket) = taken {
-        table.finish(&rt, &mut pass, ticket, Outcome::Memory);
-        panic!(&rt; "no job is queued");
-    }
-    assert!(&rt; history_len == 4);
-    let (seen, history_len) = table.fetch(&rt, rt.alloc(), &mut pass, &receipt);
-    assert!(&rt; history_len == 4 && matches!(seen, Ok(Seen::Running)));
-    let history_len = table.finish(&rt, &mut pass, first, Outcome::Answer(Square(25)));
-    assert!(&rt; history_len == 5);
-    let (seen, history_len) = table.fetch(&rt, rt.alloc(), &mut pass, &receipt);
-    assert!(&rt; history_len == 5 && matches!(seen, Ok(Seen::Done(Outcome::Answer(Square(25))))));
-    let (late, history_len) = table.withdraw(&rt, &mut pass, &receipt);
-    assert!(&rt; history_len == 5 && matches!(late, Err(Late(JobState::Done))));
-    let history_len = table.finish(&rt, &mut pass, second, Outcome::Answer(Square(36)));
-    assert!(&rt; history_len == 6);
+    let receipt = accepted(&rt, &table, &mut pass, 5, 0, 1);
+    accepted(&rt, &table, &mut pass, 6, 1, 2);
+    refused(&rt, &table, &mut pass, 7, 2, 2);
+    let first = taken(&rt, &table, &mut pass, 0, 3);
+    let second = taken(&rt, &table, &mut pass, 1, 4);
+    none_taken(&rt, &table, &mut pass, 4);
+    let running = seen(&rt, &table, &mut pass, &receipt, 4);
+    assert!(&rt; matches!(running, Ok(Seen::Running)));
+    finish_both(&rt, &table, &mut pass, &receipt, first, second);
     Ok(())
 }
 
@@ -75,30 +217,15 @@ fn one_pass_goes_through_all_states(rt: HostRuntime) -> Result<(), AllocError> {
 fn two_passes_see_one_history(rt: HostRuntime) -> Result<(), AllocError> {
     let (table, mut first): (Table, Guest) = JobTable::new(rt.alloc(), 2, 2)?;
     let mut second = table.split(&mut first, 1);
-    let (submitted, history_len) = table.submit(&rt, &mut first, 7);
-    assert!(&rt; history_len == 1);
-    let Ok(receipt) = submitted else {
-        panic!(&rt; "the table has room");
-    };
-    assert!(&rt; receipt.job() == 0);
-    let (taken, history_len) = table.take(&rt, &mut second);
-    assert!(&rt; history_len == 2);
-    let Some(ticket) = taken else {
-        panic!(&rt; "a job is queued");
-    };
-    assert!(&rt; ticket.job() == 0 && *ticket.case() == 7);
-    let (seen, history_len) = table.fetch(&rt, rt.alloc(), &mut first, &receipt);
-    assert!(&rt; history_len == 2 && matches!(seen, Ok(Seen::Running)));
-    let history_len = table.finish(&rt, &mut second, ticket, Outcome::Answer(Square(49)));
-    assert!(&rt; history_len == 3);
-    let (seen, history_len) = table.fetch(&rt, rt.alloc(), &mut first, &receipt);
-    assert!(&rt; history_len == 3 && matches!(seen, Ok(Seen::Done(Outcome::Answer(Square(49))))));
-    let (taken, history_len) = table.take(&rt, &mut second);
-    assert!(&rt; history_len == 3);
-    if let Some(ticket) = taken {
-        table.finish(&rt, &mut second, ticket, Outcome::Memory);
-        panic!(&rt; "no job is queued");
-    }
+    let receipt = accepted(&rt, &table, &mut first, 7, 0, 1);
+    let ticket = taken(&rt, &table, &mut second, 0, 2);
+    assert!(&rt; *ticket.case() == 7);
+    let running = seen(&rt, &table, &mut first, &receipt, 2);
+    assert!(&rt; matches!(running, Ok(Seen::Running)));
+    finished(&rt, &table, &mut second, ticket, 49, 3);
+    let done = seen(&rt, &table, &mut first, &receipt, 3);
+    assert!(&rt; matches!(done, Ok(Seen::Done(Outcome::Answer(Square(49))))));
+    none_taken(&rt, &table, &mut second, 3);
     Ok(())
 }
 
@@ -106,22 +233,13 @@ fn two_passes_see_one_history(rt: HostRuntime) -> Result<(), AllocError> {
 #[test]
 fn a_withdrawn_job_leaves_no_room(rt: HostRuntime) -> Result<(), AllocError> {
     let (table, mut pass): (Table, Guest) = JobTable::new(rt.alloc(), 1, 1)?;
-    let (submitted, history_len) = table.submit(&rt, &mut pass, 5);
-    assert!(&rt; history_len == 1);
-    let Ok(receipt) = submitted else {
-        panic!(&rt; "the table has room");
-    };
-    assert!(&rt; receipt.job() == 0);
-    let (withdrawn, history_len) = table.withdraw(&rt, &mut pass, &receipt);
-    assert!(&rt; history_len == 2 && matches!(withdrawn, Ok(())));
-    let (submitted, history_len) = table.submit(&rt, &mut pass, 6);
-    assert!(&rt;
-        history_len == 2 && matches!(&submitted, Err(full) if full.case == 6 && full.capacity == 1)
-    );
-    let (seen, history_len) = table.fetch(&rt, rt.alloc(), &mut pass, &receipt);
-    assert!(&rt; history_len == 2 && matches!(seen, Ok(Seen::Withdrawn)));
-    let (late, history_len) = table.withdraw(&rt, &mut pass, &receipt);
-    assert!(&rt; history_len == 2 && matches!(late, Err(Late(JobState::Withdrawn))));
+    let receipt = accepted(&rt, &table, &mut pass, 5, 0, 1);
+    assert!(&rt; withdrawn(&rt, &table, &mut pass, &receipt, 2).is_none());
+    refused(&rt, &table, &mut pass, 6, 1, 2);
+    let gone = seen(&rt, &table, &mut pass, &receipt, 2);
+    assert!(&rt; matches!(gone, Ok(Seen::Withdrawn)));
+    let late = withdrawn(&rt, &table, &mut pass, &receipt, 2);
+    assert!(&rt; matches!(late, Some(JobState::Withdrawn)));
     Ok(())
 }
 
