@@ -1,4 +1,5 @@
-use Rattle.std.proofs.Common.{◌+◌, ◌++◌, drop, reverse, sym, ap, ◌∙◌}
+use Rattle.std.proofs.lemmas.Grind.{common_steps}
+use Rattle.std.proofs.Common.{◌+◌, ◌++◌, drop, reverse, sym, ap, ◌∙◌, rules, arith}
 use Rattle.std.proofs.lemmas.List.{nil_from_length}
 use Rattle.arr_run.specs.Expression.{parameters_bound}
 use Rattle.arr_run.specs.Scope.{Names}
@@ -20,3 +21,18 @@ each-preserved g c =
           ∙ bound_over (numbers (drop place parameters)) (numbers (drop (place + 1) parameters)) c.each.names c.match-pop.names c.each.left.items c.pop.new.self.items
           (nil_from_length c.each.left.items (sym c.each.left.ok.0 ∙ w.in_default.ensures.cases.0)) (nil_from_length c.pop.new.self.items (sym c.pop.new.self.ok.0 ∙ w.in_default.ensures.cases.1)) w.names-is
     ]
+
+pub each-init : goal.each-init
+each-init g c = grind (arith, common_steps)
+
+pub offset_bounds-parameters-parameter-index : goal.offset_bounds-parameters-parameter-index
+offset_bounds-parameters-parameter-index g c = search rules
+
+pub same-names : goal.same-names
+same-names g c = search rules
+
+pub returns-in_err-declare : goal.returns-in_err-declare
+returns-in_err-declare g c = search rules
+
+pub returns : goal.returns
+returns g c = grind (arith, common_steps)

@@ -1,3 +1,4 @@
+use Rattle.std.proofs.lemmas.Grind.{common_steps}
 use Rattle.std.proofs.Common.{◌≡◌, ◌+◌, [], ◌∷◌, ◌++◌, sym, ap, ◌∙◌, rules, arith}
 use Rattle.std.specs.Prelude.{sum_by}
 use Rattle.arr_ast.specs.declared.expression.Factor.TheBlock.{hidden-the_row-Expression-0}
@@ -58,3 +59,75 @@ returns-in_ok-place-in-Call-clause-work g c =
     let same : factor_work (factor_tree c.args.factor.now) + tasks_work tasks ≡ expression_work (expression_tree c.deref-in-Call-2.result.now) + (task_work task + tasks_work tasks) =
     omega (arith, row, further, first, arguments_work-made c.in-Call.further) in
     rw same c.begin_operand-in-Call.ensures.work
+
+pub returns-in_err-shape-in-Number-clause-value : goal.returns-in_err-shape-in-Number-clause-value
+returns-in_err-shape-in-Number-clause-value g c = search rules
+
+pub returns-in_err-shape-in-Number-clause-work : goal.returns-in_err-shape-in-Number-clause-work
+returns-in_err-shape-in-Number-clause-work g c = search rules
+
+pub returns-in_err-shape-in-Name-clause-value : goal.returns-in_err-shape-in-Name-clause-value
+returns-in_err-shape-in-Name-clause-value g c = search rules
+
+pub returns-in_err-shape-in-Name-clause-work : goal.returns-in_err-shape-in-Name-clause-work
+returns-in_err-shape-in-Name-clause-work g c = search rules
+
+pub returns-in_err-shape-in-Element-clause-value : goal.returns-in_err-shape-in-Element-clause-value
+returns-in_err-shape-in-Element-clause-value g c = search rules
+
+pub returns-in_err-shape-in-Element-clause-work : goal.returns-in_err-shape-in-Element-clause-work
+returns-in_err-shape-in-Element-clause-work g c = search rules
+
+pub returns-in_err-push-in-Negation-clause-value : goal.returns-in_err-push-in-Negation-clause-value
+returns-in_err-push-in-Negation-clause-value g c = search rules
+
+pub returns-in_err-push-in-Negation-clause-work : goal.returns-in_err-push-in-Negation-clause-work
+returns-in_err-push-in-Negation-clause-work g c = search rules
+
+pub returns-in_err-first-in-Parenthesized-clause-value : goal.returns-in_err-first-in-Parenthesized-clause-value
+returns-in_err-first-in-Parenthesized-clause-value g c = search rules
+
+pub returns-in_err-first-in-Parenthesized-clause-work : goal.returns-in_err-first-in-Parenthesized-clause-work
+returns-in_err-first-in-Parenthesized-clause-work g c = search rules
+
+pub returns-in_err-place-in-Call-clause-work : goal.returns-in_err-place-in-Call-clause-work
+returns-in_err-place-in-Call-clause-work g c = search rules
+
+pub returns-in_ok-shape-in-Number-clause-value : goal.returns-in_ok-shape-in-Number-clause-value
+returns-in_ok-shape-in-Number-clause-value g c = search rules
+
+pub returns-in_ok-shape-in-Number-clause-work : goal.returns-in_ok-shape-in-Number-clause-work
+returns-in_ok-shape-in-Number-clause-work g c = search rules
+
+pub returns-in_ok-shape-in-Name-clause-value : goal.returns-in_ok-shape-in-Name-clause-value
+returns-in_ok-shape-in-Name-clause-value g c = search rules
+
+pub returns-in_ok-shape-in-Name-clause-work : goal.returns-in_ok-shape-in-Name-clause-work
+returns-in_ok-shape-in-Name-clause-work g c = search rules
+
+pub returns-in_ok-shape-in-Element-clause-value : goal.returns-in_ok-shape-in-Element-clause-value
+returns-in_ok-shape-in-Element-clause-value g c = search rules
+
+pub returns-in_ok-shape-in-Element-clause-work : goal.returns-in_ok-shape-in-Element-clause-work
+returns-in_ok-shape-in-Element-clause-work g c = search rules
+
+pub returns-in_ok-push-in-Negation-clause-work : goal.returns-in_ok-push-in-Negation-clause-work
+returns-in_ok-push-in-Negation-clause-work g c = grind (arith, common_steps)
+
+pub returns-in_ok-first-in-Parenthesized-clause-value : goal.returns-in_ok-first-in-Parenthesized-clause-value
+returns-in_ok-first-in-Parenthesized-clause-value g c = search rules
+
+pub returns-in_ok-first-in-Parenthesized-clause-work : goal.returns-in_ok-first-in-Parenthesized-clause-work
+returns-in_ok-first-in-Parenthesized-clause-work g c = search rules
+
+pub returns-in-Single-clause-value : goal.returns-in-Single-clause-value
+returns-in-Single-clause-value g c = grind (arith, common_steps)
+
+pub returns-in-Single-clause-work : goal.returns-in-Single-clause-work
+returns-in-Single-clause-work g c = search rules
+
+pub returns-in-Pair-clause-value : goal.returns-in-Pair-clause-value
+returns-in-Pair-clause-value g c = grind (arith, common_steps)
+
+pub returns-in-Pair-clause-work : goal.returns-in-Pair-clause-work
+returns-in-Pair-clause-work g c = search rules

@@ -1,3 +1,4 @@
+use Rattle.std.proofs.lemmas.Grind.{common_steps}
 use Rattle.std.proofs.Common.{rules, arith, ◌≡◌, ◌-◌, ◌+◌, ap, sym, ◌∙◌}
 use Rattle.std.specs.Prelude.{map}
 use Rattle.arr_ast.specs.IndexTree.{sum_tree}
@@ -38,3 +39,81 @@ run_statement-returns-in-For g t c =
     ∙ ap loop (after_block-made operations definitions c.in-For.body)
     ∙ ap (λ items. loop (each (after_statement operations definitions) (map statement_tree items))) (sym c.deref.ensures.value) in
     rw is_loop c.counted_loop.ensures
+
+pub all_turns-each-init : goal.all_turns-each-init
+all_turns-each-init g c = search rules
+
+pub all_turns-one_turn-requires : goal.all_turns-one_turn-requires
+all_turns-one_turn-requires g c = search rules
+
+pub all_turns-each-smaller : goal.all_turns-each-smaller
+all_turns-each-smaller g c = search rules
+
+pub all_turns-returns : goal.all_turns-returns
+all_turns-returns g c = search rules
+
+pub counted_loop-returns-in_err-step : goal.counted_loop-returns-in_err-step
+counted_loop-returns-in_err-step g c = search rules
+
+pub counted_loop-returns-in_err-require_new : goal.counted_loop-returns-in_err-require_new
+counted_loop-returns-in_err-require_new g c = search rules
+
+pub counted_loop-returns-in_err-first : goal.counted_loop-returns-in_err-first
+counted_loop-returns-in_err-first g c = search rules
+
+pub counted_loop-all_turns-requires : goal.counted_loop-all_turns-requires
+counted_loop-all_turns-requires g c = search rules
+
+pub counted_loop-returns : goal.counted_loop-returns
+counted_loop-returns g c = search rules
+
+pub one_turn-returns-in_err-step : goal.one_turn-returns-in_err-step
+one_turn-returns-in_err-step g c = search rules
+
+pub one_turn-returns-in_err-declare : goal.one_turn-returns-in_err-declare
+one_turn-returns-in_err-declare g c = search rules
+
+pub one_turn-run_all-requires : goal.one_turn-run_all-requires
+one_turn-run_all-requires g c = search rules
+
+pub one_turn-returns-in_err-run_all : goal.one_turn-returns-in_err-run_all
+one_turn-returns-in_err-run_all g c = search rules
+
+pub one_turn-returns : goal.one_turn-returns
+one_turn-returns g c = search rules
+
+pub run_all-each-init : goal.run_all-each-init
+run_all-each-init g c = search rules
+
+pub run_all-offset_bounds-statements-statement-index : goal.run_all-offset_bounds-statements-statement-index
+run_all-offset_bounds-statements-statement-index g c = search rules
+
+pub run_all-returns-in_err-run_statement : goal.run_all-returns-in_err-run_statement
+run_all-returns-in_err-run_statement g c = grind (arith, common_steps)
+
+pub run_all-each-smaller : goal.run_all-each-smaller
+run_all-each-smaller g c = search rules
+
+pub run_all-each-preserved : goal.run_all-each-preserved
+run_all-each-preserved g c = grind (arith, common_steps)
+
+pub run_all-returns : goal.run_all-returns
+run_all-returns g c = grind (arith, common_steps)
+
+pub run_statement-returns-in_err-step-in-Let : goal.run_statement-returns-in_err-step-in-Let
+run_statement-returns-in_err-step-in-Let g c = search rules
+
+pub run_statement-returns-in_err-step-in-Set : goal.run_statement-returns-in_err-step-in-Set
+run_statement-returns-in_err-step-in-Set g c = search rules
+
+pub run_statement-returns-in_err-step-in-SetElement : goal.run_statement-returns-in_err-step-in-SetElement
+run_statement-returns-in_err-step-in-SetElement g c = search rules
+
+pub run_statement-returns-in_ok-step-in-Let : goal.run_statement-returns-in_ok-step-in-Let
+run_statement-returns-in_ok-step-in-Let g c = search rules
+
+pub run_statement-returns-in_ok-step-in-Set : goal.run_statement-returns-in_ok-step-in-Set
+run_statement-returns-in_ok-step-in-Set g c = search rules
+
+pub run_statement-returns-in_ok-step-in-SetElement : goal.run_statement-returns-in_ok-step-in-SetElement
+run_statement-returns-in_ok-step-in-SetElement g c = search rules

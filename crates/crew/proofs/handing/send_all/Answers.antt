@@ -33,3 +33,27 @@ loop-part-preserved g c = let i = c.loop-part.invariant in let m = c.len-k.resul
           (slice_get-get_or c.loop-part.senders m c.index-senders-k.result (let same = i.out.len in omega arith)) c.send.ensures at);
       capacity = search rules;
     }
+
+pub offset_bounds-relays-k : goal.offset_bounds-relays-k
+offset_bounds-relays-k g c = search rules
+
+pub bounds-relays-k : goal.bounds-relays-k
+bounds-relays-k g c = search rules
+
+pub offset_bounds-senders-k : goal.offset_bounds-senders-k
+offset_bounds-senders-k g c = search rules
+
+pub bounds-senders-k : goal.bounds-senders-k
+bounds-senders-k g c = search rules
+
+pub loop-part-smaller : goal.loop-part-smaller
+loop-part-smaller g c = search rules
+
+pub returns-clause-sent : goal.returns-clause-sent
+returns-clause-sent g c = search rules
+
+pub returns-clause-emptied : goal.returns-clause-emptied
+returns-clause-emptied g c = search rules
+
+pub returns-clause-capacity : goal.returns-clause-capacity
+returns-clause-capacity g c = search rules

@@ -1,4 +1,4 @@
-use Rattle.std.proofs.Common.{arith, length, ap}
+use Rattle.std.proofs.Common.{arith, length, ap, rules}
 use Rattle.gkr_cmd.proofs.Replied.{command_replied, too_long}
 use Rattle.gkr_cmd.proofs.replying.run_case_waiting.Goals as goal
 
@@ -11,3 +11,66 @@ pub returns-clause-reply : goal.returns-clause-reply
 returns-clause-reply g c =
     command_replied c.args.command (g.S.Source.left c.args.source.now) (g.S.Source.left c.read_input.new.source) c.in_ok-input.input.items c.answer_waiting.result
     c.in_ok-input.ensures.bytes (omega (arith, c.is_too_long.ensures.short c.if-is_too_long.false, ap length c.deref.ensures.value)) (rw c.deref-2.ensures.value at c.answer_waiting.ensures.reply)
+
+pub overflow_cast-read_input : goal.overflow_cast-read_input
+overflow_cast-read_input g c = search rules
+
+pub read_input-requires : goal.read_input-requires
+read_input-requires g c = search rules
+
+pub returns-in_err-input-clause-reply : goal.returns-in_err-input-clause-reply
+returns-in_err-input-clause-reply g c = search rules
+
+pub returns-in_err-input-clause-named : goal.returns-in_err-input-clause-named
+returns-in_err-input-clause-named g c = search rules
+
+pub returns-in_err-input-clause-read : goal.returns-in_err-input-clause-read
+returns-in_err-input-clause-read g c = search rules
+
+pub returns-in_err-input-clause-within : goal.returns-in_err-input-clause-within
+returns-in_err-input-clause-within g c = search rules
+
+pub returns-in_err-input-clause-fault : goal.returns-in_err-input-clause-fault
+returns-in_err-input-clause-fault g c = search rules
+
+pub returns-in_err-input-clause-no_fault : goal.returns-in_err-input-clause-no_fault
+returns-in_err-input-clause-no_fault g c = search rules
+
+pub returns-then-is_too_long-clause-named : goal.returns-then-is_too_long-clause-named
+returns-then-is_too_long-clause-named g c = search rules
+
+pub returns-then-is_too_long-clause-read : goal.returns-then-is_too_long-clause-read
+returns-then-is_too_long-clause-read g c = search rules
+
+pub returns-then-is_too_long-clause-within : goal.returns-then-is_too_long-clause-within
+returns-then-is_too_long-clause-within g c = search rules
+
+pub returns-then-is_too_long-clause-fault : goal.returns-then-is_too_long-clause-fault
+returns-then-is_too_long-clause-fault g c = search rules
+
+pub returns-then-is_too_long-clause-no_fault : goal.returns-then-is_too_long-clause-no_fault
+returns-then-is_too_long-clause-no_fault g c = search rules
+
+pub answer_waiting-requires-clause-waits : goal.answer_waiting-requires-clause-waits
+answer_waiting-requires-clause-waits g c = search rules
+
+pub answer_waiting-requires-clause-workers : goal.answer_waiting-requires-clause-workers
+answer_waiting-requires-clause-workers g c = search rules
+
+pub answer_waiting-requires-clause-limit : goal.answer_waiting-requires-clause-limit
+answer_waiting-requires-clause-limit g c = search rules
+
+pub returns-clause-named : goal.returns-clause-named
+returns-clause-named g c = search rules
+
+pub returns-clause-read : goal.returns-clause-read
+returns-clause-read g c = search rules
+
+pub returns-clause-within : goal.returns-clause-within
+returns-clause-within g c = search rules
+
+pub returns-clause-fault : goal.returns-clause-fault
+returns-clause-fault g c = search rules
+
+pub returns-clause-no_fault : goal.returns-clause-no_fault
+returns-clause-no_fault g c = search rules

@@ -1,4 +1,4 @@
-use Rattle.std.proofs.Common.{map}
+use Rattle.std.proofs.Common.{map, rules}
 use Rattle.std.specs.Prelude.{string_bytes}
 use Rattle.gkr_cmd.specs.Headline.{Run}
 use Rattle.gkr_cmd.proofs.Headlines.{Makes, promises_of}
@@ -26,3 +26,57 @@ returns-clause-run g c =
     } in
     let makes : Makes run c.in-Ok.command c.reply_alone-made.result = record { is_reply = c.reply_alone-made.ensures.reply; usage = c.reply_alone-made.ensures.usage; read = c.reply_alone-made.ensures.read; within = c.reply_alone-made.ensures.within; fault = c.reply_alone-made.ensures.fault; no_fault = c.reply_alone-made.ensures.no_fault } in
     promises_of c.run_laws.ensures run c.in-Ok.command c.reply_alone-made.result c.in-Ok.ensures.command makes c.finish.ensures
+
+pub returns-in_default-clause-run : goal.returns-in_default-clause-run
+returns-in_default-clause-run g c = search rules
+
+pub returns-in_default-clause-unread : goal.returns-in_default-clause-unread
+returns-in_default-clause-unread g c = search rules
+
+pub returns-in_default-clause-waits : goal.returns-in_default-clause-waits
+returns-in_default-clause-waits g c = search rules
+
+pub returns-in_default-clause-untaken : goal.returns-in_default-clause-untaken
+returns-in_default-clause-untaken g c = search rules
+
+pub returns-in_default-clause-unwritten : goal.returns-in_default-clause-unwritten
+returns-in_default-clause-unwritten g c = search rules
+
+pub returns-in-Some-OfCase-Prove-clause-run : goal.returns-in-Some-OfCase-Prove-clause-run
+returns-in-Some-OfCase-Prove-clause-run g c = search rules
+
+pub returns-in-Some-OfCase-Prove-clause-unread : goal.returns-in-Some-OfCase-Prove-clause-unread
+returns-in-Some-OfCase-Prove-clause-unread g c = search rules
+
+pub returns-in-Some-OfCase-Prove-clause-waits : goal.returns-in-Some-OfCase-Prove-clause-waits
+returns-in-Some-OfCase-Prove-clause-waits g c = search rules
+
+pub returns-in-Some-OfCase-Prove-clause-untaken : goal.returns-in-Some-OfCase-Prove-clause-untaken
+returns-in-Some-OfCase-Prove-clause-untaken g c = search rules
+
+pub returns-in-Some-OfCase-Prove-clause-unwritten : goal.returns-in-Some-OfCase-Prove-clause-unwritten
+returns-in-Some-OfCase-Prove-clause-unwritten g c = search rules
+
+pub returns-in-Some-OfCase-Prove-2 : goal.returns-in-Some-OfCase-Prove-2
+returns-in-Some-OfCase-Prove-2 g c = search rules
+
+pub reply_alone-made-requires-clause-workers : goal.reply_alone-made-requires-clause-workers
+reply_alone-made-requires-clause-workers g c = search rules
+
+pub reply_alone-made-requires-clause-piece : goal.reply_alone-made-requires-clause-piece
+reply_alone-made-requires-clause-piece g c = search rules
+
+pub reply_alone-made-requires-clause-alone : goal.reply_alone-made-requires-clause-alone
+reply_alone-made-requires-clause-alone g c = search rules
+
+pub returns-clause-unread : goal.returns-clause-unread
+returns-clause-unread g c = search rules
+
+pub returns-clause-waits : goal.returns-clause-waits
+returns-clause-waits g c = search rules
+
+pub returns-clause-untaken : goal.returns-clause-untaken
+returns-clause-untaken g c = search rules
+
+pub returns-clause-unwritten : goal.returns-clause-unwritten
+returns-clause-unwritten g c = search rules

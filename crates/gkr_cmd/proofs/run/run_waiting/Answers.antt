@@ -1,4 +1,4 @@
-use Rattle.std.proofs.Common.{map}
+use Rattle.std.proofs.Common.{map, rules}
 use Rattle.std.specs.Prelude.{string_bytes}
 use Rattle.gkr_cmd.specs.Headline.{Run}
 use Rattle.gkr_cmd.proofs.Headlines.{Makes, promises_of}
@@ -26,3 +26,18 @@ returns-clause-run g c =
     } in
     let makes : Makes run c.in-Ok.command c.reply_waiting-made.result = record { is_reply = c.reply_waiting-made.ensures.reply; usage = c.reply_waiting-made.ensures.usage; read = c.reply_waiting-made.ensures.read; within = c.reply_waiting-made.ensures.within; fault = c.reply_waiting-made.ensures.fault; no_fault = c.reply_waiting-made.ensures.no_fault } in
     promises_of c.run_laws.ensures run c.in-Ok.command c.reply_waiting-made.result c.in-Ok.ensures.command makes c.finish.ensures
+
+pub returns-in_default-clause-run : goal.returns-in_default-clause-run
+returns-in_default-clause-run g c = search rules
+
+pub returns-in_default-clause-unread : goal.returns-in_default-clause-unread
+returns-in_default-clause-unread g c = search rules
+
+pub reply_waiting-made-requires-clause-workers : goal.reply_waiting-made-requires-clause-workers
+reply_waiting-made-requires-clause-workers g c = search rules
+
+pub reply_waiting-made-requires-clause-waits : goal.reply_waiting-made-requires-clause-waits
+reply_waiting-made-requires-clause-waits g c = search rules
+
+pub returns-clause-unread : goal.returns-clause-unread
+returns-clause-unread g c = search rules

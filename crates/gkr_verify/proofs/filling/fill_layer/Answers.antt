@@ -1,4 +1,4 @@
-use Rattle.std.proofs.Common.{◌≡◌, ℕ, List, ◌++◌, IsTrue, length, sym, ◌∙◌, ap, subst}
+use Rattle.std.proofs.Common.{◌≡◌, ℕ, List, ◌++◌, IsTrue, length, sym, ◌∙◌, ap, subst, rules}
 use Rattle.field_ext.specs.Field.{K}
 use Rattle.transcript_fs.specs.Source.{Source, draws, state_after}
 use Rattle.proof_wire.specs.declared.messages.Round.{Round}
@@ -50,3 +50,45 @@ returns-clause-state g c =
     let last = c.deref.ensures.value ∙ sym c.of-2.ensures in
     let taken : source.absorb (g.C.Challenges.state c.fill_rounds.new.challenges) c.deref.result.now ≡ state_at_last source s layer = λ j. source.absorb (state j) (last j) in
     layer_state source s layer (g.C.Challenges.state c.draw_after.new.challenges) (c.in_ok-challenge.ensures.state ∙ ap source.after taken)
+
+pub returns-in_err-rounds-clause-messages : goal.returns-in_err-rounds-clause-messages
+returns-in_err-rounds-clause-messages g c = search rules
+
+pub returns-in_err-rounds-clause-claim : goal.returns-in_err-rounds-clause-claim
+returns-in_err-rounds-clause-claim g c = search rules
+
+pub returns-in_err-rounds-clause-drawn : goal.returns-in_err-rounds-clause-drawn
+returns-in_err-rounds-clause-drawn g c = search rules
+
+pub returns-in_err-rounds-clause-state : goal.returns-in_err-rounds-clause-state
+returns-in_err-rounds-clause-state g c = search rules
+
+pub returns-in_err-last-clause-messages : goal.returns-in_err-last-clause-messages
+returns-in_err-last-clause-messages g c = search rules
+
+pub returns-in_err-last-clause-claim : goal.returns-in_err-last-clause-claim
+returns-in_err-last-clause-claim g c = search rules
+
+pub returns-in_err-last-clause-drawn : goal.returns-in_err-last-clause-drawn
+returns-in_err-last-clause-drawn g c = search rules
+
+pub returns-in_err-last-clause-state : goal.returns-in_err-last-clause-state
+returns-in_err-last-clause-state g c = search rules
+
+pub returns-in_err-challenge-clause-messages : goal.returns-in_err-challenge-clause-messages
+returns-in_err-challenge-clause-messages g c = search rules
+
+pub returns-in_err-challenge-clause-claim : goal.returns-in_err-challenge-clause-claim
+returns-in_err-challenge-clause-claim g c = search rules
+
+pub returns-in_err-challenge-clause-drawn : goal.returns-in_err-challenge-clause-drawn
+returns-in_err-challenge-clause-drawn g c = search rules
+
+pub returns-in_err-challenge-clause-state : goal.returns-in_err-challenge-clause-state
+returns-in_err-challenge-clause-state g c = search rules
+
+pub returns-clause-messages : goal.returns-clause-messages
+returns-clause-messages g c = search rules
+
+pub returns-clause-claim : goal.returns-clause-claim
+returns-clause-claim g c = search rules

@@ -1,4 +1,4 @@
-use Rattle.std.proofs.Common.{◌≡◌, ◌+◌, ℕ, List, [], ◌∷◌, ◌++◌, sym, ◌∙◌, ap}
+use Rattle.std.proofs.Common.{◌≡◌, ◌+◌, ℕ, List, [], ◌∷◌, ◌++◌, sym, ◌∙◌, ap, rules}
 use Rattle.field_ext.specs.Field.{K}
 use Rattle.transcript_fs.specs.Source.{Source, draws, state_after}
 use Rattle.proof_wire.specs.declared.messages.LayerMessages.{LayerMessages}
@@ -31,3 +31,36 @@ loop-layer-preserved g c =
     c.in_ok-next.ensures.drawn ∙ ap (λ (m : LayerMessages). drawn ++ draws source s (messages_of m)) same in
     coe 0 1 (j. LayersFilled source s0 c.args.first c.args.layers.now c.args.drawn.now.items (c.loop-layer.layer-index + 1) (sym state j) (sym value j) (sym grown j) (sym behind j))
     (layer_filled source s0 c.args.first c.args.layers.now c.args.drawn.now.items c.loop-layer.layer-index s claim made drawn c.loop-layer.invariant c.layer-item.result c.loop-layer-test.true c.layer-item.is)
+
+pub returns-in_err-made-clause-messages : goal.returns-in_err-made-clause-messages
+returns-in_err-made-clause-messages g c = search rules
+
+pub returns-in_err-made-clause-drawn : goal.returns-in_err-made-clause-drawn
+returns-in_err-made-clause-drawn g c = search rules
+
+pub returns-in_err-made-clause-state : goal.returns-in_err-made-clause-state
+returns-in_err-made-clause-state g c = search rules
+
+pub loop-layer-init : goal.loop-layer-init
+loop-layer-init g c = search rules
+
+pub offset_bounds-layers-layer-index : goal.offset_bounds-layers-layer-index
+offset_bounds-layers-layer-index g c = search rules
+
+pub returns-in_err-next-clause-messages : goal.returns-in_err-next-clause-messages
+returns-in_err-next-clause-messages g c = search rules
+
+pub returns-in_err-next-clause-drawn : goal.returns-in_err-next-clause-drawn
+returns-in_err-next-clause-drawn g c = search rules
+
+pub returns-in_err-next-clause-state : goal.returns-in_err-next-clause-state
+returns-in_err-next-clause-state g c = search rules
+
+pub returns-in_err-push-clause-messages : goal.returns-in_err-push-clause-messages
+returns-in_err-push-clause-messages g c = search rules
+
+pub returns-in_err-push-clause-drawn : goal.returns-in_err-push-clause-drawn
+returns-in_err-push-clause-drawn g c = search rules
+
+pub returns-in_err-push-clause-state : goal.returns-in_err-push-clause-state
+returns-in_err-push-clause-state g c = search rules

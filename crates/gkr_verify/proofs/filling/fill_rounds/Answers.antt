@@ -1,4 +1,4 @@
-use Rattle.std.proofs.Common.{◌≡◌, ◌+◌, ℕ, List, [], ◌∷◌, ◌++◌, sym, ◌∙◌, ap}
+use Rattle.std.proofs.Common.{◌≡◌, ◌+◌, ℕ, List, [], ◌∷◌, ◌++◌, sym, ◌∙◌, ap, rules}
 use Rattle.field_ext.specs.Field.{K, k_ops}
 use Rattle.field_ext.specs.Polynomial.{value_at}
 use Rattle.transcript_fs.specs.Source.{Source}
@@ -42,3 +42,45 @@ loop-pair-preserved g c =
       filled = coe 0 1 (j. RoundsFilled source s0 c.args.claim c.args.pairs.now c.args.drawn.now.items (c.loop-pair.pair-index + 1) (sym state j) (sym value j) (sym grown j) (sym behind j))
           (round_filled source s0 c.args.claim c.args.pairs.now c.args.drawn.now.items c.loop-pair.pair-index s claim made drawn c.loop-pair.invariant.filled c.pair-item.result c.loop-pair-test.true c.pair-item.is);
     }
+
+pub returns-in_err-made-clause-messages : goal.returns-in_err-made-clause-messages
+returns-in_err-made-clause-messages g c = search rules
+
+pub returns-in_err-made-clause-drawn : goal.returns-in_err-made-clause-drawn
+returns-in_err-made-clause-drawn g c = search rules
+
+pub returns-in_err-made-clause-state : goal.returns-in_err-made-clause-state
+returns-in_err-made-clause-state g c = search rules
+
+pub loop-pair-init : goal.loop-pair-init
+loop-pair-init g c = search rules
+
+pub offset_bounds-pairs-pair-index : goal.offset_bounds-pairs-pair-index
+offset_bounds-pairs-pair-index g c = search rules
+
+pub fill_round-coefficients-requires : goal.fill_round-coefficients-requires
+fill_round-coefficients-requires g c = search rules
+
+pub returns-in_err-push-clause-messages : goal.returns-in_err-push-clause-messages
+returns-in_err-push-clause-messages g c = search rules
+
+pub returns-in_err-push-clause-drawn : goal.returns-in_err-push-clause-drawn
+returns-in_err-push-clause-drawn g c = search rules
+
+pub returns-in_err-push-clause-state : goal.returns-in_err-push-clause-state
+returns-in_err-push-clause-state g c = search rules
+
+pub shared_whole_as_slice-draw_after : goal.shared_whole_as_slice-draw_after
+shared_whole_as_slice-draw_after g c = search rules
+
+pub returns-in_err-challenge-clause-messages : goal.returns-in_err-challenge-clause-messages
+returns-in_err-challenge-clause-messages g c = search rules
+
+pub returns-in_err-challenge-clause-drawn : goal.returns-in_err-challenge-clause-drawn
+returns-in_err-challenge-clause-drawn g c = search rules
+
+pub returns-in_err-challenge-clause-state : goal.returns-in_err-challenge-clause-state
+returns-in_err-challenge-clause-state g c = search rules
+
+pub bind-requires : goal.bind-requires
+bind-requires g c = search rules

@@ -23,3 +23,24 @@ returns-clause-claim g c =
     let width = ap (λ (n : ℕ). 2 ^ n) size ∙ sym (size_of circuit 0 (omega arith)).0 in
     c.claim_there-claim.ensures.claim
     ∙ (λ i. extension_at k_ops k_ops (λ x. x) (map embed_k (padded_values (width i) c.args.outputs.now)) (point_draws source s (size i)))
+
+pub coordinates-requires : goal.coordinates-requires
+coordinates-requires g c = search rules
+
+pub returns-in_err-point-clause-point : goal.returns-in_err-point-clause-point
+returns-in_err-point-clause-point g c = search rules
+
+pub returns-in_err-point-clause-claim : goal.returns-in_err-point-clause-claim
+returns-in_err-point-clause-claim g c = search rules
+
+pub returns-in_err-point-clause-state : goal.returns-in_err-point-clause-state
+returns-in_err-point-clause-state g c = search rules
+
+pub claim_there-claim-requires-clause-few : goal.claim_there-claim-requires-clause-few
+claim_there-claim-requires-clause-few g c = search rules
+
+pub claim_there-claim-requires-clause-has : goal.claim_there-claim-requires-clause-has
+claim_there-claim-requires-clause-has g c = search rules
+
+pub returns-clause-state : goal.returns-clause-state
+returns-clause-state g c = search rules

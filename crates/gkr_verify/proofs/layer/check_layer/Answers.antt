@@ -1,4 +1,4 @@
-use Rattle.std.proofs.Common.{◌≡◌, ℕ, ◌+◌, [], ◌∷◌, ◌++◌, List, length, get_or, take, drop, IsTrue, arith, ◌∙◌, ap, sym, subst}
+use Rattle.std.proofs.Common.{◌≡◌, ℕ, ◌+◌, [], ◌∷◌, ◌++◌, List, length, get_or, take, drop, IsTrue, arith, ◌∙◌, ap, sym, subst, rules}
 use Rattle.std.proofs.lemmas.List.{length-map}
 use Rattle.field_ext.specs.Field.{K, k_ops}
 use Rattle.field_ext.specs.Polynomial.{value_at}
@@ -128,3 +128,48 @@ returns-clause-state g c =
     c.challenge-challenge.ensures.state
     ∙ ap source.after (c.absorb.ensures ∙ (λ j. source.absorb ((c.in-Ok.ensures.state ∙ (λ j. state_after source s (same j))) j) (c.as_slice-last.ensures j)))
     ∙ sym (state-append source s rounds (m.last ∷ []))
+
+pub check_rounds-requires-clause-capacity : goal.check_rounds-requires-clause-capacity
+check_rounds-requires-clause-capacity g c = search rules
+
+pub check_rounds-requires-clause-has : goal.check_rounds-requires-clause-has
+check_rounds-requires-clause-has g c = search rules
+
+pub returns-in-Err-clause-holds : goal.returns-in-Err-clause-holds
+returns-in-Err-clause-holds g c = search rules
+
+pub returns-in-Err-clause-state : goal.returns-in-Err-clause-state
+returns-in-Err-clause-state g c = search rules
+
+pub overflow_add-layer : goal.overflow_add-layer
+overflow_add-layer g c = search rules
+
+pub coordinates-k-requires : goal.coordinates-k-requires
+coordinates-k-requires g c = search rules
+
+pub split_at-requires : goal.split_at-requires
+split_at-requires g c = search rules
+
+pub end_value-want-requires-clause-layer : goal.end_value-want-requires-clause-layer
+end_value-want-requires-clause-layer g c = search rules
+
+pub end_value-want-requires-clause-wiring : goal.end_value-want-requires-clause-wiring
+end_value-want-requires-clause-wiring g c = search rules
+
+pub end_value-want-requires-clause-place : goal.end_value-want-requires-clause-place
+end_value-want-requires-clause-place g c = search rules
+
+pub end_value-want-requires-clause-left : goal.end_value-want-requires-clause-left
+end_value-want-requires-clause-left g c = search rules
+
+pub end_value-want-requires-clause-right : goal.end_value-want-requires-clause-right
+end_value-want-requires-clause-right g c = search rules
+
+pub returns-then-not-equals-clause-holds : goal.returns-then-not-equals-clause-holds
+returns-then-not-equals-clause-holds g c = search rules
+
+pub returns-then-not-equals-clause-state : goal.returns-then-not-equals-clause-state
+returns-then-not-equals-clause-state g c = search rules
+
+pub returns-clause-fails : goal.returns-clause-fails
+returns-clause-fails g c = search rules

@@ -1,4 +1,4 @@
-use Rattle.std.proofs.Common.{◌≡◌, ℕ, ◌+◌, List, [], ◌∷◌, take, drop, arith, sym, ◌∙◌, ap, subst}
+use Rattle.std.proofs.Common.{◌≡◌, ℕ, ◌+◌, List, [], ◌∷◌, take, drop, arith, sym, ◌∙◌, ap, subst, rules}
 use Rattle.field_ext.specs.Field.{K, k_ops}
 use Rattle.circuit_core.specs.Parts.{height, input_table}
 use Rattle.circuit_core.specs.Sound.{exponent_at}
@@ -70,3 +70,36 @@ returns g c =
     let there : place_of c.place_kept-place.result ≡ place = c.place_kept-place.ensures ∙ (λ i. kept_place at.at (size i) at.claim.challenge at.kept) in
     (λ i. record { verdict = (c.check_inputs.ensures ∙ (λ j. first_failure (input_equation at.claim.value (value_over k_ops input (there j)) ∷ []))) i; state = s })
     ∙ sym (down_ends c.args.form g.C.Challenges.source p input (g.C.Challenges.state c.args.challenges.now) place0 c.args.claim c.args.messages.now at.layer s place at.claim.value at.invariant c.requires.layers c.loop-layer-test.false)
+
+pub loop-layer-init : goal.loop-layer-init
+loop-layer-init g c = search rules
+
+pub offset_bounds-messages-layer : goal.offset_bounds-messages-layer
+offset_bounds-messages-layer g c = search rules
+
+pub bounds-messages-layer : goal.bounds-messages-layer
+bounds-messages-layer g c = search rules
+
+pub offset_bounds-wirings-layer : goal.offset_bounds-wirings-layer
+offset_bounds-wirings-layer g c = search rules
+
+pub bounds-wirings-layer : goal.bounds-wirings-layer
+bounds-wirings-layer g c = search rules
+
+pub check_kept-requires-clause-layer : goal.check_kept-requires-clause-layer
+check_kept-requires-clause-layer g c = search rules
+
+pub check_kept-requires-clause-kept : goal.check_kept-requires-clause-kept
+check_kept-requires-clause-kept g c = search rules
+
+pub check_kept-requires-clause-drawn : goal.check_kept-requires-clause-drawn
+check_kept-requires-clause-drawn g c = search rules
+
+pub coordinates-k-requires : goal.coordinates-k-requires
+coordinates-k-requires g c = search rules
+
+pub place_kept-place-requires : goal.place_kept-place-requires
+place_kept-place-requires g c = search rules
+
+pub check_inputs-requires-clause-inputs : goal.check_inputs-requires-clause-inputs
+check_inputs-requires-clause-inputs g c = search rules

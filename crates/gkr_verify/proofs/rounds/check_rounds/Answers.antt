@@ -1,4 +1,5 @@
-use Rattle.std.proofs.Common.{◌≡◌, ◌+◌, List, arith, ◌∙◌, ap, sym, subst, IsTrue}
+use Rattle.std.proofs.lemmas.Grind.{common_steps}
+use Rattle.std.proofs.Common.{◌≡◌, ◌+◌, List, arith, ◌∙◌, ap, sym, subst, IsTrue, rules}
 use Rattle.std.proofs.lemmas.List.{length-map}
 use Rattle.std.proofs.lemmas.Result.{err_from_is_err_and}
 use Rattle.gkr_layers.specs.declared.verdict.Verdict.TheVariants.{Sum}
@@ -51,3 +52,54 @@ returns-in_err-take-clause-fails g c =
     failed source (g.C.Challenges.state c.args.challenges.now) c.args.claim (round_messages c.args.messages.now) c.loop-j.j (g.C.Challenges.state c.loop-j.challenges) c.loop-j.rounds.claim c.loop-j.drawn before.progress
     q is.0 is.1 e.fails number rest more
     ∙ (λ i. record { verdict = Sum number (sym (e.round ∙ count) i) (sym e.had i) (sym e.claim i); state = g.C.Challenges.state c.loop-j.challenges }))
+
+pub loop-j-init : goal.loop-j-init
+loop-j-init g c = grind (arith, common_steps)
+
+pub offset_bounds-messages-j : goal.offset_bounds-messages-j
+offset_bounds-messages-j g c = search rules
+
+pub bounds-messages-j : goal.bounds-messages-j
+bounds-messages-j g c = search rules
+
+pub take-requires : goal.take-requires
+take-requires g c = search rules
+
+pub returns-in_err-take-clause-holds : goal.returns-in_err-take-clause-holds
+returns-in_err-take-clause-holds g c = search rules
+
+pub returns-in_err-take-clause-claim : goal.returns-in_err-take-clause-claim
+returns-in_err-take-clause-claim g c = search rules
+
+pub returns-in_err-take-clause-drawn : goal.returns-in_err-take-clause-drawn
+returns-in_err-take-clause-drawn g c = search rules
+
+pub returns-in_err-take-clause-state : goal.returns-in_err-take-clause-state
+returns-in_err-take-clause-state g c = search rules
+
+pub shared_whole_as_slice-absorb : goal.shared_whole_as_slice-absorb
+shared_whole_as_slice-absorb g c = search rules
+
+pub bind-requires : goal.bind-requires
+bind-requires g c = search rules
+
+pub offset_bounds-drawn-j : goal.offset_bounds-drawn-j
+offset_bounds-drawn-j g c = search rules
+
+pub bounds-drawn-j : goal.bounds-drawn-j
+bounds-drawn-j g c = search rules
+
+pub returns-clause-holds : goal.returns-clause-holds
+returns-clause-holds g c = grind (arith, common_steps)
+
+pub returns-clause-claim : goal.returns-clause-claim
+returns-clause-claim g c = grind (arith, common_steps)
+
+pub returns-clause-drawn : goal.returns-clause-drawn
+returns-clause-drawn g c = grind (arith, common_steps)
+
+pub returns-clause-state : goal.returns-clause-state
+returns-clause-state g c = grind (arith, common_steps)
+
+pub returns-clause-fails : goal.returns-clause-fails
+returns-clause-fails g c = search rules

@@ -1,4 +1,4 @@
-use Rattle.std.proofs.Common.{◌≡◌, ℕ, ◌+◌, List, [], false, IsTrue, drop, length, sym, ◌∙◌, ap, subst}
+use Rattle.std.proofs.Common.{◌≡◌, ℕ, ◌+◌, List, [], false, IsTrue, drop, length, sym, ◌∙◌, ap, subst, rules}
 use Rattle.std.specs.Prelude.{IfOk}
 use Rattle.field_ext.specs.Field.{K}
 use Rattle.circuit_core.specs.Parts.{Parts}
@@ -69,3 +69,36 @@ returns-clause-sound g c =
     (n : ℕ) × LetsPass stated (all_messages (c.in_ok-filled.ensures.messages j).layers) (all_draws source s (exponent_at p 0) (all_messages (c.in_ok-filled.ensures.messages j).layers)) n))
     (coe 0 1 (j. IfOk c.check.result (λ (verdict : Verdict). verdict ≡ Accepted → IsFalse p c.args.inputs.now c.args.outputs.now →
     (n : ℕ) × LetsPass stated (all_messages made.layers) (same j) n)) c.check.ensures.sound)
+
+pub fill_drawn-requires-clause-outputs : goal.fill_drawn-requires-clause-outputs
+fill_drawn-requires-clause-outputs g c = search rules
+
+pub fill_drawn-requires-clause-shape : goal.fill_drawn-requires-clause-shape
+fill_drawn-requires-clause-shape g c = search rules
+
+pub fill_drawn-requires-clause-has : goal.fill_drawn-requires-clause-has
+fill_drawn-requires-clause-has g c = search rules
+
+pub returns-in_err-filled-clause-verdict : goal.returns-in_err-filled-clause-verdict
+returns-in_err-filled-clause-verdict g c = search rules
+
+pub returns-in_err-filled-clause-never_sum : goal.returns-in_err-filled-clause-never_sum
+returns-in_err-filled-clause-never_sum g c = search rules
+
+pub returns-in_err-filled-clause-sound : goal.returns-in_err-filled-clause-sound
+returns-in_err-filled-clause-sound g c = search rules
+
+pub returns-in_err-filled-clause-state : goal.returns-in_err-filled-clause-state
+returns-in_err-filled-clause-state g c = search rules
+
+pub check-requires-clause-inputs : goal.check-requires-clause-inputs
+check-requires-clause-inputs g c = search rules
+
+pub check-requires-clause-outputs : goal.check-requires-clause-outputs
+check-requires-clause-outputs g c = search rules
+
+pub check-requires-clause-shape : goal.check-requires-clause-shape
+check-requires-clause-shape g c = search rules
+
+pub returns-clause-state : goal.returns-clause-state
+returns-clause-state g c = search rules

@@ -1,5 +1,5 @@
 -- The levels, uses and chains are those of the list
-use Rattle.std.proofs.Common.{◌≡◌, ◌∙◌, ℕ, length, get_or, ap, subst, arith}
+use Rattle.std.proofs.Common.{◌≡◌, ◌∙◌, ℕ, length, get_or, ap, subst, arith, rules}
 use Rattle.node_core.proofs.api.InOrder.{length-made_in_order}
 use Rattle.layer_compile.specs.Levels.{level, level_of, greatest}
 use Rattle.layer_compile.specs.Next.{AreChains}
@@ -51,3 +51,30 @@ pub invariant_of-result-clause-many_nexts : goal.invariant_of-result-clause-many
 invariant_of-result-clause-many_nexts c =
     let many = ap length (c.deref-3.ensures.value ∙ c.in_ok-node_levels.ensures) ∙ length-made_in_order level_of c.args.list.now.nodes in
     omega (arith, c.in_ok-by_level.by_level.next.ok.0, c.in_ok-by_level.ensures.nexts, many)
+
+pub returns-in_err-node_levels-clause-list : goal.returns-in_err-node_levels-clause-list
+returns-in_err-node_levels-clause-list g = search rules
+
+pub returns-in_err-node_levels-clause-fine : goal.returns-in_err-node_levels-clause-fine
+returns-in_err-node_levels-clause-fine g = search rules
+
+pub returns-in_err-node_uses-clause-list : goal.returns-in_err-node_uses-clause-list
+returns-in_err-node_uses-clause-list g = search rules
+
+pub returns-in_err-node_uses-clause-fine : goal.returns-in_err-node_uses-clause-fine
+returns-in_err-node_uses-clause-fine g = search rules
+
+pub returns-in_err-by_level-clause-list : goal.returns-in_err-by_level-clause-list
+returns-in_err-by_level-clause-list g = search rules
+
+pub returns-in_err-by_level-clause-fine : goal.returns-in_err-by_level-clause-fine
+returns-in_err-by_level-clause-fine g = search rules
+
+pub invariant_of-result-clause-used : goal.invariant_of-result-clause-used
+invariant_of-result-clause-used g = search rules
+
+pub returns-clause-list : goal.returns-clause-list
+returns-clause-list g c = search rules
+
+pub returns-clause-fine : goal.returns-clause-fine
+returns-clause-fine g = search rules

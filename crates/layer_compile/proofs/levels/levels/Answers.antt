@@ -1,5 +1,5 @@
 -- A level is made from those of the operands, which are earlier nodes
-use Rattle.std.proofs.Common.{◌≡◌, ◌≤◌, ◌+◌, ◌∙◌, [], length, get_or, sym, ap, arith}
+use Rattle.std.proofs.Common.{◌≡◌, ◌≤◌, ◌+◌, ◌∙◌, [], length, get_or, sym, ap, arith, rules}
 use Rattle.std.proofs.lemmas.List.{get_or_read}
 use Rattle.std.proofs.lemmas.List.Elements.{All-nil, All-same, All-push, All-weaker}
 use Rattle.node_core.specs.Nodes.{node_at}
@@ -46,3 +46,9 @@ loop-node-preserved c =
       made = c.in_ok-add.ensures ∙ made_in_order_step level_of c.nodes-node-items.result.now i levels c.node-item.result c.level_of-level.result c.loop-node-test.true c.loop-node.invariant.made c.node-item.is (c.level_of-level.ensures.value ∙ ap (λ earlier. level_of earlier c.node-item.result) c.deref.ensures.value);
       small = All-same (λ level. level ≤ i + 1) _ _ c.in_ok-add.ensures (All-push (λ level. level ≤ i + 1) levels c.level_of-level.result (All-weaker (λ level. level ≤ i) (λ level. level ≤ i + 1) (λ level l. omega arith) levels c.loop-node.invariant.small) (omega (arith, c.level_of-level.ensures.small, many)));
     }
+
+pub offset_bounds-node-items-node-index : goal.offset_bounds-node-items-node-index
+offset_bounds-node-items-node-index g = search rules
+
+pub returns-in_err-add : goal.returns-in_err-add
+returns-in_err-add g = search rules

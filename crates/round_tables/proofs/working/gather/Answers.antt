@@ -21,3 +21,27 @@ returns-else-is_empty-clause-gathers g c =
     let some : 0 < length c.args.bound.now = search rules in
     second-phase layer.k layer.gates.now layer.values.now.items (place_of layer) c.requires.layer.layer_is (weights_of layer) c.args.value c.args.bound.now c.args.from c.gather_second.new.scales c.gather_second.new.shifts
     some c.requires.begins c.requires.layer.weights c.gather_second.ensures.gathers
+
+pub gather_first-requires-clause-layer : goal.gather_first-requires-clause-layer
+gather_first-requires-clause-layer g c = search rules
+
+pub gather_first-requires-clause-values : goal.gather_first-requires-clause-values
+gather_first-requires-clause-values g c = search rules
+
+pub gather_first-requires-clause-same : goal.gather_first-requires-clause-same
+gather_first-requires-clause-same g c = search rules
+
+pub gather_second-requires-clause-layer : goal.gather_second-requires-clause-layer
+gather_second-requires-clause-layer g c = search rules
+
+pub gather_second-requires-clause-bound : goal.gather_second-requires-clause-bound
+gather_second-requires-clause-bound g c = search rules
+
+pub gather_second-requires-clause-same : goal.gather_second-requires-clause-same
+gather_second-requires-clause-same g c = search rules
+
+pub returns-then-is_empty-clause-steps : goal.returns-then-is_empty-clause-steps
+returns-then-is_empty-clause-steps g c = search rules
+
+pub returns-else-is_empty-clause-steps : goal.returns-else-is_empty-clause-steps
+returns-else-is_empty-clause-steps g c = search rules

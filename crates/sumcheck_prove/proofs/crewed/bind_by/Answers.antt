@@ -1,3 +1,4 @@
+use Rattle.std.proofs.lemmas.Grind.{common_steps}
 -- The parts come back folded, and their sums are the next round's
 use Rattle.std.proofs.Common.{rules, ◌≡◌, ◌+◌, ◌<◌, [], ◌∷◌, ◌++◌, true, IsTrue, map, length, sym, ◌∙◌, ap, arith, subst, length-append}
 use Rattle.std.proofs.lemmas.List.{length-map}
@@ -38,3 +39,75 @@ returns-clause-message g c =
     (sym (length-map out.result.items (part_after true r)) ∙ ap length (sym back) ∙ c.parts_in.ensures.number stays)
     (subst (SumToPieces new) back (c.parts_in.ensures.sums stays))
     c.added-message.result left c.added-message.ensures.three c.added-message.ensures.value
+
+pub is_for_crew-requires-clause-here : goal.is_for_crew-requires-clause-here
+is_for_crew-requires-clause-here g c = search rules
+
+pub is_for_crew-requires-clause-left : goal.is_for_crew-requires-clause-left
+is_for_crew-requires-clause-left g c = search rules
+
+pub bind-requires-clause-here : goal.bind-requires-clause-here
+bind-requires-clause-here g c = search rules
+
+pub bind-requires-clause-left : goal.bind-requires-clause-left
+bind-requires-clause-left g c = search rules
+
+pub returns-then-not-is_for_crew-clause-bound : goal.returns-then-not-is_for_crew-clause-bound
+returns-then-not-is_for_crew-clause-bound g c = search rules
+
+pub returns-then-not-is_for_crew-clause-jobs : goal.returns-then-not-is_for_crew-clause-jobs
+returns-then-not-is_for_crew-clause-jobs g c = search rules
+
+pub returns-then-not-is_for_crew-clause-message : goal.returns-then-not-is_for_crew-clause-message
+returns-then-not-is_for_crew-clause-message g c = search rules
+
+pub returns-then-not-is_for_crew-clause-crew : goal.returns-then-not-is_for_crew-clause-crew
+returns-then-not-is_for_crew-clause-crew g c = search rules
+
+pub stays_in_parts-stays-requires-clause-here : goal.stays_in_parts-stays-requires-clause-here
+stays_in_parts-stays-requires-clause-here g c = search rules
+
+pub stays_in_parts-stays-requires-clause-left : goal.stays_in_parts-stays-requires-clause-left
+stays_in_parts-stays-requires-clause-left g c = search rules
+
+pub parts_out-parts-requires-clause-here : goal.parts_out-parts-requires-clause-here
+parts_out-parts-requires-clause-here g c = search rules
+
+pub parts_out-parts-requires-clause-left : goal.parts_out-parts-requires-clause-left
+parts_out-parts-requires-clause-left g c = search rules
+
+pub worked-jobs-requires-clause-same : goal.worked-jobs-requires-clause-same
+worked-jobs-requires-clause-same g c = search rules
+
+pub worked-jobs-requires-clause-few : goal.worked-jobs-requires-clause-few
+worked-jobs-requires-clause-few g c = search rules
+
+pub unload-requires : goal.unload-requires
+unload-requires g c = grind (arith, common_steps)
+
+pub parts_in-requires-clause-some : goal.parts_in-requires-clause-some
+parts_in-requires-clause-some g c = search rules
+
+pub parts_in-requires-clause-left : goal.parts_in-requires-clause-left
+parts_in-requires-clause-left g c = search rules
+
+pub returns-then-not-stays-clause-bound : goal.returns-then-not-stays-clause-bound
+returns-then-not-stays-clause-bound g c = search rules
+
+pub returns-then-not-stays-clause-jobs : goal.returns-then-not-stays-clause-jobs
+returns-then-not-stays-clause-jobs g c = grind (arith, common_steps)
+
+pub returns-then-not-stays-clause-message : goal.returns-then-not-stays-clause-message
+returns-then-not-stays-clause-message g c = search rules
+
+pub returns-then-not-stays-clause-crew : goal.returns-then-not-stays-clause-crew
+returns-then-not-stays-clause-crew g c = search rules
+
+pub returns-clause-bound : goal.returns-clause-bound
+returns-clause-bound g c = search rules
+
+pub returns-clause-jobs : goal.returns-clause-jobs
+returns-clause-jobs g c = grind (arith, common_steps)
+
+pub returns-clause-crew : goal.returns-clause-crew
+returns-clause-crew g c = search rules

@@ -1,5 +1,5 @@
 -- The jobs come back with their ranges gathered
-use Rattle.std.proofs.Common.{◌≡◌, ◌<◌, ◌≤◌, ◌++◌, List, false, true, length, take, drop, get_or, arith, sym, ◌∙◌, ap, subst}
+use Rattle.std.proofs.Common.{◌≡◌, ◌<◌, ◌≤◌, ◌++◌, List, false, true, length, take, drop, get_or, arith, sym, ◌∙◌, ap, subst, rules}
 use Rattle.wiring_poly.proofs.api.Identity.{written_back}
 use Rattle.round_tables.specs.Ranges.{LendingView, CollectingView, range_of}
 use Rattle.sumcheck_prove.specs.declared.jobs.Job.{Job}
@@ -26,3 +26,36 @@ collect_all-requires-clause-ranges g c k job u =
     let few : c.args.lending.number ≤ length given = omega (arith, size, number, c.requires.number) in
     coe 0 1 (i. HasRange (range_of (sym sum i) (sym parts i) (sym values i) true k) (get_or (sym c.deref_mut-2.ensures.value i) k job))
     (ranges_worked lending.sum lending.parts lending.size given c.round-jobs.result.items lending.number few c.round-jobs.ensures.each ranges k job within)
+
+pub lend_all-requires-clause-none : goal.lend_all-requires-clause-none
+lend_all-requires-clause-none g c = search rules
+
+pub lend_all-requires-clause-number : goal.lend_all-requires-clause-number
+lend_all-requires-clause-number g c = search rules
+
+pub round-jobs-requires : goal.round-jobs-requires
+round-jobs-requires g c = search rules
+
+pub collect-collecting-requires : goal.collect-collecting-requires
+collect-collecting-requires g c = search rules
+
+pub collect_all-requires-clause-none : goal.collect_all-requires-clause-none
+collect_all-requires-clause-none g c = search rules
+
+pub collect_all-requires-clause-number : goal.collect_all-requires-clause-number
+collect_all-requires-clause-number g c = search rules
+
+pub gathered-tables-requires : goal.gathered-tables-requires
+gathered-tables-requires g c = search rules
+
+pub invariant_of-gather : goal.invariant_of-gather
+invariant_of-gather g c = search rules
+
+pub returns-clause-tables : goal.returns-clause-tables
+returns-clause-tables g c = search rules
+
+pub returns-clause-gather : goal.returns-clause-gather
+returns-clause-gather g c = search rules
+
+pub returns-clause-crew : goal.returns-clause-crew
+returns-clause-crew g c = search rules

@@ -1,5 +1,6 @@
+use Rattle.std.proofs.lemmas.Grind.{common_steps}
 -- One line more
-use Rattle.std.proofs.Common.{◌≡◌, ◌++◌, List, [], map, length, get_or, arith, ◌∙◌, ap, ap₂, sym, add-one, length-append}
+use Rattle.std.proofs.Common.{◌≡◌, ◌++◌, List, [], map, length, get_or, arith, ◌∙◌, ap, ap₂, sym, add-one, length-append, rules}
 use Rattle.std.proofs.lemmas.List.{get_or-map}
 use Rattle.field_ext.specs.Field.{K}
 use Rattle.line_reduce.specs.Parts.{joined}
@@ -25,3 +26,15 @@ loop-k-preserved c =
       size = omega (arith, ap length items, length-append c.loop-k.lines.items (line_of c.index-jobs-k.result), size, c.loop-k.invariant.size, c.add_line.new.lines.ok.0, c.loop-k.lines.ok.0);
       capacity = omega (arith, c.loop-k.invariant.capacity, c.add_line.ensures.capacity);
     }
+
+pub loop-k-init : goal.loop-k-init
+loop-k-init g = grind (arith, common_steps)
+
+pub offset_bounds-jobs-k : goal.offset_bounds-jobs-k
+offset_bounds-jobs-k g = search rules
+
+pub bounds-jobs-k : goal.bounds-jobs-k
+bounds-jobs-k g = search rules
+
+pub returns : goal.returns
+returns g = search rules

@@ -1,5 +1,5 @@
 -- The lines of the parts are the table's
-use Rattle.std.proofs.Common.{◌≡◌, ◌^◌, ◌-◌, ◌++◌, ◌<◌, List, [], All, subst, map, length, take, drop, get_or, sym, ◌∙◌, ap, arith}
+use Rattle.std.proofs.Common.{◌≡◌, ◌^◌, ◌-◌, ◌++◌, ◌<◌, List, [], All, subst, map, length, take, drop, get_or, sym, ◌∙◌, ap, arith, rules}
 use Rattle.wiring_poly.proofs.api.Identity.{written_back}
 use Rattle.line_reduce.specs.Parts.{values_of, part_line, part_lines}
 use Rattle.line_reduce.proofs.api.PartLength.{length-part}
@@ -48,3 +48,36 @@ line_of_parts-requires-clause-lines g c =
     ap (λ (js : List Job). get_or (map line_of js) k []) c.deref.ensures.value
     ∙ jobs_worked values b e jobs.items _ c.round-jobs.result.items handed over c.round-jobs.ensures.each fits k (omega (arith, u, count)))
     ∙ ap (part_lines values (take 11 b) (take 11 e)) all
+
+pub aim_all-requires-clause-start : goal.aim_all-requires-clause-start
+aim_all-requires-clause-start g c = search rules
+
+pub aim_all-requires-clause-end : goal.aim_all-requires-clause-end
+aim_all-requires-clause-end g c = search rules
+
+pub round-jobs-requires : goal.round-jobs-requires
+round-jobs-requires g c = search rules
+
+pub collected-lines-requires-clause-none : goal.collected-lines-requires-clause-none
+collected-lines-requires-clause-none g c = search rules
+
+pub collected-lines-requires-clause-capacity : goal.collected-lines-requires-clause-capacity
+collected-lines-requires-clause-capacity g c = search rules
+
+pub line_of_parts-requires-clause-least : goal.line_of_parts-requires-clause-least
+line_of_parts-requires-clause-least g c = search rules
+
+pub line_of_parts-requires-clause-most : goal.line_of_parts-requires-clause-most
+line_of_parts-requires-clause-most g c = search rules
+
+pub line_of_parts-requires-clause-start : goal.line_of_parts-requires-clause-start
+line_of_parts-requires-clause-start g c = search rules
+
+pub line_of_parts-requires-clause-end : goal.line_of_parts-requires-clause-end
+line_of_parts-requires-clause-end g c = search rules
+
+pub returns-clause-line : goal.returns-clause-line
+returns-clause-line g c = search rules
+
+pub returns-clause-crew : goal.returns-clause-crew
+returns-clause-crew g c = search rules

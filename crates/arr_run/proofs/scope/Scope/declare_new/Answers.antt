@@ -1,4 +1,5 @@
-use Rattle.std.proofs.Common.{ℕ, List, [], ◌∷◌, ◌++◌, Option, Some, sym, ap, subst, ◌∙◌, set}
+use Rattle.std.proofs.lemmas.Grind.{common_steps}
+use Rattle.std.proofs.Common.{ℕ, List, [], ◌∷◌, ◌++◌, Option, Some, sym, ap, subst, ◌∙◌, set, rules, arith}
 use Rattle.arr_run.specs.Places.{Answers}
 use Rattle.arr_run.specs.Scope.{Names, place_of}
 use Rattle.arr_run.proofs.Places.{declared_new}
@@ -11,3 +12,18 @@ invariant_of-self-2 g c = λ long.
     (subst (λ (places : List (Option ℕ)). Answers places (c.self.inside.names.items ++ (c.args.name, c.args.binding) ∷ [])) (sym (c.set_place.ensures ∙ ap (λ (place : ℕ). set c.extend_places.new.places.items c.args.name (Some place)) place))
     (declared_new c.self.inside.names.items c.args.name c.args.binding c.extend_places.new.places.items (λ name. c.in_ok-extend_places.ensures.same name ∙ c.self.invariant long name)
     (ap (place_of c.args.name) c.self.view_is ∙ c.requires) c.in_ok-extend_places.ensures.capacity))
+
+pub invariant_of-self : goal.invariant_of-self
+invariant_of-self g c = search rules
+
+pub returns-in_err-extend_places : goal.returns-in_err-extend_places
+returns-in_err-extend_places g c = search rules
+
+pub invariant_of-self-in_err-push : goal.invariant_of-self-in_err-push
+invariant_of-self-in_err-push g c = grind (arith, common_steps)
+
+pub returns-in_err-push : goal.returns-in_err-push
+returns-in_err-push g c = search rules
+
+pub returns : goal.returns
+returns g c = search rules

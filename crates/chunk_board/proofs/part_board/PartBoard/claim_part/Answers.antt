@@ -28,3 +28,48 @@ returns-in-Some-clause-part g c =
     let part : t.part ≡ c.in-Some.part = head_of (sym t.took ∙ c.exchange-slot.ensures.2) refl c.in-Some.is in
     let is : c.claimer.inside.seat.me.0.parts ≡ c.args.self.now.parts = search rules in
     ap (λ l. slice_get l c.fetch_add-found.result) (sym is) ∙ there c.claimer.inside.seat.me.0.parts c.fetch_add-found.result t.part t.is ∙ ap Some part
+
+pub overflow_cast-claimer : goal.overflow_cast-claimer
+overflow_cast-claimer g c = search rules
+
+pub unreachable-requires : goal.unreachable-requires
+unreachable-requires g c = search rules
+
+pub unreachable-unreachable : goal.unreachable-unreachable
+unreachable-unreachable g c = search rules
+
+pub overflow_cast-result : goal.overflow_cast-result
+overflow_cast-result g c = search rules
+
+pub invariant_of-claimer : goal.invariant_of-claimer
+invariant_of-claimer g c = search rules
+
+pub invariant_of-claimer-else-found-from : goal.invariant_of-claimer-else-found-from
+invariant_of-claimer-else-found-from g c = search rules
+
+pub returns-in-Some-clause-some : goal.returns-in-Some-clause-some
+returns-in-Some-clause-some g c = search rules
+
+pub returns-in-Some-clause-few : goal.returns-in-Some-clause-few
+returns-in-Some-clause-few g c = search rules
+
+pub returns-in-Some-clause-step : goal.returns-in-Some-clause-step
+returns-in-Some-clause-step g c = search rules
+
+pub returns-in-Some-clause-none : goal.returns-in-Some-clause-none
+returns-in-Some-clause-none g c = search rules
+
+pub returns-else-found-from-clause-part : goal.returns-else-found-from-clause-part
+returns-else-found-from-clause-part g c = search rules
+
+pub returns-else-found-from-clause-some : goal.returns-else-found-from-clause-some
+returns-else-found-from-clause-some g c = search rules
+
+pub returns-else-found-from-clause-few : goal.returns-else-found-from-clause-few
+returns-else-found-from-clause-few g c = search rules
+
+pub returns-else-found-from-clause-step : goal.returns-else-found-from-clause-step
+returns-else-found-from-clause-step g c = search rules
+
+pub returns-else-found-from-clause-none : goal.returns-else-found-from-clause-none
+returns-else-found-from-clause-none g c = search rules

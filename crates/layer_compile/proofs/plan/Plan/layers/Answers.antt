@@ -1,5 +1,5 @@
 -- Each height's layer is over the places of the one below
-use Rattle.std.proofs.Common.{◌≡◌, ◌+◌, ◌∙◌, ◌++◌, ◌∷◌, [], None, ℕ, suc, map, reverse, ap, ap₂, sym, subst, arith}
+use Rattle.std.proofs.Common.{◌≡◌, ◌+◌, ◌∙◌, ◌++◌, ◌∷◌, [], None, ℕ, suc, map, reverse, ap, ap₂, sym, subst, arith, rules}
 use Rattle.std.proofs.lemmas.List.{reverse-append}
 use Rattle.std.proofs.lemmas.Result.{err_from_is_err_and}
 use Rattle.circuit_core.specs.Faults.{first_below}
@@ -46,3 +46,69 @@ returns-clause-accepted c =
     let limits = c.args.limits.now in
     let all : c.loop-height.height ≡ height_of list = omega (arith, c.loop-height-test.false, c.loop-height.auto.height-end, c.args.self.now.topmost) in
     accepted limits list c.requires.low (subst (λ h. first_below (h + 1) (too_wide limits list) ≡ None) all c.loop-height.invariant.narrow)
+
+pub same-layer : goal.same-layer
+same-layer g c = search rules
+
+pub write_places-requires-clause-few : goal.write_places-requires-clause-few
+write_places-requires-clause-few g = search rules
+
+pub write_places-requires-clause-under : goal.write_places-requires-clause-under
+write_places-requires-clause-under g = search rules
+
+pub next_row-requires-clause-fine : goal.next_row-requires-clause-fine
+next_row-requires-clause-fine g = search rules
+
+pub next_row-requires-clause-places : goal.next_row-requires-clause-places
+next_row-requires-clause-places g = search rules
+
+pub next_row-requires-clause-under : goal.next_row-requires-clause-under
+next_row-requires-clause-under g = search rules
+
+pub returns-in_err-above-clause-made : goal.returns-in_err-above-clause-made
+returns-in_err-above-clause-made g = search rules
+
+pub returns-in_err-above-clause-accepted : goal.returns-in_err-above-clause-accepted
+returns-in_err-above-clause-accepted g = search rules
+
+pub returns-in_err-above-clause-refused : goal.returns-in_err-above-clause-refused
+returns-in_err-above-clause-refused g = search rules
+
+pub overflow_add-height : goal.overflow_add-height
+overflow_add-height g = search rules
+
+pub returns-in_err-fits-clause-made : goal.returns-in_err-fits-clause-made
+returns-in_err-fits-clause-made g = search rules
+
+pub returns-in_err-fits-clause-accepted : goal.returns-in_err-fits-clause-accepted
+returns-in_err-fits-clause-accepted g = search rules
+
+pub returns-in_err-layer-clause-made : goal.returns-in_err-layer-clause-made
+returns-in_err-layer-clause-made g = search rules
+
+pub returns-in_err-layer-clause-accepted : goal.returns-in_err-layer-clause-accepted
+returns-in_err-layer-clause-accepted g = search rules
+
+pub returns-in_err-layer-clause-refused : goal.returns-in_err-layer-clause-refused
+returns-in_err-layer-clause-refused g = search rules
+
+pub returns-in_default-clause-made : goal.returns-in_default-clause-made
+returns-in_default-clause-made g = search rules
+
+pub returns-in_default-clause-accepted : goal.returns-in_default-clause-accepted
+returns-in_default-clause-accepted g = search rules
+
+pub returns-in_default-clause-refused : goal.returns-in_default-clause-refused
+returns-in_default-clause-refused g = search rules
+
+pub returns-in_err-add-clause-made : goal.returns-in_err-add-clause-made
+returns-in_err-add-clause-made g = search rules
+
+pub returns-in_err-add-clause-accepted : goal.returns-in_err-add-clause-accepted
+returns-in_err-add-clause-accepted g = search rules
+
+pub returns-in_err-add-clause-refused : goal.returns-in_err-add-clause-refused
+returns-in_err-add-clause-refused g = search rules
+
+pub returns-clause-refused : goal.returns-clause-refused
+returns-clause-refused g = search rules

@@ -22,3 +22,39 @@ returns-clause-sums g c stays i part within =
     let here : i < length (parts_of c.close_round.new.self) = search rules in
     ap (λ (ps : List PartTables). part_sum (get_or ps i part)) (sym same)
     ∙ piece-of layer new c.self.invariant.0 works left i part here _ (lent_parts c.take.new.self) refl
+
+pub start-steps-requires-clause-name : goal.start-steps-requires-clause-name
+start-steps-requires-clause-name g c = search rules
+
+pub start-steps-requires-clause-parts : goal.start-steps-requires-clause-parts
+start-steps-requires-clause-parts g c = search rules
+
+pub start-steps-requires-clause-some : goal.start-steps-requires-clause-some
+start-steps-requires-clause-some g c = search rules
+
+pub unreachable-requires : goal.unreachable-requires
+unreachable-requires g c = search rules
+
+pub unreachable-unreachable : goal.unreachable-unreachable
+unreachable-unreachable g c = search rules
+
+pub close_round-requires-clause-layer : goal.close_round-requires-clause-layer
+close_round-requires-clause-layer g c = search rules
+
+pub close_round-requires-clause-works : goal.close_round-requires-clause-works
+close_round-requires-clause-works g c = search rules
+
+pub close_round-requires-clause-folded : goal.close_round-requires-clause-folded
+close_round-requires-clause-folded g c = search rules
+
+pub close_round-requires-clause-left : goal.close_round-requires-clause-left
+close_round-requires-clause-left g c = search rules
+
+pub invariant_of-self : goal.invariant_of-self
+invariant_of-self g c = search rules
+
+pub returns-clause-bound : goal.returns-clause-bound
+returns-clause-bound g c = search rules
+
+pub returns-clause-number : goal.returns-clause-number
+returns-clause-number g c = search rules

@@ -1,5 +1,5 @@
 -- The parts have the values of the range, and what is gathered
-use Rattle.std.proofs.Common.{◌≡◌, ℕ, ◌+◌, ◌-◌, ◌*◌, ◌++◌, length, take, drop, vec_len, All, arith, sym, ◌∙◌, ap, subst}
+use Rattle.std.proofs.Common.{◌≡◌, ℕ, ◌+◌, ◌-◌, ◌*◌, ◌++◌, length, take, drop, vec_len, All, arith, sym, ◌∙◌, ap, subst, rules}
 use Rattle.wiring_poly.proofs.api.Identity.{written_back}
 use Rattle.field_ext.specs.Field.{embed_k}
 use Rattle.table_parts.specs.PartTables.{HasCapacity, HasSize, flat_table, flat_scales, flat_shifts}
@@ -30,3 +30,45 @@ invariant_of-self g c =
         gathers = coe 0 1 (i. GathersPhase self.layer.gates.now self.layer.values.now.items (place_of self.layer) (c.deref.ensures.value i) self.from (sym scales i) (sym shifts i)) c.gather.ensures.gathers;
       };
     }
+
+pub start-steps-requires-clause-name : goal.start-steps-requires-clause-name
+start-steps-requires-clause-name g c = search rules
+
+pub start-steps-requires-clause-parts : goal.start-steps-requires-clause-parts
+start-steps-requires-clause-parts g c = search rules
+
+pub start-steps-requires-clause-some : goal.start-steps-requires-clause-some
+start-steps-requires-clause-some g c = search rules
+
+pub gather-requires-clause-layer : goal.gather-requires-clause-layer
+gather-requires-clause-layer g c = search rules
+
+pub gather-requires-clause-begins : goal.gather-requires-clause-begins
+gather-requires-clause-begins g c = search rules
+
+pub gather-requires-clause-same : goal.gather-requires-clause-same
+gather-requires-clause-same g c = search rules
+
+pub overflow_add-to : goal.overflow_add-to
+overflow_add-to g c = search rules
+
+pub offset_bounds-values-self-inside : goal.offset_bounds-values-self-inside
+offset_bounds-values-self-inside g c = search rules
+
+pub slice_bounds-fill_parts-count : goal.slice_bounds-fill_parts-count
+slice_bounds-fill_parts-count g c = search rules
+
+pub slice_bounds-fill_parts-start : goal.slice_bounds-fill_parts-start
+slice_bounds-fill_parts-start g c = search rules
+
+pub fill_parts-requires-clause-table : goal.fill_parts-requires-clause-table
+fill_parts-requires-clause-table g c = search rules
+
+pub fill_parts-requires-clause-scales : goal.fill_parts-requires-clause-scales
+fill_parts-requires-clause-scales g c = search rules
+
+pub fill_parts-requires-clause-shifts : goal.fill_parts-requires-clause-shifts
+fill_parts-requires-clause-shifts g c = search rules
+
+pub fill_parts-requires-clause-capacities : goal.fill_parts-requires-clause-capacities
+fill_parts-requires-clause-capacities g c = search rules

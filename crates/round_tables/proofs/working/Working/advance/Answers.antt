@@ -1,5 +1,6 @@
+use Rattle.std.proofs.lemmas.Grind.{elements}
 -- The parts are folded, and gathered into one where each has one value
-use Rattle.std.proofs.Common.{◌≡◌, ◌≢◌, ℕ, ◌+◌, ◌-◌, ◌^◌, ◌<◌, [], ◌++◌, length, take, drop, get_or, refl, sym, ◌∙◌, ap, arith, subst, All}
+use Rattle.std.proofs.Common.{◌≡◌, ◌≢◌, ℕ, ◌+◌, ◌-◌, ◌^◌, ◌<◌, [], ◌++◌, length, take, drop, get_or, refl, sym, ◌∙◌, ap, arith, subst, All, rules}
 use Rattle.std.proofs.lemmas.List.{length-map}
 use Rattle.round_tables.specs.LayerSum.{left_in_phase}
 use Rattle.table_parts.specs.PartTables.{PartTables, HasSize, HasCapacity, folded_part, cuts, flat_table, flat_scales, flat_shifts, AreLaidOut}
@@ -117,3 +118,12 @@ returns c =
       };
       kept = λ more. refl;
     }
+
+pub index_mut-requires : goal.index_mut-requires
+index_mut-requires g = search rules
+
+pub overflow_add-self : goal.overflow_add-self
+overflow_add-self g = search rules
+
+pub merge_parts-requires-clause-capacity : goal.merge_parts-requires-clause-capacity
+merge_parts-requires-clause-capacity g c = grind (arith, elements)

@@ -1,5 +1,5 @@
 -- The phase begins with what is gathered
-use Rattle.std.proofs.Common.{◌≡◌, ◌∙◌, length, take, sym}
+use Rattle.std.proofs.Common.{◌≡◌, ◌∙◌, length, take, sym, rules}
 use Rattle.wiring_poly.proofs.api.Identity.{written_back}
 use Rattle.table_parts.specs.PartTables.{flat_scales, flat_shifts}
 use Rattle.round_tables.specs.Working.{GathersPhase, parts_of, place_of, bound_of}
@@ -20,3 +20,27 @@ returns-clause-works g c =
     let same : bound_of c.lay_out.new.self ≡ bound_of c.args.self.now = λ i. take (laid.count i) ((laid.challenges i).items) in
     works-begun layer old new c.args.value c.requires.layer c.requires.begins laid.capacities same laid.count laid.laid laid.table
     (coe 0 1 (i. GathersPhase c.args.layer.now.gates.now c.args.layer.now.values.now.items (place_of c.args.layer.now) (bound i) 0 (sym scales i) (sym shifts i)) c.gather.ensures.gathers)
+
+pub split_at-requires : goal.split_at-requires
+split_at-requires g c = search rules
+
+pub gather-requires-clause-layer : goal.gather-requires-clause-layer
+gather-requires-clause-layer g c = search rules
+
+pub gather-requires-clause-begins : goal.gather-requires-clause-begins
+gather-requires-clause-begins g c = search rules
+
+pub gather-requires-clause-same : goal.gather-requires-clause-same
+gather-requires-clause-same g c = search rules
+
+pub lay_out-requires-clause-layer : goal.lay_out-requires-clause-layer
+lay_out-requires-clause-layer g c = search rules
+
+pub lay_out-requires-clause-capacities : goal.lay_out-requires-clause-capacities
+lay_out-requires-clause-capacities g c = search rules
+
+pub returns-clause-bound : goal.returns-clause-bound
+returns-clause-bound g c = search rules
+
+pub returns-clause-steps : goal.returns-clause-steps
+returns-clause-steps g c = search rules

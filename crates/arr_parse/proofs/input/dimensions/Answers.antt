@@ -1,0 +1,32 @@
+use Rattle.std.proofs.Common.{rules}
+use Rattle.arr_parse.proofs.input.dimensions.Goals as goal
+
+pub returns-in_err-first-clause-spelled : goal.returns-in_err-first-clause-spelled
+returns-in_err-first-clause-spelled g = search rules
+
+pub returns-in_err-first-clause-exact : goal.returns-in_err-first-clause-exact
+returns-in_err-first-clause-exact g c = search rules
+
+pub returns-in_default-clause-spelled : goal.returns-in_default-clause-spelled
+returns-in_default-clause-spelled g = search rules
+
+pub returns-in_default-clause-exact : goal.returns-in_default-clause-exact
+returns-in_default-clause-exact g c = search rules
+
+pub returns-in_err-second-clause-spelled : goal.returns-in_err-second-clause-spelled
+returns-in_err-second-clause-spelled g = search rules
+
+pub returns-in_err-second-clause-exact : goal.returns-in_err-second-clause-exact
+returns-in_err-second-clause-exact g c = search rules
+
+pub returns-in_default-2-clause-spelled : goal.returns-in_default-2-clause-spelled
+returns-in_default-2-clause-spelled g = search rules
+
+pub returns-in_default-2-clause-exact : goal.returns-in_default-2-clause-exact
+returns-in_default-2-clause-exact g c = search rules
+
+pub returns-clause-spelled : goal.returns-clause-spelled
+returns-clause-spelled g = search rules
+
+pub returns-clause-exact : goal.returns-clause-exact
+returns-clause-exact g c = search rules
