@@ -10,8 +10,8 @@ ghost use Rattle.proof_wire.specs.declared.form.ProofForm.TheVariants.{Line};
 
 use crate::checking::tangled;
 use crate::circuits::gates;
-use crate::measure::{microseconds_since, numbers};
 use audit_core::{Audit, audit};
+use bench_parts::{microseconds_since, numbers};
 use circuit_core::Circuit;
 use circuit_eval::{Values, layer_values};
 use field_ext::Fp;

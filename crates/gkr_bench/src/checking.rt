@@ -6,9 +6,7 @@ ghost use Rattle.proof_wire.specs.Lists.{HaveShape};
 ghost use Rattle.run_wiring.specs.CircuitRuns.{AreWiringsOf};
 
 use crate::circuits::{compiled, gates};
-use crate::measure::microseconds_since;
-use crate::random::Random;
-use crate::ratio::Ratio;
+use bench_parts::{Random, Ratio, microseconds_since};
 use case_text::{Form, read_case};
 use circuit_core::{Circuit, Layer, Leaf};
 use field_ext::{Ext, Fp};
@@ -121,7 +119,7 @@ fn checking(rt: &HostRuntime, form: ProofForm, circuit: &Circuit) -> io::Result<
 
 /// A point of as many coordinates as the widest layer may have.
 fn point() -> [Ext; 20] {
-    let mut random = Random { seed: 7 };
+    let mut random = Random::of(7);
     let mut coordinates = [Ext::zero(); 20];
     for j in 0..20 {
         coordinates[j] = random.element();
@@ -281,7 +279,7 @@ pub fn program(rt: &HostRuntime, kind: &str, text: &[u8]) -> io::Result<()> {
 
 /// Layers of `2^k` random gates.
 fn random_layers(alloc: Global, k: u32) -> Result<Vec<Layer>, AllocError> {
-    let mut random = Random { seed: 1 };
+    let mut random = Random::of(1);
     let mut layers = Vec::new(alloc);
     for _ in 0..LAYERS {
         layers.push(Layer::of(random.gates(alloc, k)?))?;

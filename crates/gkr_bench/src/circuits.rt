@@ -1,8 +1,8 @@
 //! What laying a program out as a circuit takes, and what the values of the circuit's layers take.
 
-use crate::measure::{microseconds_since, numbers};
 use arr_ast::Lang;
 use arr_compile::compile;
+use bench_parts::{microseconds_since, numbers};
 use circuit_core::Circuit;
 use circuit_eval::layer_values;
 use field_ext::{Ext, Fp};

@@ -20,23 +20,16 @@
 mod audits;
 mod checking;
 mod circuits;
-mod kernels;
-mod measure;
-mod plain_layer;
-mod programs;
-mod proving;
-mod random;
-mod ratio;
-mod stages;
-mod texts;
 mod turns;
 mod workers;
 
+use layer_bench::{kernels, proving, stages, tables};
 use std::alloc::{AllocError, Global};
 use std::marker::Sync;
 use std::sync::Wait;
 use std::thread::Threads;
 use std::{env, io};
+use text_bench::{evaluating, programs, texts};
 
 const USAGE: &str =
     "gkr_bench matmul N | steps N | names KIB | copies N | copied N | transposes N | letters N | fold K | case KIB | proof N | wide ROWS | carried LEVELS | layer K | stages K | workers K | kernels K | checked LEVELS | random K | audit K | runs N | turns N";
@@ -61,9 +54,9 @@ fn time_program(rt: &HostRuntime, kind: &str, size: u32) -> io::Result<()> {
     let Some(text) = program_of(rt.alloc(), kind, size)? else {
         return println!(rt; "{}", USAGE);
     };
-    measure::program(rt, kind, text.as_bytes())?;
+    evaluating::program(rt, kind, text.as_bytes())?;
     if kind == "matmul" {
-        measure::plain_products(rt, size)?;
+        evaluating::plain_products(rt, size)?;
     }
     Ok(())
 }
@@ -94,7 +87,7 @@ fn time_part<R: Threads + Wait + Sync>(
     size: u32,
 ) -> io::Result<()> {
     match kind {
-        "fold" => measure::fold(rt, size),
+        "fold" => tables::fold(rt, size),
         "case" => texts::case(rt, size),
         "proof" => texts::proof(rt, size),
         "wide" => time_wide(rt, threads, size),

@@ -2,7 +2,7 @@
 
 ghost use Rattle.std.specs.Prelude.{◌≡◌, ◌<◌, false, [], IfOk};
 
-use crate::measure::nanoseconds_since;
+use bench_parts::nanoseconds_since;
 use std::alloc::{AllocError, Global};
 use std::io;
 use std::sync::Wait;

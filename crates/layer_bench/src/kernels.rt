@@ -3,9 +3,8 @@
 ghost use Rattle.std.specs.Prelude.{◌≡◌, ◌<◌, ◌+◌, ◌*◌, ◌%◌, [], IfOk, length};
 ghost use Rattle.lane_kernel.specs.Kernel.{AreBelow};
 
-use crate::measure::nanoseconds_since;
 use crate::proving::{LayerCase, case_of, started_in};
-use crate::ratio::Ratio;
+use bench_parts::{Ratio, nanoseconds_since};
 use field_ext::{Ext, Fp};
 use lane_kernel::{fold_pairs, pair_sums};
 use round_tables::{Buffers, GateTables};

@@ -3,9 +3,8 @@
 ghost use Rattle.std.specs.Prelude.{◌≡◌, [], IfOk};
 
 use crate::kernels::time_round;
-use crate::measure::nanoseconds_since;
 use crate::proving::{LayerCase, case_of, line, started_in};
-use crate::ratio::Ratio;
+use bench_parts::{Ratio, nanoseconds_since};
 use field_ext::Ext;
 use round_tables::{Buffers, GateTables};
 use std::io;

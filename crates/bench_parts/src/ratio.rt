@@ -7,11 +7,11 @@ const MOST: u64 = 1_000_000_000_000;
 
 /// A ratio in hundredths, printed with two digits after the point.
 #[derive(Clone, Copy)]
-pub(crate) struct Ratio(u64);
+pub struct Ratio(u64);
 
 impl Ratio {
     /// The ratio of a number to another, each taken to be at most `10^12`, the other at least 1.
-    pub(crate) fn of(number: u64, other: u64) -> Ratio {
+    pub fn of(number: u64, other: u64) -> Ratio {
         Ratio(number.min(MOST) * 100 / other.clamp(1, MOST))
     }
 }

@@ -4,7 +4,7 @@ use Rattle.circuit_core.specs.declared.gate.CircuitGate.{CircuitGate}
 use Rattle.circuit_core.specs.Parts.{IsOver, height}
 use Rattle.circuit_core.specs.Sound.{SoundCircuit, exponent_at}
 use Rattle.circuit_core.proofs.api.Sizes.{size_of, gates_size, gates_over}
-use Rattle.gkr_bench.proofs.proving.started.Goals as goal
+use Rattle.layer_bench.proofs.proving.started.Goals as goal
 
 some_layer : (c : SoundCircuit) (k : ℕ) → 0 < height c.parts → k ≡ exponent_at c.parts 1 → 1 ≤ k
 some_layer c k u e = omega (arith, e, (size_of c 1 (omega arith)).1)

@@ -1,4 +1,4 @@
-//! Numbers, elements and gates that follow no plain rule.
+//! Numbers, elements and gates to measure with.
 
 use circuit_core::{CircuitGate, Kind};
 use field_ext::{Ext, Fp};
@@ -6,24 +6,32 @@ use std::alloc::{AllocError, Global};
 
 /// Numbers that follow no plain rule.
 #[derive(Clone, Copy)]
-pub(crate) struct Random {
-    pub(crate) seed: u64,
+pub struct Random {
+    seed: u64,
 }
 
 impl Random {
-    pub(crate) fn next(&mut self) -> u64 {
+    /// Those that this seed begins, which isn't 0.
+    pub fn of(seed: u64) -> Random {
+        Random { seed }
+    }
+
+    /// The next number, by xorshift of 64 bits.
+    pub fn next(&mut self) -> u64 {
         self.seed ^= self.seed << 13;
         self.seed ^= self.seed >> 7;
         self.seed ^= self.seed << 17;
         self.seed
     }
 
-    pub(crate) fn element(&mut self) -> Ext {
+    /// The next element of K.
+    pub fn element(&mut self) -> Ext {
         let re = Fp::reduce(self.next());
         Ext::of(re, Fp::reduce(self.next()))
     }
 
-    pub(crate) fn elements(&mut self, alloc: Global, count: u32) -> Result<Vec<Ext>, AllocError> {
+    /// So many elements of K.
+    pub fn elements(&mut self, alloc: Global, count: u32) -> Result<Vec<Ext>, AllocError> {
         let mut found = vec![in alloc; Ext::zero(); count as usize]?;
         for place in 0..found.len() {
             found[place] = self.element();
@@ -47,7 +55,7 @@ impl Random {
     }
 
     /// `2^k` gates over as many positions, of which the first adds.
-    pub(crate) fn gates(&mut self, alloc: Global, k: u32) -> Result<Vec<CircuitGate>, AllocError> {
+    pub fn gates(&mut self, alloc: Global, k: u32) -> Result<Vec<CircuitGate>, AllocError> {
         let zero = CircuitGate {
             kind: Kind::Add,
             left: 0,
@@ -59,4 +67,13 @@ impl Random {
         }
         Ok(gates)
     }
+}
+
+/// So many numbers, each another.
+pub fn numbers(alloc: Global, count: u64) -> Result<Vec<Fp>, AllocError> {
+    let mut found = vec![in alloc; Fp::zero(); count as usize]?;
+    for place in 0..found.len() {
+        found[place] = Fp::reduce((place as u64).wrapping_mul(2_654_435_761));
+    }
+    Ok(found)
 }

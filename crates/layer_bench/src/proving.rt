@@ -3,10 +3,8 @@
 
 ghost use Rattle.std.specs.Prelude.{◌≡◌, ◌<◌, ◌+◌, [], length, IfOk, IfSome};
 
-use crate::measure::nanoseconds_since;
 use crate::plain_layer::{Plain, PlainBuffers, PlainTables, ZERO, prove_layer};
-use crate::random::Random;
-use crate::ratio::Ratio;
+use bench_parts::{Random, Ratio, nanoseconds_since};
 use circuit_core::{Circuit, CircuitGate, Layer, Leaf};
 use field_ext::{Ext, Fp};
 use io_edge::OpenGate;
@@ -92,7 +90,7 @@ fn case_over(
 }
 
 pub(crate) fn case_of(alloc: Global, k: u32) -> Result<Option<LayerCase>, AllocError> {
-    let mut random = Random { seed: 1 };
+    let mut random = Random::of(1);
     match circuit_of(alloc, &mut random, k)? {
         Some(circuit) => Ok(Some(case_over(alloc, &mut random, circuit, k)?)),
         None => Ok(None),

@@ -1,7 +1,7 @@
 //! What texts of cases and bytes of proofs take.
 
-use crate::measure::{microseconds_since, numbers};
 use arr_ast::Lang;
+use bench_parts::{microseconds_since, numbers};
 use case_text::{Case, Form, read_case, write_case};
 use circuit_core::Shape;
 use field_ext::{Ext, Fp};

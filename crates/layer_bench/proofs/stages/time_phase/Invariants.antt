@@ -1,6 +1,6 @@
 -- The tables are not lent
 use Rattle.std.proofs.Common.{◌≡◌, []}
-use Rattle.gkr_bench.proofs.proving.prove_rounds.Given as goal
+use Rattle.layer_bench.proofs.stages.time_phase.Given as goal
 
 abbrev pub invariant-loop-r : goal.invariant-loop-r
-invariant-loop-r g l = l.tables.lent ≡ []
+invariant-loop-r l = l.tables.lent ≡ []
