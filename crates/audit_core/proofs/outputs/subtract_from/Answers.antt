@@ -1,4 +1,5 @@
 -- Each place written makes the difference of the tables
+use Rattle.std.proofs.lemmas.Grind.{common_steps}
 use Rattle.std.proofs.Common.{◌≡◌, List, length, map, sym, ◌∙◌, arith, ext_get_or}
 use Rattle.field_ext.specs.Field.{K, k_ops, zero_k, embed_k}
 use Rattle.circuit_core.specs.Parts.{padded_values}
@@ -15,3 +16,6 @@ returns c =
     let inv = c.loop-g.invariant in
     ext_get_or zero_k c.loop-g.items (difference k_ops claimed old) (inv.size ∙ sym (length-difference claimed old same))
     (λ j u. inv.written j (omega (arith, u, inv.size)) ∙ sym (read-difference claimed old j same (omega (arith, u, inv.size))))
+
+pub loop-g-preserved : goal.loop-g-preserved
+loop-g-preserved c = grind (arith, common_steps)

@@ -1,5 +1,5 @@
 -- One layer more
-use Rattle.std.proofs.Common.{◌≡◌, ℕ, ◌+◌, ◌<◌, ◌≤◌, ◌++◌, List, [], ◌∷◌, IsTrue, length, get_or, arith, refl, ◌∙◌, ap, sym, subst, append-nil, append_assoc}
+use Rattle.std.proofs.Common.{rules, ◌≡◌, ℕ, ◌+◌, ◌<◌, ◌≤◌, ◌++◌, List, [], ◌∷◌, IsTrue, length, get_or, arith, refl, ◌∙◌, ap, sym, subst, append-nil, append_assoc}
 use Rattle.field_ext.specs.Field.{F, K, k_ops}
 use Rattle.circuit_core.specs.Parts.{Parts, height, input_table}
 use Rattle.circuit_core.specs.Sound.{exponent_at}
@@ -108,3 +108,6 @@ returns g c =
       state = c.loop-layer.invariant.state;
       shape = subst (λ (xs : List LayerMessages). HaveShape c.args.form (lower_exponents (layers_of p)) xs) (append-nil ms) (c.loop-layer.invariant.shape [] none);
     }
+
+pub loop-layer-init : goal.loop-layer-init
+loop-layer-init g c = search rules

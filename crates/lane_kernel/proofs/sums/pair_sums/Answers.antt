@@ -1,5 +1,5 @@
 -- Four pairs more, or one
-use Rattle.std.proofs.Common.{◌≡◌, ℕ, ◌+◌, ◌*◌, ◌∙◌, ap, arith}
+use Rattle.std.proofs.Common.{rules, ◌≡◌, ℕ, ◌+◌, ◌*◌, ◌∙◌, ap, arith}
 use Rattle.lane_kernel.specs.Sums.{Parts, parts}
 use Rattle.lane_kernel.specs.Lanes.{sums_of, added}
 use Rattle.lane_kernel.proofs.Totals.{four_added, one_added}
@@ -29,3 +29,6 @@ loop-j-preserved c =
           ∙ one_added c.loop-j.j v g a;
       below = c.with_lines-sums-in-loop-j.ensures.below;
     }
+
+pub returns : goal.returns
+returns c = search rules

@@ -1,5 +1,5 @@
 -- Each fault where it comes
-use Rattle.std.proofs.Common.{◌≡◌, ◌*◌, ℕ, length, get_or, sym, ap, arith}
+use Rattle.std.proofs.Common.{rules, ◌≡◌, ◌*◌, ℕ, length, get_or, sym, ap, arith}
 use Rattle.live_session.specs.Elements.{leading}
 use Rattle.live_session.proofs.api.ElementSteps.{leading-most}
 use Rattle.live_session.proofs.api.ProverSteps.{told_end, told_extra, told_last}
@@ -28,3 +28,6 @@ returns c =
     let words : length (leading c.args.due c.args.intake.now.bytes) ≡ c.args.due =
     omega (arith, c.if-words-due.false, ap length c.elements-words.ensures, ap (λ (m : ℕ). length (leading m bytes)) c.requires.most, leading-most due bytes) in
     sym (told_end due (length (leading due bytes)) (length bytes) (get_or bytes (8 * due) 0) words (omega (arith, c.if-byte-gt1.false, c.byte.ensures)) (omega (arith, c.if-fed-due.false, c.len-fed.ensures)))
+
+pub returns-then-words-due : goal.returns-then-words-due
+returns-then-words-due c = search rules

@@ -1,0 +1,9 @@
+use Rattle.std.proofs.lemmas.Grind.{common_steps}
+use Rattle.std.proofs.Common.{rules, arith}
+use Rattle.proof_wire.proofs.decoding.read_all.Goals as goal
+
+pub returns-clause-found : goal.returns-clause-found
+returns-clause-found c = grind (arith, common_steps)
+
+pub returns-then-at-need-clause-exact : goal.returns-then-at-need-clause-exact
+returns-then-at-need-clause-exact c = search rules
