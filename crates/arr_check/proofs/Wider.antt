@@ -3,8 +3,8 @@ use Rattle.std.proofs.Common.{Ok, Err, refl, sym, subst}
 use Rattle.std.specs.Prelude.{IsTrue, is_ok}
 use Rattle.arr_ast.specs.declared.lang.Lang.TheVariants.{One, Two}
 use Rattle.arr_ast.specs.ProgramTree.{ProgramTree}
-use Rattle.arr_run.specs.declared.counts.Counts.{Counts}
-use Rattle.arr_run.specs.Agrees.{Answer, ◌>>=◌}
+use Rattle.arr_scope.specs.declared.counts.Counts.{Counts}
+use Rattle.arr_scope.specs.Agrees.{Answer, ◌>>=◌}
 use Rattle.arr_run.specs.Program.{run_of}
 use Rattle.arr_run.specs.State.{State}
 use Rattle.arr_run.proofs.api.Wider.{Kept, state_in_two, run_kept}

@@ -2,13 +2,14 @@
 
 ghost use Rattle.std.specs.Prelude.{◌≡◌, IfOk};
 ghost use Rattle.arr_ast.specs.ProgramTree.{program_tree};
-ghost use Rattle.arr_run.specs.Agrees.{Agrees};
+ghost use Rattle.arr_scope.specs.Agrees.{Agrees};
 ghost use Rattle.arr_check.specs.Program.{run_end, run_program};
 
 use crate::checked::Checked;
 use crate::shapes::Shapes;
 use arr_ast::{Lang, Program};
-use arr_run::{CheckRefused, run};
+use arr_run::run;
+use arr_scope::CheckRefused;
 use std::alloc::Global;
 
 /// A program that no check of its language refuses, or the first refusal.

@@ -3,7 +3,7 @@
 ghost use Rattle.std.specs.Prelude.{◌≡◌, ℕ, List, IsTrue, is_ok};
 ghost use Rattle.arr_ast.specs.ExpressionTree.{NameTree};
 ghost use Rattle.arr_ast.specs.IndexTree.{Sum};
-ghost use Rattle.arr_run.specs.Agrees.{Answer};
+ghost use Rattle.arr_scope.specs.Agrees.{Answer};
 ghost use Rattle.arr_ast.specs.declared.lang.Lang.TheVariants.{One, Two};
 ghost use Rattle.arr_ast.specs.ProgramTree.{DefinitionTree, ProgramTree};
 ghost use Rattle.arr_run.specs.State.{State};

@@ -12,6 +12,6 @@ mod checking;
 pub mod laws;
 mod shapes;
 
-pub use arr_run::{CheckKind, CheckRefused};
+pub use arr_scope::{CheckKind, CheckRefused};
 pub use checked::Checked;
 pub use checking::check;

@@ -17,24 +17,24 @@ use Rattle.arr_ast.specs.declared.program.Dimensions.{Dimensions}
 use Rattle.arr_ast.specs.declared.program.Dimensions.TheVariants as dimensions
 use Rattle.arr_ast.specs.declared.shape.ShapeOf.{ShapeOf}
 use Rattle.arr_ast.specs.declared.shape.ShapeOf.TheVariants.{Scalar, Vector, Matrix}
-use Rattle.arr_run.specs.declared.bound.Bound.{Bound}
-use Rattle.arr_run.specs.declared.bound.Bound.TheVariants.{Value, Turn}
-use Rattle.arr_run.specs.declared.counts.Counts.{Counts}
-use Rattle.arr_run.specs.declared.refused.CheckKind.TheVariants as kinds
-use Rattle.arr_run.specs.declared.refused.CheckRefused.{CheckRefused}
-use Rattle.arr_run.specs.declared.refused.CheckRefused.TheVariants.{Bad}
-use Rattle.arr_run.specs.Agrees.{Answer, ◌>>=◌, each}
+use Rattle.arr_scope.specs.declared.bound.Bound.{Bound}
+use Rattle.arr_scope.specs.declared.bound.Bound.TheVariants.{Value, Turn}
+use Rattle.arr_scope.specs.declared.counts.Counts.{Counts}
+use Rattle.arr_scope.specs.declared.refused.CheckKind.TheVariants as kinds
+use Rattle.arr_scope.specs.declared.refused.CheckRefused.{CheckRefused}
+use Rattle.arr_scope.specs.declared.refused.CheckRefused.TheVariants.{Bad}
+use Rattle.arr_scope.specs.Agrees.{Answer, ◌>>=◌, each}
 use Rattle.arr_run.specs.Bounds.{turns_of, bounds_of}
-use Rattle.arr_run.specs.Counting.{step_at, nodes_at, constant_at, element_number, with_constant}
-use Rattle.arr_run.specs.Element.{is_place, index_below, indices_at}
-use Rattle.arr_run.specs.Limits.{most_nodes}
+use Rattle.arr_scope.specs.Counting.{step_at, nodes_at, constant_at, element_number, with_constant}
+use Rattle.arr_scope.specs.Element.{is_place, index_below, indices_at}
+use Rattle.arr_scope.specs.Limits.{most_nodes}
 use Rattle.arr_run.specs.Definitions.{callables, is_among, is_defined, if_new, if_few, if_apart, if_parameters, after_definition, after_definitions}
 use Rattle.arr_run.specs.Expression.{Valued, Callable, Calls, called, if_as_many, count_of, Passed, parameters_bound, passed_value, made, element_at, constant_value, bound_value, value_of, added_value, term_value, times_value, factor_value}
-use Rattle.arr_run.specs.Index.{within, turn_of, signed, index_value, added_index_value, index_term_value, times_index_value, index_factor_value, index_at}
+use Rattle.arr_scope.specs.Index.{within, turn_of, signed, index_value, added_index_value, index_term_value, times_index_value, index_factor_value, index_at}
 use Rattle.arr_run.specs.Operations.{Operations}
 use Rattle.arr_run.specs.Program.{dimension_of, input_shape, outputs_at, none_counted, if_any_output, after_input, after_top, end_of}
-use Rattle.arr_run.specs.Scope.{Names, binding_of}
-use Rattle.arr_run.specs.Shape.{Shaped, size_of, same_shape, for_nodes, for_minus_one, sum_shape, product_shape, single_shape, pair_shape}
+use Rattle.arr_scope.specs.Scope.{Names, binding_of}
+use Rattle.arr_scope.specs.Shape.{Shaped, size_of, same_shape, for_nodes, for_minus_one, sum_shape, product_shape, single_shape, pair_shape}
 use Rattle.arr_run.specs.State.{State, state, bound, if_free, with_name}
 use Rattle.arr_run.specs.Statement.{target_shape, if_of, expression_at, stepped, declared, assigned, element_assigned, turns, one_turn, counted_loop, after_statement, after_block}
 use Rattle.field_ext.specs.Field.{F}

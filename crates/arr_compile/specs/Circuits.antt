@@ -23,7 +23,8 @@ limits_of One = record { height = 256; exponent = 16 }
 limits_of Two = record { height = 1024; exponent = 20 }
 
 -- The text has this tree, no check refuses it, and these are its nodes.
-pub record IsLowered (lang : Lang) (text : List ℕ) (tree : ProgramTree) (nodes : Nodes) : Type 0 where
+pub record IsLowered (lang : Lang) (text : List ℕ) (tree : ProgramTree) (nodes : Nodes)
+    : Type 0 where
   pub accepted : IsAccepted lang text tree
   pub nodes_are : nodes_of lang tree ≡ Some nodes
 
@@ -54,7 +55,8 @@ RefusesCircuit lang text (Bad bad) = IsCircuitRefusal lang text bad
 RefusesCircuit lang text Memory = Unit {0}
 
 -- On these inputs the output layer holds 0, what the program means, and zeros.
-pub record Computes (lang : Lang) (tree : ProgramTree) (parts : Parts) (inputs : List F) : Type 0 where
+pub record Computes (lang : Lang) (tree : ProgramTree) (parts : Parts) (inputs : List F)
+    : Type 0 where
   pub outputs : List F
   pub meaning_is : meaning lang tree inputs ≡ Some outputs
   pub as_many : length outputs ≡ parts.outputs

@@ -1,10 +1,10 @@
 -- The refusals of each pass, as those of the whole.
 use Rattle.arr_ast.specs.declared.refusal.ProgramKind.{ProgramKind}
 use Rattle.arr_ast.specs.declared.refusal.ProgramKind.TheVariants as kinds
-use Rattle.arr_run.specs.declared.refused.CheckKind.{CheckKind}
-use Rattle.arr_run.specs.declared.refused.CheckKind.TheVariants as checks
-use Rattle.arr_run.specs.declared.refused.CheckRefused.{CheckRefused}
-use Rattle.arr_run.specs.declared.refused.CheckRefused.TheVariants as check
+use Rattle.arr_scope.specs.declared.refused.CheckKind.{CheckKind}
+use Rattle.arr_scope.specs.declared.refused.CheckKind.TheVariants as checks
+use Rattle.arr_scope.specs.declared.refused.CheckRefused.{CheckRefused}
+use Rattle.arr_scope.specs.declared.refused.CheckRefused.TheVariants as check
 use Rattle.arr_lex.specs.declared.refused.LexRefused.{LexRefused}
 use Rattle.arr_lex.specs.declared.refused.LexRefused.TheVariants as lex
 use Rattle.arr_parse.specs.declared.refused.ParseRefused.{ParseRefused}

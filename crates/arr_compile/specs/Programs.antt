@@ -4,9 +4,9 @@ use Rattle.arr_ast.specs.declared.lang.Lang.{Lang}
 use Rattle.arr_ast.specs.ProgramTree.{ProgramTree}
 use Rattle.arr_ast.specs.declared.refusal.ProgramKind.{ProgramKind}
 use Rattle.arr_ast.specs.declared.refusal.ProgramKind.TheVariants as kinds
-use Rattle.arr_run.specs.declared.refused.CheckKind.{CheckKind}
-use Rattle.arr_run.specs.declared.refused.CheckKind.TheVariants as checks
-use Rattle.arr_run.specs.declared.refused.CheckRefused.TheVariants.{Bad as BadCheck}
+use Rattle.arr_scope.specs.declared.refused.CheckKind.{CheckKind}
+use Rattle.arr_scope.specs.declared.refused.CheckKind.TheVariants as checks
+use Rattle.arr_scope.specs.declared.refused.CheckRefused.TheVariants.{Bad as BadCheck}
 use Rattle.arr_check.specs.Program.{run_program}
 use Rattle.arr_lex.specs.declared.token.Token.{Token}
 use Rattle.arr_lex.specs.Lexing.{tokens_from}

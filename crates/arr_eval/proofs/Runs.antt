@@ -5,9 +5,9 @@ use Rattle.arr_ast.specs.declared.lang.Lang.{Lang}
 use Rattle.arr_ast.specs.declared.lang.Lang.TheVariants.{One, Two}
 use Rattle.arr_ast.specs.ProgramTree.{ProgramTree}
 use Rattle.arr_ast.specs.declared.shape.ShapeOf.{ShapeOf}
-use Rattle.arr_run.specs.declared.counts.Counts.{Counts}
-use Rattle.arr_run.specs.declared.refused.CheckRefused.{CheckRefused}
-use Rattle.arr_run.specs.Agrees.{Answer, ◌>>=◌}
+use Rattle.arr_scope.specs.declared.counts.Counts.{Counts}
+use Rattle.arr_scope.specs.declared.refused.CheckRefused.{CheckRefused}
+use Rattle.arr_scope.specs.Agrees.{Answer, ◌>>=◌}
 use Rattle.arr_run.specs.Program.{end_of, run_of}
 use Rattle.arr_run.specs.State.{State}
 use Rattle.arr_run.proofs.api.Wider.{Kept as IsKept, state_in_two, run_kept}

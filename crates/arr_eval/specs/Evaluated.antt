@@ -8,10 +8,11 @@ use Rattle.arr_eval.specs.declared.refused.EvalRefused.TheVariants.{InputCount, 
 use Rattle.field_ext.specs.Field.{F}
 use Rattle.arr_eval.specs.Meaning.{meaning}
 
-abbrev pub Evaluates : {X : Type 0} → (X → List F) → Lang → ProgramTree → List F → Result X EvalRefused
-    → Type 0
+abbrev pub Evaluates : {X : Type 0} → (X → List F)
+    → Lang → ProgramTree → List F → Result X EvalRefused → Type 0
 Evaluates view lang program inputs (Ok outputs) =
-    (length inputs ≡ input_count program.inputs) × (meaning lang program inputs ≡ Some (view outputs))
+    (length inputs ≡ input_count program.inputs)
+    × (meaning lang program inputs ≡ Some (view outputs))
 Evaluates view lang program inputs (Err (InputCount have need)) =
     (have ≡ length inputs) × (need ≡ input_count program.inputs) × (have ≢ need)
 Evaluates view lang program inputs (Err Memory) = length inputs ≡ input_count program.inputs

@@ -10,11 +10,11 @@ use Rattle.arr_ast.specs.declared.shape.ShapeOf.{ShapeOf}
 use Rattle.arr_ast.specs.declared.shape.ShapeOf.TheVariants.{Matrix}
 use Rattle.arr_ast.specs.declared.lang.Lang.{Lang}
 use Rattle.arr_ast.specs.ProgramTree.{ProgramTree}
-use Rattle.arr_run.specs.declared.counts.Counts.{Counts}
-use Rattle.arr_run.specs.Agrees.{Answer}
+use Rattle.arr_scope.specs.declared.counts.Counts.{Counts}
+use Rattle.arr_scope.specs.Agrees.{Answer}
 use Rattle.arr_run.specs.Operations.{Operations}
 use Rattle.arr_run.specs.Program.{end_of}
-use Rattle.arr_run.specs.Shape.{size_of}
+use Rattle.arr_scope.specs.Shape.{size_of}
 use Rattle.arr_eval.specs.Numbers.{element, element_wise, sum_of, dot_of, transpose_of, matmul_of}
 use Rattle.field_ext.specs.Field.{F, of, add_f, sub_f, mul_f, neg_f}
 

@@ -1,9 +1,9 @@
 -- Values with as many elements as their shapes have places.
 use Rattle.std.specs.Prelude.{◌≡◌, List, length, All}
-use Rattle.arr_run.specs.declared.bound.Bound.{Bound}
-use Rattle.arr_run.specs.declared.bound.Bound.TheVariants.{Value, Turn}
-use Rattle.arr_run.specs.Scope.{Names}
-use Rattle.arr_run.specs.Shape.{size_of}
+use Rattle.arr_scope.specs.declared.bound.Bound.{Bound}
+use Rattle.arr_scope.specs.declared.bound.Bound.TheVariants.{Value, Turn}
+use Rattle.arr_scope.specs.Scope.{Names}
+use Rattle.arr_scope.specs.Shape.{size_of}
 use Rattle.field_ext.specs.Field.{F}
 
 abbrev pub IsSized : Bound (List F) → Type 0

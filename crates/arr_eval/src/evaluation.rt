@@ -7,7 +7,8 @@ ghost use Rattle.arr_eval.specs.Evaluated.{Evaluates};
 use crate::machine::Numbers;
 use crate::refused::EvalRefused;
 use arr_check::Checked;
-use arr_run::{CheckRefused, run};
+use arr_run::run;
+use arr_scope::CheckRefused;
 use field_ext::Fp;
 use std::alloc::Global;
 

@@ -10,7 +10,7 @@ use Rattle.circuit_core.specs.declared.gate.Kind.TheVariants.{Add, Mul}
 use Rattle.circuit_core.specs.Parts.{combined}
 use Rattle.node_core.specs.declared.node.Node.{Node}
 use Rattle.arr_eval.specs.Numbers.{element_wise}
-use Rattle.arr_run.specs.Limits.{minus_one}
+use Rattle.arr_scope.specs.Limits.{minus_one}
 use Rattle.arr_lower.specs.Operations.{Made, MadeOne, made_after, made_each, constant_node, operation_node, difference_node, pairwise_nodes, scaled_nodes, negated_nodes, difference_nodes}
 use Rattle.arr_lower.proofs.Grown.{Grows, Stands, HasOne, grows-none, grows-then, stands-kept, constant-has, operation-has, one-then}
 use Rattle.arr_lower.proofs.Pairwise.{Each, Both, each-append, each-map, each-more, each-zip}

@@ -16,17 +16,17 @@ use Rattle.arr_ast.specs.declared.shape.ShapeOf.{ShapeOf}
 use Rattle.arr_ast.specs.declared.shape.ShapeOf.TheVariants.{Scalar, Vector, Matrix}
 use Rattle.arr_ast.specs.declared.lang.Lang.{Lang}
 use Rattle.arr_ast.specs.ProgramTree.{InputTree, ProgramTree}
-use Rattle.arr_run.specs.declared.counts.Counts.{Counts}
-use Rattle.arr_run.specs.declared.refused.CheckKind.TheVariants as kinds
-use Rattle.arr_run.specs.declared.refused.CheckRefused.TheVariants.{Bad}
-use Rattle.arr_run.specs.Agrees.{Answer, ◌>>=◌}
+use Rattle.arr_scope.specs.declared.counts.Counts.{Counts}
+use Rattle.arr_scope.specs.declared.refused.CheckKind.TheVariants as kinds
+use Rattle.arr_scope.specs.declared.refused.CheckRefused.TheVariants.{Bad}
+use Rattle.arr_scope.specs.Agrees.{Answer, ◌>>=◌}
 use Rattle.arr_run.specs.Program.{end_of, run_of, input_count, numbers_of_input}
-use Rattle.arr_run.specs.Shape.{size_of, for_nodes, pair_shape}
+use Rattle.arr_scope.specs.Shape.{size_of, for_nodes, pair_shape}
 use Rattle.arr_run.specs.State.{State}
-use Rattle.arr_run.proofs.api.Answered.{if_ok}
+use Rattle.arr_scope.proofs.api.Answered.{if_ok}
 use Rattle.arr_run.proofs.api.InputNodes.{input_shape-declared}
 use Rattle.arr_run.proofs.api.Related.{Gives, GoTogether, GoOn, Begin, BothStates, programs}
-use Rattle.arr_run.proofs.api.Shapes.{same_shape-size, sum_shape-shape, product_shape-shape, for_minus_one-shape}
+use Rattle.arr_scope.proofs.api.Shapes.{same_shape-size, sum_shape-shape, product_shape-shape, for_minus_one-shape}
 use Rattle.field_ext.specs.Field.{F, of, mul_f, neg_f}
 use Rattle.circuit_core.specs.declared.gate.Kind.TheVariants.{Add, Mul}
 use Rattle.circuit_core.specs.Parts.{zero_f}

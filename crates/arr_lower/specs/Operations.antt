@@ -10,7 +10,7 @@ use Rattle.arr_ast.specs.declared.expression.PairFunction.TheVariants.{Scale, Do
 use Rattle.arr_ast.specs.declared.shape.ShapeOf.{ShapeOf}
 use Rattle.arr_ast.specs.declared.shape.ShapeOf.TheVariants.{Matrix}
 use Rattle.field_ext.specs.Field.{F, of}
-use Rattle.arr_run.specs.Limits.{minus_one}
+use Rattle.arr_scope.specs.Limits.{minus_one}
 use Rattle.circuit_core.specs.declared.gate.Kind.{Kind}
 use Rattle.circuit_core.specs.declared.gate.Kind.TheVariants.{Add, Mul}
 use Rattle.node_core.specs.declared.node.Node.{Node}

@@ -8,7 +8,8 @@ ghost use Rattle.arr_lower.specs.Lowering.{nodes_of};
 use crate::machine::Lowering;
 use crate::nodes::Nodes;
 use arr_check::Checked;
-use arr_run::{CheckRefused, run};
+use arr_run::run;
+use arr_scope::CheckRefused;
 use node_core::NodeList;
 use std::alloc::{AllocError, Global};
 

@@ -3,10 +3,10 @@ use Rattle.std.proofs.Common.{◌≡◌, ◌==◌, ℕ, Bool, true, false, [], �
 use Rattle.std.specs.Prelude.{if◌then◌else◌}
 use Rattle.std.proofs.lemmas.Bool.{eqb-true, eq-eqb}
 use Rattle.arr_ast.specs.declared.shape.ShapeOf.{ShapeOf}
-use Rattle.arr_run.specs.declared.bound.Bound.{Bound}
-use Rattle.arr_run.specs.declared.bound.Bound.TheVariants.{Value, Turn}
+use Rattle.arr_scope.specs.declared.bound.Bound.{Bound}
+use Rattle.arr_scope.specs.declared.bound.Bound.TheVariants.{Value, Turn}
 use Rattle.arr_run.specs.Operations.{Operations}
-use Rattle.arr_run.specs.Scope.{Names, binding_of, with_binding, array_of}
+use Rattle.arr_scope.specs.Scope.{Names, binding_of, with_binding, array_of}
 use Rattle.arr_run.specs.Statement.{with_element_in, with_element_of}
 
 module _ {A S : Type 0} (operations : Operations A S) where

@@ -7,13 +7,13 @@ use Rattle.arr_ast.specs.declared.expression.Term.{Term, Row_of-TimesFactor, end
 use Rattle.arr_ast.specs.declared.expression.Factor.TheBlock.{hidden-the_row-AddedTerm-1, hidden-the_row-TimesFactor-2, hidden-the_row-Expression-0}
 use Rattle.arr_ast.specs.declared.expression.AddedTerm.{AddedTerm'}
 use Rattle.arr_ast.specs.ExpressionTree.{NameTree, ExpressionTree, Call, expression_tree, added_tree, term_tree, times_tree, factor_tree, arguments_tree}
-use Rattle.arr_run.specs.declared.counts.Counts.{Counts}
-use Rattle.arr_run.specs.Agrees.{Answer, ◌>>=◌}
+use Rattle.arr_scope.specs.declared.counts.Counts.{Counts}
+use Rattle.arr_scope.specs.Agrees.{Answer, ◌>>=◌}
 use Rattle.std.specs.declared.alloc.Global.{Global}
 use Rattle.arr_ast.specs.declared.expression.Factor.{Row_of-Expression, end_of-Expression, more_of-Expression, items-the_row-Expression, items_hidden-the_row-Expression-0}
 use Rattle.arr_run.specs.Expression.{Valued, Calls, Passed, called, if_as_many, count_of, call_value, passed_value, value_of, added_value, term_value, times_value, factor_value, product_value}
 use Rattle.arr_run.specs.Operations.{Operations}
-use Rattle.arr_run.specs.Scope.{Names}
+use Rattle.arr_scope.specs.Scope.{Names}
 use Rattle.arr_run.specs.Steps.{added_term_value, added_values, times_values, argument_value, argument_values}
 use Rattle.arr_run.specs.Statement.{expression_at, term_at, factor_at}
 

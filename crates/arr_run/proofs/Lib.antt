@@ -1,10 +1,6 @@
 pub mod api
 mod ExpressionRows
-mod IndexRows
-mod Inserted
-mod Places
 mod Elements
-mod Within
 mod Newest
 mod WorkRows
 mod Waiting

@@ -5,7 +5,7 @@ use Rattle.std.proofs.lemmas.List.{map-append, reverse-append, length-map, take_
 use Rattle.arr_ast.specs.ExpressionTree.{NameTree}
 use Rattle.arr_ast.specs.ProgramTree.{DefinitionTree, definition_tree}
 use Rattle.arr_ast.specs.declared.program.Definition.{Definition}
-use Rattle.arr_run.specs.Agrees.{Answer, ◌>>=◌}
+use Rattle.arr_scope.specs.Agrees.{Answer, ◌>>=◌}
 use Rattle.arr_run.specs.Definitions.{callable, callables, is_defined, after_definition, after_definitions}
 use Rattle.arr_run.specs.Expression.{Callable, called, if_as_many}
 use Rattle.arr_run.specs.Operations.{Operations}

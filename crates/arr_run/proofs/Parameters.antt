@@ -4,9 +4,9 @@ use Rattle.std.proofs.lemmas.List.{drop_more, reverse-append}
 use Rattle.arr_ast.specs.declared.program.Name.{Name}
 use Rattle.arr_ast.specs.declared.shape.ShapeOf.{ShapeOf}
 use Rattle.arr_ast.specs.ExpressionTree.{NameTree, name_tree}
-use Rattle.arr_run.specs.declared.bound.Bound.TheVariants.{Value}
+use Rattle.arr_scope.specs.declared.bound.Bound.TheVariants.{Value}
 use Rattle.arr_run.specs.Expression.{parameters_bound}
-use Rattle.arr_run.specs.Scope.{Names}
+use Rattle.arr_scope.specs.Scope.{Names}
 
 -- the numbers of a slice's names
 abbrev pub numbers : List Name → List ℕ

@@ -10,12 +10,12 @@ use Rattle.arr_ast.specs.declared.expression.TimesFactor.{TimesFactor}
 use Rattle.arr_ast.specs.declared.expression.Factor.TheBlock.{hidden-the_row-Expression-0}
 use Rattle.arr_ast.specs.ExpressionTree.{NameTree, ExpressionTree, Call, expression_tree, term_tree, factor_tree, arguments_tree}
 use Rattle.arr_ast.specs.ProgramTree.{DefinitionTree}
-use Rattle.arr_run.specs.declared.counts.Counts.{Counts}
+use Rattle.arr_scope.specs.declared.counts.Counts.{Counts}
 use Rattle.arr_run.specs.declared.task.Task.{Task}
-use Rattle.arr_run.specs.Agrees.{Answer, ◌>>=◌}
+use Rattle.arr_scope.specs.Agrees.{Answer, ◌>>=◌}
 use Rattle.arr_run.specs.Expression.{Valued, Callable, Passed, if_as_many, with_argument, call_value, value_of, term_value, factor_value, product_value}
 use Rattle.arr_run.specs.Operations.{Operations}
-use Rattle.arr_run.specs.Scope.{Names}
+use Rattle.arr_scope.specs.Scope.{Names}
 use Rattle.arr_run.specs.Steps.{newest_first, calls_of, definition_named, definition_at, callable_of, added_values, times_values, argument_value, argument_values}
 use Rattle.arr_run.specs.Tasks.{named_with, call_at, after_task, after_each, after_tasks, expression_with, term_with, factor_with}
 use Rattle.arr_run.proofs.ExpressionRows.{value_of-out, value_of-alone, term_value-out, term_value-alone, call-made}

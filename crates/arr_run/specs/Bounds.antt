@@ -1,12 +1,12 @@
 -- The bounds of a loop.
 use Rattle.std.specs.Prelude.{ℕ, ℤ, pos, Ok, Err, nat_le, if◌then◌else◌}
-use Rattle.arr_run.specs.declared.refused.CheckKind.TheVariants.{Bounds}
-use Rattle.arr_run.specs.declared.refused.CheckRefused.TheVariants.{Bad}
+use Rattle.arr_scope.specs.declared.refused.CheckKind.TheVariants.{Bounds}
+use Rattle.arr_scope.specs.declared.refused.CheckRefused.TheVariants.{Bad}
 use Rattle.arr_ast.specs.IndexTree.{Sum}
-use Rattle.arr_run.specs.Agrees.{Answer, ◌>>=◌}
-use Rattle.arr_run.specs.Index.{index_value, index_at}
-use Rattle.arr_run.specs.Limits.{modulus}
-use Rattle.arr_run.specs.Scope.{Names}
+use Rattle.arr_scope.specs.Agrees.{Answer, ◌>>=◌}
+use Rattle.arr_scope.specs.Index.{index_value, index_at}
+use Rattle.arr_scope.specs.Limits.{modulus}
+use Rattle.arr_scope.specs.Scope.{Names}
 
 -- the first turn, and the one past the last
 abbrev pub turns_of : ℕ → ℤ → ℤ → Answer (ℕ × ℕ)

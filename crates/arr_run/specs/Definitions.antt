@@ -2,14 +2,14 @@
 use Rattle.std.specs.Prelude.{ℕ, ◌==◌, Bool, false, ◌||◌, List, [], ◌∷◌, ◌++◌, length, map, Ok, Err, nat_lt, if◌then◌else◌}
 use Rattle.arr_ast.specs.ExpressionTree.{NameTree}
 use Rattle.arr_ast.specs.ProgramTree.{DefinitionTree}
-use Rattle.arr_run.specs.declared.refused.CheckKind.TheVariants.{Defs, Taken}
-use Rattle.arr_run.specs.declared.refused.CheckRefused.TheVariants.{Bad}
-use Rattle.arr_run.specs.Agrees.{Answer, ◌>>=◌}
-use Rattle.arr_run.specs.Counting.{step_at}
+use Rattle.arr_scope.specs.declared.refused.CheckKind.TheVariants.{Defs, Taken}
+use Rattle.arr_scope.specs.declared.refused.CheckRefused.TheVariants.{Bad}
+use Rattle.arr_scope.specs.Agrees.{Answer, ◌>>=◌}
+use Rattle.arr_scope.specs.Counting.{step_at}
 use Rattle.arr_run.specs.Expression.{Callable, Calls, value_of}
-use Rattle.arr_run.specs.Limits.{most_definitions}
+use Rattle.arr_scope.specs.Limits.{most_definitions}
 use Rattle.arr_run.specs.Operations.{Operations}
-use Rattle.arr_run.specs.Scope.{Names}
+use Rattle.arr_scope.specs.Scope.{Names}
 use Rattle.arr_run.specs.State.{State, state, bound, if_free}
 
 module _ {A S : Type 0} (operations : Operations A S) where

@@ -1,22 +1,22 @@
 -- The values of expressions: a shape and an array, and what is counted and kept after it.
-use Rattle.std.specs.Prelude.{ℕ, suc, ◌+◌, ◌*◌, ◌==◌, List, [], ◌∷◌, ◌++◌, length, if◌then◌else◌, Option, Some, None, Ok, Err}
+use Rattle.std.specs.Prelude.{ℕ, suc, ◌==◌, List, [], ◌∷◌, ◌++◌, length, if◌then◌else◌, Option, Some, None, Ok, Err}
 use Rattle.arr_ast.specs.declared.expression.Sign.{Sign}
 use Rattle.arr_ast.specs.declared.expression.SingleFunction.{SingleFunction}
 use Rattle.arr_ast.specs.declared.expression.PairFunction.{PairFunction}
 use Rattle.arr_ast.specs.ExpressionTree.{IndicesTree, ExpressionTree, ExpressionOf, AddedTree, NoTerm, Added, TermTree, TermOf, TimesTree, NoFactor, Times, FactorTree, Number, Name, Element, Negation, Parenthesized, Single, Pair, Call, ArgumentsTree, NoArgument, Argument}
 use Rattle.arr_ast.specs.declared.shape.ShapeOf.{ShapeOf}
-use Rattle.arr_ast.specs.declared.shape.ShapeOf.TheVariants.{Scalar, Matrix}
-use Rattle.arr_run.specs.declared.bound.Bound.{Bound}
-use Rattle.arr_run.specs.declared.bound.Bound.TheVariants.{Value, Turn}
-use Rattle.arr_run.specs.declared.counts.Counts.{Counts}
-use Rattle.arr_run.specs.declared.refused.CheckKind.TheVariants.{Unknown, Shape}
-use Rattle.arr_run.specs.declared.refused.CheckRefused.TheVariants.{Bad}
-use Rattle.arr_run.specs.Agrees.{Answer, ◌>>=◌}
-use Rattle.arr_run.specs.Counting.{constant_at, step_at}
-use Rattle.arr_run.specs.Element.{indices_at}
+use Rattle.arr_ast.specs.declared.shape.ShapeOf.TheVariants.{Scalar}
+use Rattle.arr_scope.specs.declared.bound.Bound.{Bound}
+use Rattle.arr_scope.specs.declared.bound.Bound.TheVariants.{Value, Turn}
+use Rattle.arr_scope.specs.declared.counts.Counts.{Counts}
+use Rattle.arr_scope.specs.declared.refused.CheckKind.TheVariants.{Unknown, Shape}
+use Rattle.arr_scope.specs.declared.refused.CheckRefused.TheVariants.{Bad}
+use Rattle.arr_scope.specs.Agrees.{Answer, ◌>>=◌}
+use Rattle.arr_scope.specs.Counting.{constant_at, step_at}
+use Rattle.arr_scope.specs.Element.{indices_at, offset}
 use Rattle.arr_run.specs.Operations.{Operations}
-use Rattle.arr_run.specs.Scope.{Names, binding_of}
-use Rattle.arr_run.specs.Shape.{Shaped, size_of, for_minus_one, sum_shape, product_shape, single_shape, pair_shape}
+use Rattle.arr_scope.specs.Scope.{Names, binding_of}
+use Rattle.arr_scope.specs.Shape.{Shaped, size_of, for_minus_one, sum_shape, product_shape, single_shape, pair_shape}
 
 -- a shape and an array, and what is counted and kept after it
 abbrev pub Valued : Type 0 → Type 0 → Type 0
@@ -70,11 +70,6 @@ call_value at callable passed =
 -- a shape that fits, and the array that is made
 abbrev pub made : {A S : Type 0} → Shaped → (S → A × S) → S → Answer (Valued A S)
 made shaped make kept = shaped >>= λ found. Ok (found.0, (make kept).0, found.1, (make kept).1)
-
--- the place of row and column in the list of a shape
-abbrev pub offset : ShapeOf → ℕ × ℕ → ℕ
-offset (Matrix n m) place = place.0 * m + place.1
-offset shape place = place.0
 
 -- an element of a name: its array, and its place there
 abbrev pub element_at : {A : Type 0} → Names A → ℕ → IndicesTree → Option (Bound A)

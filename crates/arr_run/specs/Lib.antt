@@ -1,16 +1,8 @@
-pub mod Agrees
 pub mod Bounds
-pub mod Counting
 pub mod Definitions
-pub mod Element
 pub mod Expression
-pub mod Index
-pub mod Limits
 pub mod Operations
-pub mod Places
 pub mod Program
-pub mod Scope
-pub mod Shape
 pub mod State
 pub mod Statement
 pub mod Steps

@@ -8,17 +8,17 @@ use Rattle.arr_ast.specs.declared.program.Dimensions.TheVariants.{Scalar, Vector
 use Rattle.arr_ast.specs.ProgramTree.{InputTree, DefinitionTree, TopTree, Output, Inner, ProgramTree}
 use Rattle.arr_ast.specs.declared.shape.ShapeOf.{ShapeOf}
 use Rattle.arr_ast.specs.declared.shape.ShapeOf.TheVariants.{Scalar as ShapeScalar, Vector as ShapeVector, Matrix as ShapeMatrix}
-use Rattle.arr_run.specs.declared.bound.Bound.TheVariants.{Value}
-use Rattle.arr_run.specs.declared.refused.CheckKind.TheVariants.{Dims, Outputs, NoOutput}
-use Rattle.arr_run.specs.declared.refused.CheckRefused.TheVariants.{Bad}
-use Rattle.arr_run.specs.declared.counts.Counts.{Counts}
-use Rattle.arr_run.specs.Agrees.{Answer, ◌>>=◌, each}
-use Rattle.arr_run.specs.Counting.{step_at, nodes_at}
+use Rattle.arr_scope.specs.declared.bound.Bound.TheVariants.{Value}
+use Rattle.arr_scope.specs.declared.refused.CheckKind.TheVariants.{Dims, Outputs, NoOutput}
+use Rattle.arr_scope.specs.declared.refused.CheckRefused.TheVariants.{Bad}
+use Rattle.arr_scope.specs.declared.counts.Counts.{Counts}
+use Rattle.arr_scope.specs.Agrees.{Answer, ◌>>=◌, each}
+use Rattle.arr_scope.specs.Counting.{step_at, nodes_at}
 use Rattle.arr_run.specs.Definitions.{callables, after_definitions}
 use Rattle.arr_run.specs.Expression.{value_of}
-use Rattle.arr_run.specs.Limits.{most_dimension, most_outputs}
+use Rattle.arr_scope.specs.Limits.{most_dimension, most_outputs}
 use Rattle.arr_run.specs.Operations.{Operations}
-use Rattle.arr_run.specs.Shape.{size_of}
+use Rattle.arr_scope.specs.Shape.{size_of}
 use Rattle.arr_run.specs.State.{State, state, bound, if_free, with_name}
 use Rattle.arr_run.specs.Statement.{after_statement}
 

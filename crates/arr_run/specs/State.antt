@@ -1,12 +1,12 @@
 -- The state of a run, and the names in it.
 use Rattle.std.specs.Prelude.{ℕ, [], ◌∷◌, ◌++◌, Option, Some, None, Ok, Err}
 use Rattle.arr_ast.specs.ExpressionTree.{NameTree}
-use Rattle.arr_run.specs.declared.bound.Bound.{Bound}
-use Rattle.arr_run.specs.declared.counts.Counts.{Counts}
-use Rattle.arr_run.specs.declared.refused.CheckKind.TheVariants.{Taken}
-use Rattle.arr_run.specs.declared.refused.CheckRefused.TheVariants.{Bad}
-use Rattle.arr_run.specs.Agrees.{Answer}
-use Rattle.arr_run.specs.Scope.{Names, binding_of}
+use Rattle.arr_scope.specs.declared.bound.Bound.{Bound}
+use Rattle.arr_scope.specs.declared.counts.Counts.{Counts}
+use Rattle.arr_scope.specs.declared.refused.CheckKind.TheVariants.{Taken}
+use Rattle.arr_scope.specs.declared.refused.CheckRefused.TheVariants.{Bad}
+use Rattle.arr_scope.specs.Agrees.{Answer}
+use Rattle.arr_scope.specs.Scope.{Names, binding_of}
 
 -- the names in scope, what was counted, and what is kept beside arrays
 pub record State (A S : Type 0) : Type 0 where

@@ -6,19 +6,20 @@ use Rattle.arr_ast.specs.ExpressionTree.{NameTree, IndicesTree, ExpressionTree, 
 use Rattle.arr_ast.specs.ProgramTree.{DefinitionTree, StatementTree, Let, Set, SetElement, For, BlockTree, EndOfBlock, Then}
 use Rattle.arr_ast.specs.declared.shape.ShapeOf.{ShapeOf}
 use Rattle.arr_ast.specs.declared.shape.ShapeOf.TheVariants.{Scalar}
-use Rattle.arr_run.specs.declared.bound.Bound.{Bound}
-use Rattle.arr_run.specs.declared.bound.Bound.TheVariants.{Value, Turn}
-use Rattle.arr_run.specs.declared.refused.CheckKind.TheVariants.{Unknown, Taken, Shape}
-use Rattle.arr_run.specs.declared.refused.CheckRefused.TheVariants.{Bad}
-use Rattle.arr_run.specs.Agrees.{Answer, ◌>>=◌, each}
+use Rattle.arr_scope.specs.declared.bound.Bound.{Bound}
+use Rattle.arr_scope.specs.declared.bound.Bound.TheVariants.{Value, Turn}
+use Rattle.arr_scope.specs.declared.refused.CheckKind.TheVariants.{Unknown, Taken, Shape}
+use Rattle.arr_scope.specs.declared.refused.CheckRefused.TheVariants.{Bad}
+use Rattle.arr_scope.specs.Agrees.{Answer, ◌>>=◌, each}
 use Rattle.arr_run.specs.Bounds.{bounds_of}
-use Rattle.arr_run.specs.Counting.{step_at}
-use Rattle.arr_run.specs.Element.{indices_at}
+use Rattle.arr_scope.specs.Counting.{step_at}
+use Rattle.arr_scope.specs.Element.{indices_at}
 use Rattle.arr_run.specs.Definitions.{callables, if_new}
-use Rattle.arr_run.specs.Expression.{value_of, offset}
+use Rattle.arr_scope.specs.Element.{offset}
+use Rattle.arr_run.specs.Expression.{value_of}
 use Rattle.arr_run.specs.Operations.{Operations}
-use Rattle.arr_run.specs.Scope.{Names, with_binding}
-use Rattle.arr_run.specs.Shape.{same_shape}
+use Rattle.arr_scope.specs.Scope.{Names, with_binding}
+use Rattle.arr_scope.specs.Shape.{same_shape}
 use Rattle.arr_run.specs.State.{State, state, bound, with_name}
 
 abbrev pub factor_at : FactorTree → ℕ

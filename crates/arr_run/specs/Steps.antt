@@ -1,33 +1,19 @@
 -- What a run does at one link of a chain: rows of the definitions once more, each by itself.
 -- Contracts of private functions alone speak of them, so nobody has to read them to know what a run is.
-use Rattle.std.specs.Prelude.{ℕ, ◌==◌, ℤ, ◌*ℤ◌, List, [], ◌∷◌, reverse, map, take, drop, Option, Some, None, Ok, Err, if◌then◌else◌}
+use Rattle.std.specs.Prelude.{ℕ, ◌==◌, List, [], ◌∷◌, reverse, map, take, drop, Option, Some, None, Ok, Err, if◌then◌else◌}
 use Rattle.arr_ast.specs.declared.program.Definition.{Definition}
 use Rattle.arr_ast.specs.declared.expression.Expression.{Expression}
 use Rattle.arr_ast.specs.declared.expression.AddedTerm.{AddedTerm, AddedTerm'}
 use Rattle.arr_ast.specs.declared.expression.TimesFactor.{TimesFactor}
-use Rattle.arr_ast.specs.declared.index.AddedIndexTerm.{AddedIndexTerm, AddedIndexTerm'}
-use Rattle.arr_ast.specs.declared.index.TimesIndexFactor.{TimesIndexFactor}
 use Rattle.arr_ast.specs.ExpressionTree.{ExpressionTree, expression_tree, term_tree, factor_tree}
 use Rattle.arr_ast.specs.ProgramTree.{DefinitionTree, definition_tree}
-use Rattle.arr_ast.specs.IndexTree.{product_tree, factor_tree as index_factor_tree}
-use Rattle.arr_run.specs.declared.refused.CheckKind.TheVariants.{Unknown}
-use Rattle.arr_run.specs.declared.refused.CheckRefused.TheVariants.{Bad}
-use Rattle.arr_run.specs.Agrees.{Answer, ◌>>=◌}
+use Rattle.arr_scope.specs.declared.refused.CheckKind.TheVariants.{Unknown}
+use Rattle.arr_scope.specs.declared.refused.CheckRefused.TheVariants.{Bad}
+use Rattle.arr_scope.specs.Agrees.{Answer, ◌>>=◌}
 use Rattle.arr_run.specs.Definitions.{callable, callables}
 use Rattle.arr_run.specs.Expression.{Valued, Callable, Calls, Passed, with_argument, value_of, term_value, factor_value, signed_value, product_value}
-use Rattle.arr_run.specs.Index.{index_term_value, index_factor_value, signed, within}
 use Rattle.arr_run.specs.Operations.{Operations}
-use Rattle.arr_run.specs.Scope.{Names}
-
-abbrev pub added_index_term_value : {A : Type 0} → Names A → ℕ → AddedIndexTerm → ℤ → Answer ℤ
-added_index_term_value scope whole (AddedIndexTerm' sign at term) left =
-    index_term_value scope whole (product_tree term) >>= λ right.
-    within whole (signed sign left right)
-
-abbrev pub times_index_factor_value : {A : Type 0} → Names A → ℕ → TimesIndexFactor → ℤ → Answer ℤ
-times_index_factor_value scope whole times left =
-    index_factor_value scope whole (index_factor_tree times.factor) >>= λ right.
-    within whole (left *ℤ right)
+use Rattle.arr_scope.specs.Scope.{Names}
 
 -- the trees of a slice's definitions, the newest first
 abbrev pub newest_first : List Definition → List DefinitionTree

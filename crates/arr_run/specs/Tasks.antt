@@ -6,18 +6,18 @@ use Rattle.arr_ast.specs.declared.expression.AddedTerm.{AddedTerm}
 use Rattle.arr_ast.specs.declared.expression.TimesFactor.{TimesFactor}
 use Rattle.arr_ast.specs.ExpressionTree.{ExpressionTree, TermTree, FactorTree, expression_tree, factor_tree}
 use Rattle.arr_ast.specs.ProgramTree.{DefinitionTree}
-use Rattle.arr_run.specs.declared.counts.Counts.{Counts}
-use Rattle.arr_run.specs.declared.refused.CheckKind.TheVariants.{Unknown}
-use Rattle.arr_run.specs.declared.refused.CheckRefused.{CheckRefused}
-use Rattle.arr_run.specs.declared.refused.CheckRefused.TheVariants.{Memory, Bad}
+use Rattle.arr_scope.specs.declared.counts.Counts.{Counts}
+use Rattle.arr_scope.specs.declared.refused.CheckKind.TheVariants.{Unknown}
+use Rattle.arr_scope.specs.declared.refused.CheckRefused.{CheckRefused}
+use Rattle.arr_scope.specs.declared.refused.CheckRefused.TheVariants.{Memory, Bad}
 use Rattle.arr_run.specs.declared.task.Next.{Next}
 use Rattle.arr_run.specs.declared.task.Next.TheVariants.{Inner, Found}
 use Rattle.arr_run.specs.declared.task.Task.{Task}
 use Rattle.arr_run.specs.declared.task.Task.TheVariants.{Terms, Signed, Factors, Product, Opposite, Single, Left, Right, Argument}
-use Rattle.arr_run.specs.Agrees.{Answer, ◌>>=◌}
+use Rattle.arr_scope.specs.Agrees.{Answer, ◌>>=◌}
 use Rattle.arr_run.specs.Expression.{Valued, Passed, if_as_many, with_argument, call_value, value_of, term_value, factor_value, signed_value, product_value, opposite_value, single_value, pair_value}
 use Rattle.arr_run.specs.Operations.{Operations}
-use Rattle.arr_run.specs.Scope.{Names}
+use Rattle.arr_scope.specs.Scope.{Names}
 use Rattle.arr_run.specs.Steps.{calls_of, definition_at, callable_of, added_values, times_values, argument_values}
 
 -- A function goes on as the definition says: the same refusal, or what follows from what it gives.

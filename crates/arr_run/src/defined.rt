@@ -2,16 +2,14 @@
 
 ghost use Rattle.std.specs.Prelude.{◌≡◌, ◌<◌, suc, length, map, Some, None, IfSome, IfNone, IfOk};
 ghost use Rattle.arr_ast.specs.ExpressionTree.{NameTree, name_tree};
-ghost use Rattle.arr_run.specs.Agrees.{Agrees};
+ghost use Rattle.arr_scope.specs.Agrees.{Agrees};
 ghost use Rattle.arr_run.specs.Definitions.{is_defined};
 ghost use Rattle.arr_run.specs.Expression.{if_as_many, parameters_bound};
 ghost use Rattle.arr_run.specs.Steps.{newest_first, definition_named, definition_at};
 ghost use Rattle.arr_run.specs.Tasks.{named_with};
 
-use crate::bound::Bound;
-use crate::refused::{CheckKind, CheckRefused};
-use crate::scope::Scope;
 use arr_ast::{Definition, Name, ShapeOf};
+use arr_scope::{Bound, CheckKind, CheckRefused, Scope};
 use std::alloc::{AllocError, Global};
 
 /// The definitions that may be called, in the order of the text, and where lists are put.

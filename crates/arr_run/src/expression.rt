@@ -6,23 +6,21 @@
 
 ghost use Rattle.std.specs.Prelude.{◌≡◌, ◌+◌, ◌<◌, ◌≤◌, sum_by, IfOk};
 ghost use Rattle.arr_ast.specs.ExpressionTree.{expression_tree};
-ghost use Rattle.arr_run.specs.declared.counts.Counts.{Counts};
+ghost use Rattle.arr_scope.specs.declared.counts.Counts.{Counts};
 ghost use Rattle.arr_run.specs.declared.task.Task.TheVariants.{Signed, Product, Argument};
-ghost use Rattle.arr_run.specs.Agrees.{Agrees};
+ghost use Rattle.arr_scope.specs.Agrees.{Agrees};
 ghost use Rattle.arr_run.specs.Expression.{with_argument, value_of};
 ghost use Rattle.arr_run.specs.Steps.{calls_of};
 ghost use Rattle.arr_run.specs.Tasks.{Continues, call_at, task_with, added_with, times_with, arguments_with, next_with};
 ghost use Rattle.arr_run.specs.Work.{added_term_work, times_factor_work, further_work, task_work, tasks_work, next_work};
 
-use crate::counts::{Counts, step};
 use crate::defined::{Defined, bind_parameters};
 use crate::factor::{begin, begin_operand, first_factor, first_of_term};
 use crate::machine::Machine;
 use crate::operation::{opposite_value, pair_value, product_value, signed_value, single_value};
-use crate::refused::{CheckKind, CheckRefused};
-use crate::scope::Scope;
 use crate::task::{Next, Task};
 use arr_ast::{AddedTerm, Expression, ShapeOf, Sign, TimesFactor};
+use arr_scope::{CheckKind, CheckRefused, Counts, Scope, step};
 
 /// The value of an expression: its shape and its array. The list is emptied first.
 #[cycle(expression)]

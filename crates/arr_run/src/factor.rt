@@ -2,18 +2,16 @@
 
 ghost use Rattle.std.specs.Prelude.{◌≡◌, [], ◌∷◌, ◌++◌, ◌+◌, ◌≤◌, IfOk};
 ghost use Rattle.arr_ast.specs.ExpressionTree.{expression_tree, term_tree, factor_tree};
-ghost use Rattle.arr_run.specs.declared.counts.Counts.{Counts};
+ghost use Rattle.arr_scope.specs.declared.counts.Counts.{Counts};
 ghost use Rattle.arr_run.specs.Tasks.{Continues, expression_with, term_with, factor_with, next_with};
 ghost use Rattle.arr_run.specs.Work.{expression_work, term_work, factor_work, task_work, tasks_work, next_work};
 
-use crate::counts::Counts;
 use crate::defined::{Defined, callable_place};
 use crate::machine::Machine;
 use crate::operation::{constant_value, element_value, name_value};
-use crate::refused::CheckRefused;
-use crate::scope::Scope;
 use crate::task::{Next, Task};
 use arr_ast::{Expression, Factor, Term};
+use arr_scope::{CheckRefused, Counts, Scope};
 use std::alloc::AllocError;
 
 /// The first factor of an expression, where what comes after it waits.

@@ -4,28 +4,15 @@
 //! definitions. So calls are nested no deeper than there are definitions, and a run of them ends.
 #![tactic(auto)]
 
-mod bound;
-mod constants;
-mod counts;
 mod defined;
-mod element;
 mod expression;
 mod factor;
-mod index;
 mod machine;
 mod operation;
 mod place;
 mod program;
-mod refused;
-mod scope;
-mod shape;
 mod statement;
 mod task;
 
-pub use bound::Bound;
-pub use counts::Counts;
 pub use machine::Machine;
 pub use program::{Ran, run};
-pub use refused::{CheckKind, CheckRefused};
-pub use scope::Scope;
-pub use shape::size;

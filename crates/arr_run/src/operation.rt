@@ -3,18 +3,16 @@
 ghost use Rattle.std.specs.Prelude.{◌≡◌, Ok, option_copied};
 ghost use Rattle.arr_ast.specs.ExpressionTree.{name_tree, indices_tree};
 ghost use Rattle.arr_ast.specs.declared.shape.ShapeOf.TheVariants.{Scalar};
-ghost use Rattle.arr_run.specs.Agrees.{Agrees};
+ghost use Rattle.arr_scope.specs.Agrees.{Agrees};
 ghost use Rattle.arr_run.specs.Expression.{constant_value as value_of_constant, bound_value, element_value as value_of_element, signed_value as value_of_sum, product_value as value_of_product, opposite_value as value_of_opposite, single_value as value_of_single, pair_value as value_of_pair};
-ghost use Rattle.arr_run.specs.Scope.{binding_of};
+ghost use Rattle.arr_scope.specs.Scope.{binding_of};
 
-use crate::bound::Bound;
-use crate::counts::{Counts, use_constant};
-use crate::element::{offset, place_in};
 use crate::machine::Machine;
-use crate::refused::{CheckKind, CheckRefused};
-use crate::scope::Scope;
-use crate::shape::{opposite_shape, pair_shape, signed_shape, single_shape, times_shape};
 use arr_ast::{Indices, Name, PairFunction, ShapeOf, Sign, SingleFunction};
+use arr_scope::{
+    Bound, CheckKind, CheckRefused, Counts, Scope, offset, opposite_shape, pair_shape, place_in,
+    signed_shape, single_shape, times_shape, use_constant,
+};
 
 /// A number.
 pub fn constant_value<M: Machine>(

@@ -3,27 +3,22 @@
 ghost use Rattle.std.specs.Prelude.{◌≡◌, [], ◌∷◌, IfOk, map};
 ghost use Rattle.arr_ast.specs.ProgramTree.{input_tree, definition_tree, top_tree, program_tree};
 ghost use Rattle.arr_ast.specs.ExpressionTree.{name_tree};
-ghost use Rattle.arr_run.specs.Agrees.{Agrees, each};
+ghost use Rattle.arr_scope.specs.Agrees.{Agrees, each};
 ghost use Rattle.arr_run.specs.Program.{after_input, after_top, dimension_of, end_of, if_any_output, input_count, input_shape as shape_of_input, none_counted, outputs_at, run_of};
 ghost use Rattle.arr_run.specs.Definitions.{after_definition, after_definitions, if_few, if_apart, if_parameters, is_among};
-ghost use Rattle.arr_run.specs.Scope.{Names};
+ghost use Rattle.arr_scope.specs.Scope.{Names};
 ghost use Rattle.arr_run.specs.State.{state};
 ghost use Rattle.arr_run.specs.Steps.{newest_first};
 
-use crate::bound::Bound;
-use crate::constants::Constants;
-use crate::counts::{Counts, add_nodes, step};
 use crate::defined::Defined;
 use crate::expression::value;
 use crate::machine::Machine;
-use crate::refused::{CheckKind, CheckRefused};
-use crate::scope::Scope;
-use crate::shape::size;
 use crate::statement::{require_free, require_new, run_statement};
 use crate::task::Task;
 use arr_ast::{
     Definition, Dimension, Dimensions, Input, Lang, Name, Program, ShapeOf, TopStatement,
 };
+use arr_scope::{Bound, CheckKind, CheckRefused, Constants, Counts, Scope, add_nodes, size, step};
 use std::alloc::Global;
 
 const MAX_DIMENSION: u32 = 4096;

@@ -4,28 +4,25 @@ ghost use Rattle.std.specs.Prelude.{◌≡◌, ◌≤◌, ◌-◌, IfOk, IfErr, 
 ghost use Rattle.arr_ast.specs.IndexTree.{sum_tree};
 ghost use Rattle.arr_ast.specs.ExpressionTree.{name_tree, indices_tree, expression_tree};
 ghost use Rattle.arr_ast.specs.ProgramTree.{statement_tree};
-ghost use Rattle.arr_run.specs.Agrees.{Agrees, each};
+ghost use Rattle.arr_scope.specs.Agrees.{Agrees, each};
 ghost use Rattle.arr_run.specs.Bounds.{bounds_of, turns_of};
 ghost use Rattle.arr_run.specs.State.{bound, state, if_free};
 ghost use Rattle.arr_run.specs.Steps.{newest_first};
 ghost use Rattle.arr_run.specs.Definitions.{if_new};
 ghost use Rattle.arr_run.specs.Statement.{after_statement, declared, assigned as after_assignment, element_assigned, counted_loop as after_loop, if_of, stepped, target_shape as shape_of_target, turns, one_turn as after_turn, with_element_of};
-ghost use Rattle.arr_run.specs.declared.refused.CheckRefused.TheVariants.{Memory};
+ghost use Rattle.arr_scope.specs.declared.refused.CheckRefused.TheVariants.{Memory};
 ghost use Rattle.arr_run.specs.Statement.{expression_at as place_of_value};
 
-use crate::bound::Bound;
-use crate::counts::{Counts, step};
 use crate::defined::{Defined, has_definition};
-use crate::element::{offset, place_in};
 use crate::expression::value;
-use crate::index::{index_at, index_value};
 use crate::machine::Machine;
 use crate::place::expression_at;
-use crate::refused::{CheckKind, CheckRefused};
-use crate::scope::Scope;
-use crate::shape::is_alike;
 use crate::task::Task;
 use arr_ast::{Definition, Expression, IndexExpression, Indices, Name, ShapeOf, Statement};
+use arr_scope::{
+    Bound, CheckKind, CheckRefused, Counts, Scope, index_at, index_value, is_alike, offset,
+    place_in, step,
+};
 
 const MODULUS: i64 = 2_147_483_647;
 

@@ -24,19 +24,19 @@ use Rattle.arr_ast.specs.declared.shape.ShapeOf.{ShapeOf}
 use Rattle.arr_ast.specs.declared.shape.ShapeOf.TheVariants.{Matrix}
 use Rattle.arr_ast.specs.ExpressionTree.{ExpressionOf, NoTerm, TermOf, NoFactor, Pair}
 use Rattle.arr_ast.specs.ProgramTree.{TopTree, Output, InputTree}
-use Rattle.arr_run.specs.declared.bound.Bound.TheVariants.{Value}
-use Rattle.arr_run.specs.declared.counts.Counts.{Counts}
-use Rattle.arr_run.specs.declared.refused.CheckKind.TheVariants as kinds
-use Rattle.arr_run.specs.declared.refused.CheckRefused.TheVariants.{Bad}
-use Rattle.arr_run.specs.Agrees.{Answer, ◌>>=◌, each}
-use Rattle.arr_run.specs.Counting.{step_at, nodes_at}
+use Rattle.arr_scope.specs.declared.bound.Bound.TheVariants.{Value}
+use Rattle.arr_scope.specs.declared.counts.Counts.{Counts}
+use Rattle.arr_scope.specs.declared.refused.CheckKind.TheVariants as kinds
+use Rattle.arr_scope.specs.declared.refused.CheckRefused.TheVariants.{Bad}
+use Rattle.arr_scope.specs.Agrees.{Answer, ◌>>=◌, each}
+use Rattle.arr_scope.specs.Counting.{step_at, nodes_at}
 use Rattle.arr_run.specs.Definitions.{after_definitions}
 use Rattle.arr_run.specs.Expression.{Valued, value_of, added_value, times_value, single_value}
 use Rattle.arr_run.specs.Program.{after_input, after_top, if_any_output, input_shape, none_counted, outputs_at, run_of}
-use Rattle.arr_run.specs.Scope.{Names, binding_of}
-use Rattle.arr_run.specs.Shape.{size_of, pair_shape, single_shape}
+use Rattle.arr_scope.specs.Scope.{Names, binding_of}
+use Rattle.arr_scope.specs.Shape.{size_of, pair_shape, single_shape}
 use Rattle.arr_run.specs.State.{State, state, if_free}
-use Rattle.arr_run.proofs.api.Answered.{bind_ok, same_ok}
+use Rattle.arr_scope.proofs.api.Answered.{bind_ok, same_ok}
 use Rattle.arr_run.proofs.api.InputNodes.{input_shape-declared}
 use Rattle.node_core.specs.declared.node.Node.{Node}
 use Rattle.node_core.specs.declared.node.Node.TheVariants.{Input}

@@ -15,20 +15,20 @@ use Rattle.arr_ast.specs.declared.expression.PairFunction.TheVariants.{Scale, Do
 use Rattle.arr_ast.specs.declared.shape.ShapeOf.{ShapeOf}
 use Rattle.arr_ast.specs.declared.shape.ShapeOf.TheVariants.{Scalar, Vector, Matrix}
 use Rattle.arr_ast.specs.ExpressionTree.{ExpressionTree}
-use Rattle.arr_run.specs.declared.bound.Bound.{Bound}
-use Rattle.arr_run.specs.declared.bound.Bound.TheVariants.{Value, Turn}
-use Rattle.arr_run.specs.declared.counts.Counts.{Counts}
-use Rattle.arr_run.specs.declared.refused.CheckKind.TheVariants as kinds
-use Rattle.arr_run.specs.declared.refused.CheckRefused.TheVariants.{Bad}
-use Rattle.arr_run.specs.Agrees.{Answer}
+use Rattle.arr_scope.specs.declared.bound.Bound.{Bound}
+use Rattle.arr_scope.specs.declared.bound.Bound.TheVariants.{Value, Turn}
+use Rattle.arr_scope.specs.declared.counts.Counts.{Counts}
+use Rattle.arr_scope.specs.declared.refused.CheckKind.TheVariants as kinds
+use Rattle.arr_scope.specs.declared.refused.CheckRefused.TheVariants.{Bad}
+use Rattle.arr_scope.specs.Agrees.{Answer}
 use Rattle.arr_run.specs.Definitions.{callables}
 use Rattle.arr_run.specs.Expression.{Valued, value_of}
 use Rattle.arr_ast.specs.ProgramTree.{DefinitionTree}
-use Rattle.arr_run.specs.Scope.{Names}
-use Rattle.arr_run.specs.Shape.{size_of, for_nodes, single_shape, pair_shape}
-use Rattle.arr_run.proofs.api.Answered.{if_ok, pair_ok}
+use Rattle.arr_scope.specs.Scope.{Names}
+use Rattle.arr_scope.specs.Shape.{size_of, for_nodes, single_shape, pair_shape}
+use Rattle.arr_scope.proofs.api.Answered.{if_ok, pair_ok}
 use Rattle.arr_run.proofs.api.Related.{GoTogether, Both, BothNames, expression_both, calls_both}
-use Rattle.arr_run.proofs.api.Shapes.{same_shape-size, for_nodes-shape, for_minus_one-shape, sum_shape-shape, product_shape-shape}
+use Rattle.arr_scope.proofs.api.Shapes.{same_shape-size, for_nodes-shape, for_minus_one-shape, sum_shape-shape, product_shape-shape}
 use Rattle.arr_check.specs.declared.shapes.Shapes.{Shapes}
 use Rattle.arr_check.specs.Shapes.{shapes}
 use Rattle.field_ext.specs.Field.{F, add_f, sub_f, mul_f, neg_f}

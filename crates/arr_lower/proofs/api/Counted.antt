@@ -23,21 +23,22 @@ use Rattle.arr_ast.specs.declared.shape.ShapeOf.TheVariants.{Scalar, Vector, Mat
 use Rattle.arr_ast.specs.declared.lang.Lang.{Lang}
 use Rattle.arr_ast.specs.declared.lang.Lang.TheVariants.{One, Two}
 use Rattle.arr_ast.specs.ProgramTree.{ProgramTree}
-use Rattle.arr_run.specs.declared.counts.Counts.{Counts}
-use Rattle.arr_run.specs.declared.refused.CheckKind.TheVariants as kinds
-use Rattle.arr_run.specs.declared.refused.CheckRefused.{CheckRefused}
-use Rattle.arr_run.specs.declared.refused.CheckRefused.TheVariants.{Bad}
-use Rattle.arr_run.specs.Agrees.{Answer, ◌>>=◌}
-use Rattle.arr_run.specs.Counting.{nodes_at, constant_at, element_number, with_constant}
+use Rattle.arr_scope.specs.declared.counts.Counts.{Counts}
+use Rattle.arr_scope.specs.declared.refused.CheckKind.TheVariants as kinds
+use Rattle.arr_scope.specs.declared.refused.CheckRefused.{CheckRefused}
+use Rattle.arr_scope.specs.declared.refused.CheckRefused.TheVariants.{Bad}
+use Rattle.arr_scope.specs.Agrees.{Answer, ◌>>=◌}
+use Rattle.arr_scope.specs.Counting.{nodes_at, constant_at, element_number, with_constant}
 use Rattle.arr_run.specs.Program.{end_of, run_of, dimension_of, input_shape, none_counted, input_count}
-use Rattle.arr_run.specs.Shape.{size_of, same_shape, for_nodes, for_minus_one, sum_shape, single_shape, pair_shape}
+use Rattle.arr_scope.specs.Shape.{size_of, same_shape, for_nodes, for_minus_one, sum_shape, single_shape, pair_shape}
 use Rattle.arr_run.specs.State.{State}
-use Rattle.arr_run.proofs.api.Answered.{bind_ok, if_ok, pair_ok, same_ok}
-use Rattle.arr_run.proofs.api.Counted.{some-output, step_at-is, nodes_at-is, outputs_at-is, for_nodes-counts, for_minus_one-counts, sum-counts, difference-counts, product-counts}
+use Rattle.arr_scope.proofs.api.Answered.{bind_ok, if_ok, pair_ok, same_ok}
+use Rattle.arr_scope.proofs.api.Counted.{step_at-is, nodes_at-is, for_nodes-counts, for_minus_one-counts, sum-counts, difference-counts, product-counts}
+use Rattle.arr_run.proofs.api.Counted.{some-output, outputs_at-is}
 use Rattle.arr_run.proofs.api.InputNodes.{few-inputs}
 use Rattle.arr_run.proofs.api.Wider.{Kept as IsKept, state_in_two, run_kept}
 use Rattle.arr_run.proofs.api.Related.{Gives, GoTogether, GoOn, Begin, BothStates, programs}
-use Rattle.arr_run.proofs.api.Shapes.{same_shape-size, for_nodes-shape, for_minus_one-shape, sum_shape-shape, product_shape-shape}
+use Rattle.arr_scope.proofs.api.Shapes.{same_shape-size, for_nodes-shape, for_minus_one-shape, sum_shape-shape, product_shape-shape}
 use Rattle.arr_check.specs.declared.shapes.Shapes.{Shapes}
 use Rattle.arr_check.specs.Program.{run_program, run_end, or_none}
 use Rattle.arr_check.specs.Shapes.{shapes}
@@ -49,7 +50,7 @@ use Rattle.node_core.specs.declared.node.Node.{Node}
 use Rattle.node_core.specs.declared.node.Node.TheVariants.{Constant}
 use Rattle.node_core.specs.Nodes.{Nodes, IsNodeList}
 use Rattle.arr_lower.specs.Lowering.{Kept, kept_after, nodes, nodes_at_end, nodes_of}
-use Rattle.arr_run.specs.Limits.{minus_one}
+use Rattle.arr_scope.specs.Limits.{minus_one}
 use Rattle.arr_lower.specs.Operations.{Made, MadeOne, leaf_nodes, constant_node, operation_node, difference_node, signed_nodes, pairwise_nodes, difference_nodes, scaled_nodes, negated_nodes, sum_node, dot_node, product_pairs, matmul_nodes, single_nodes, pair_nodes}
 use Rattle.arr_lower.proofs.Adds.{Adds, has, has-push, adds-as, operation-adds, difference-adds, each-adds, each-size, leaves-add, sum-adds, dot-adds, matmul-adds, zip-size}
 use Rattle.arr_lower.proofs.Means.{nodes-fine, outputs-there}

@@ -10,17 +10,17 @@ use Rattle.arr_ast.specs.declared.program.Dimensions.TheVariants.{Scalar, Vector
 use Rattle.arr_ast.specs.declared.shape.ShapeOf.{ShapeOf}
 use Rattle.arr_ast.specs.declared.shape.ShapeOf.TheVariants.{Scalar as ShapeScalar, Vector as ShapeVector, Matrix as ShapeMatrix}
 use Rattle.arr_ast.specs.ProgramTree.{InputTree, ProgramTree}
-use Rattle.arr_run.specs.declared.counts.Counts.{Counts}
-use Rattle.arr_run.specs.Agrees.{◌>>=◌, each}
-use Rattle.arr_run.specs.Counting.{step_at, nodes_at}
+use Rattle.arr_scope.specs.declared.counts.Counts.{Counts}
+use Rattle.arr_scope.specs.Agrees.{◌>>=◌, each}
+use Rattle.arr_scope.specs.Counting.{step_at, nodes_at}
 use Rattle.arr_run.specs.Operations.{Operations}
 use Rattle.arr_run.specs.Program.{after_input, after_top, run_of, if_any_output, dimension_of, input_shape, declared_shape, numbers_of_input, input_count, none_counted}
-use Rattle.arr_run.specs.Shape.{size_of}
-use Rattle.arr_run.specs.Limits.{most_nodes}
+use Rattle.arr_scope.specs.Shape.{size_of}
+use Rattle.arr_scope.specs.Limits.{most_nodes}
 use Rattle.arr_run.specs.Definitions.{after_definitions}
 use Rattle.arr_run.specs.State.{State, state, bound, if_free}
-use Rattle.arr_run.proofs.api.Answered.{bind_ok, if_ok, same_ok}
-use Rattle.arr_run.proofs.api.Counted.{most_nodes-bounded}
+use Rattle.arr_scope.proofs.api.Answered.{bind_ok, if_ok, same_ok}
+use Rattle.arr_scope.proofs.api.Counted.{most_nodes-bounded}
 
 -- a step leaves the nodes as they were
 pub step_at-keeps : (at : ℕ) (counts after : Counts) → step_at at counts ≡ Ok after → after.nodes ≡ counts.nodes

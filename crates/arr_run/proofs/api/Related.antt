@@ -9,14 +9,14 @@ use Rattle.arr_ast.specs.declared.shape.ShapeOf.{ShapeOf}
 use Rattle.arr_ast.specs.declared.shape.ShapeOf.TheVariants.{Scalar, Vector, Matrix}
 use Rattle.arr_ast.specs.IndexTree as index
 use Rattle.arr_ast.specs.ExpressionTree.{NameTree, IndicesTree, ExpressionTree, ExpressionOf, AddedTree, NoTerm, Added, TermTree, TermOf, TimesTree, NoFactor, Times, FactorTree, Number, Name, Element, Negation, Parenthesized, Single, Pair, Call, ArgumentsTree, NoArgument, Argument}
-use Rattle.arr_run.specs.declared.bound.Bound.{Bound}
-use Rattle.arr_run.specs.declared.bound.Bound.TheVariants.{Value, Turn}
-use Rattle.arr_run.specs.declared.counts.Counts.{Counts}
-use Rattle.arr_run.specs.declared.refused.CheckRefused.{CheckRefused}
-use Rattle.arr_run.specs.declared.refused.CheckRefused.TheVariants.{Bad}
-use Rattle.arr_run.specs.declared.refused.CheckKind.TheVariants as kinds
-use Rattle.arr_run.specs.Agrees.{Answer, ◌>>=◌, each}
-use Rattle.arr_run.specs.Counting.{constant_at, step_at, nodes_at}
+use Rattle.arr_scope.specs.declared.bound.Bound.{Bound}
+use Rattle.arr_scope.specs.declared.bound.Bound.TheVariants.{Value, Turn}
+use Rattle.arr_scope.specs.declared.counts.Counts.{Counts}
+use Rattle.arr_scope.specs.declared.refused.CheckRefused.{CheckRefused}
+use Rattle.arr_scope.specs.declared.refused.CheckRefused.TheVariants.{Bad}
+use Rattle.arr_scope.specs.declared.refused.CheckKind.TheVariants as kinds
+use Rattle.arr_scope.specs.Agrees.{Answer, ◌>>=◌, each}
+use Rattle.arr_scope.specs.Counting.{constant_at, step_at, nodes_at}
 use Rattle.arr_run.specs.Program.{outputs_at, if_any_output, input_shape, after_input, after_top, run_of, none_counted}
 use Rattle.arr_run.specs.Bounds.{bounds_of, turns_of}
 use Rattle.arr_run.specs.Definitions.{callables, is_defined, if_new, if_few, if_apart, if_parameters, after_definition, after_definitions}
@@ -24,13 +24,14 @@ use Rattle.arr_run.specs.State.{State, state, bound, if_free, with_name}
 use Rattle.arr_run.specs.Statement.{target_shape, if_of, with_element_in, with_element_of, expression_at, stepped, declared, assigned, element_assigned, turns, one_turn, counted_loop, after_statement, after_block}
 use Rattle.arr_ast.specs.declared.lang.Lang.{Lang}
 use Rattle.arr_ast.specs.ProgramTree.{DefinitionTree, StatementTree, Let, Set, SetElement, For, BlockTree, EndOfBlock, Then, TopTree, Output, Inner, InputTree, ProgramTree}
-use Rattle.arr_run.specs.Element.{indices_at, index_below, is_place}
-use Rattle.arr_run.specs.Expression.{Valued, Callable, Calls, called, if_as_many, count_of, Passed, with_argument, parameters_bound, passed_value, made, offset, element_at, constant_value, bound_value, signed_value, product_value, opposite_value, single_value, pair_value, value_of, added_value, term_value, times_value, factor_value}
-use Rattle.arr_run.specs.Index.{index_value, added_index_value, index_term_value, times_index_value, index_factor_value, turn_of, within, index_at, signed as signed_index}
+use Rattle.arr_scope.specs.Element.{indices_at, index_below, is_place}
+use Rattle.arr_scope.specs.Element.{offset}
+use Rattle.arr_run.specs.Expression.{Valued, Callable, Calls, called, if_as_many, count_of, Passed, with_argument, parameters_bound, passed_value, made, element_at, constant_value, bound_value, signed_value, product_value, opposite_value, single_value, pair_value, value_of, added_value, term_value, times_value, factor_value}
+use Rattle.arr_scope.specs.Index.{index_value, added_index_value, index_term_value, times_index_value, index_factor_value, turn_of, within, index_at, signed as signed_index}
 use Rattle.arr_run.specs.Operations.{Operations}
-use Rattle.arr_run.specs.Scope.{Names, binding_of, with_binding}
-use Rattle.arr_run.specs.Shape.{Shaped, same_shape, size_of, sum_shape, product_shape, for_minus_one, single_shape, pair_shape}
-use Rattle.arr_run.proofs.Within.{offset-below}
+use Rattle.arr_scope.specs.Scope.{Names, binding_of, with_binding}
+use Rattle.arr_scope.specs.Shape.{Shaped, same_shape, size_of, sum_shape, product_shape, for_minus_one, single_shape, pair_shape}
+use Rattle.arr_scope.proofs.api.Within.{offset-below}
 
 same_shapes : (a b : ShapeOf) → same_shape a b ≡ true → a ≡ b
 same_shapes Scalar Scalar e = refl

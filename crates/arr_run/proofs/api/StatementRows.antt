@@ -11,7 +11,7 @@ use Rattle.arr_ast.specs.declared.statement.Statement.{size-Statement, size_is-S
 use Rattle.arr_ast.specs.declared.statement.Statement.{Statement, Row_of-Statement, end_of-Statement, more_of-Statement, items-the_row-Statement, items_hidden-the_row-Statement-0}
 use Rattle.arr_ast.specs.declared.statement.Statement.TheBlock.{hidden-the_row-Statement-0}
 use Rattle.arr_ast.specs.ProgramTree.{DefinitionTree, statement_tree, block_tree}
-use Rattle.arr_run.specs.Agrees.{Answer, ◌>>=◌, each}
+use Rattle.arr_scope.specs.Agrees.{Answer, ◌>>=◌, each}
 use Rattle.arr_run.specs.Operations.{Operations}
 use Rattle.arr_ast.specs.ExpressionTree.{NameTree}
 use Rattle.arr_ast.specs.IndexTree.{Sum}

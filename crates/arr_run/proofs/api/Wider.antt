@@ -15,25 +15,25 @@ use Rattle.arr_ast.specs.declared.shape.ShapeOf.TheVariants.{Scalar, Vector, Mat
 use Rattle.arr_ast.specs.IndexTree as index
 use Rattle.arr_ast.specs.ExpressionTree.{NameTree, IndicesTree, ExpressionTree, ExpressionOf, AddedTree, NoTerm, Added, TermTree, TermOf, TimesTree, NoFactor, Times, FactorTree, Number, Name, Element, Negation, Parenthesized, Single, Pair, Call, ArgumentsTree, NoArgument, Argument}
 use Rattle.arr_ast.specs.ProgramTree.{StatementTree, Let, Set, SetElement, For, BlockTree, EndOfBlock, Then, TopTree, Output, Inner, InputTree, DefinitionTree, ProgramTree}
-use Rattle.arr_run.specs.declared.bound.Bound.{Bound}
-use Rattle.arr_run.specs.declared.bound.Bound.TheVariants.{Value, Turn}
-use Rattle.arr_run.specs.declared.counts.Counts.{Counts}
-use Rattle.arr_run.specs.declared.refused.CheckKind.TheVariants as kinds
-use Rattle.arr_run.specs.declared.refused.CheckRefused.TheVariants.{Bad}
-use Rattle.arr_run.specs.Agrees.{Answer, ◌>>=◌, each}
+use Rattle.arr_scope.specs.declared.bound.Bound.{Bound}
+use Rattle.arr_scope.specs.declared.bound.Bound.TheVariants.{Value, Turn}
+use Rattle.arr_scope.specs.declared.counts.Counts.{Counts}
+use Rattle.arr_scope.specs.declared.refused.CheckKind.TheVariants as kinds
+use Rattle.arr_scope.specs.declared.refused.CheckRefused.TheVariants.{Bad}
+use Rattle.arr_scope.specs.Agrees.{Answer, ◌>>=◌, each}
 use Rattle.arr_run.specs.Bounds.{bounds_of}
-use Rattle.arr_run.specs.Counting.{step_at, nodes_at, constant_at, element_number, with_constant}
+use Rattle.arr_scope.specs.Counting.{step_at, nodes_at, constant_at, element_number, with_constant}
 use Rattle.arr_run.specs.Definitions.{callables, if_new, if_few, if_parameters, after_definition, after_definitions}
-use Rattle.arr_run.specs.Element.{indices_at}
+use Rattle.arr_scope.specs.Element.{indices_at}
 use Rattle.arr_run.specs.Expression.{Valued, Callable, Calls, called, if_as_many, count_of, Passed, with_argument, parameters_bound, call_value, passed_value, made, element_at, constant_value, bound_value, signed_value, product_value, pair_value, value_of, added_value, term_value, times_value, factor_value}
-use Rattle.arr_run.specs.Limits.{most_nodes}
+use Rattle.arr_scope.specs.Limits.{most_nodes}
 use Rattle.arr_run.specs.Operations.{Operations}
 use Rattle.arr_run.specs.Program.{outputs_at, if_any_output, input_shape, none_counted, after_input, after_top, run_of}
-use Rattle.arr_run.specs.Scope.{Names, binding_of}
-use Rattle.arr_run.specs.Shape.{Shaped, same_shape, size_of, if_alike, for_nodes, for_minus_one, sum_shape, product_shape, single_shape, pair_shape}
+use Rattle.arr_scope.specs.Scope.{Names, binding_of}
+use Rattle.arr_scope.specs.Shape.{Shaped, same_shape, size_of, if_alike, for_nodes, for_minus_one, sum_shape, product_shape, single_shape, pair_shape}
 use Rattle.arr_run.specs.State.{State, state, bound, if_free, with_name}
 use Rattle.arr_run.specs.Statement.{target_shape, if_of, expression_at, stepped, declared, assigned, element_assigned, turns, one_turn, counted_loop, after_statement, after_block}
-use Rattle.arr_run.proofs.api.Counted.{most_nodes-bounded}
+use Rattle.arr_scope.proofs.api.Counted.{most_nodes-bounded}
 
 -- what is counted, in the second language
 abbrev pub in_two : Counts → Counts

@@ -2,7 +2,7 @@ use Rattle.std.proofs.lemmas.Grind.{common_steps}
 use Rattle.std.proofs.Common.{◌+◌, ◌++◌, drop, reverse, sym, ap, ◌∙◌, rules, arith}
 use Rattle.std.proofs.lemmas.List.{nil_from_length}
 use Rattle.arr_run.specs.Expression.{parameters_bound}
-use Rattle.arr_run.specs.Scope.{Names}
+use Rattle.arr_scope.specs.Scope.{Names}
 use Rattle.arr_run.proofs.Parameters.{numbers, bound_more, bound_over}
 use Rattle.arr_run.proofs.defined.bind_parameters.Goals.{in-Some+in_ok-declare, in_default}
 use Rattle.arr_run.proofs.defined.bind_parameters.Goals as goal

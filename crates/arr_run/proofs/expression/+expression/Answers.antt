@@ -2,7 +2,7 @@ use Rattle.std.proofs.lemmas.Grind.{common_steps}
 use Rattle.std.proofs.Common.{ap, ◌∙◌, rules, arith}
 use Rattle.arr_ast.specs.ExpressionTree.{expression_tree}
 use Rattle.arr_run.specs.declared.task.Task.TheVariants.{Argument}
-use Rattle.arr_run.specs.Agrees.{◌>>=◌}
+use Rattle.arr_scope.specs.Agrees.{◌>>=◌}
 use Rattle.arr_run.specs.Expression.{with_argument}
 use Rattle.arr_run.specs.Steps.{calls_of, argument_values}
 use Rattle.arr_run.specs.Tasks.{call_at, arguments_with}

@@ -4,7 +4,7 @@ use Rattle.std.specs.Prelude.{sum_by}
 use Rattle.arr_ast.specs.declared.expression.Factor.TheBlock.{hidden-the_row-Expression-0}
 use Rattle.arr_ast.specs.ExpressionTree.{name_tree, expression_tree, factor_tree, arguments_tree}
 use Rattle.arr_run.specs.declared.task.Task.TheVariants.{Argument}
-use Rattle.arr_run.specs.Agrees.{◌>>=◌}
+use Rattle.arr_scope.specs.Agrees.{◌>>=◌}
 use Rattle.arr_run.specs.Expression.{factor_value, with_argument}
 use Rattle.arr_run.specs.Steps.{calls_of, argument_values}
 use Rattle.arr_run.specs.Tasks.{call_at, after_tasks, expression_with, factor_with}

@@ -1,6 +1,6 @@
 use Rattle.std.proofs.Common.{◌+◌, take, drop, map, sym, ap, ◌∙◌, rules}
 use Rattle.arr_ast.specs.ProgramTree.{definition_tree}
-use Rattle.arr_run.specs.Agrees.{◌>>=◌}
+use Rattle.arr_scope.specs.Agrees.{◌>>=◌}
 use Rattle.arr_run.specs.Definitions.{after_definition, after_definitions}
 use Rattle.arr_run.specs.State.{state}
 use Rattle.arr_run.specs.Steps.{newest_first}

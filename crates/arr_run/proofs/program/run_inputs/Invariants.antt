@@ -1,7 +1,7 @@
 use Rattle.std.proofs.Common.{◌≡◌, drop}
 use Rattle.std.specs.Prelude.{map}
 use Rattle.arr_ast.specs.ProgramTree.{input_tree}
-use Rattle.arr_run.specs.Agrees.{each}
+use Rattle.arr_scope.specs.Agrees.{each}
 use Rattle.arr_run.specs.Program.{after_input}
 use Rattle.arr_run.specs.State.{state}
 use Rattle.arr_run.proofs.program.run_inputs.Given as goal

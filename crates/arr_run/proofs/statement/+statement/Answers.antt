@@ -5,7 +5,7 @@ use Rattle.arr_ast.specs.IndexTree.{sum_tree}
 use Rattle.arr_ast.specs.ExpressionTree.{name_tree}
 use Rattle.arr_ast.specs.ProgramTree.{statement_tree}
 use Rattle.arr_ast.specs.declared.statement.Statement.{size-Statement}
-use Rattle.arr_run.specs.Agrees.{Answer, ◌>>=◌, each}
+use Rattle.arr_scope.specs.Agrees.{Answer, ◌>>=◌, each}
 use Rattle.arr_run.specs.State.{State, state}
 use Rattle.arr_run.specs.Steps.{newest_first}
 use Rattle.arr_run.specs.Statement.{stepped, after_statement, counted_loop, turns, one_turn}

@@ -2,7 +2,7 @@ use Rattle.std.proofs.Common.{◌≡◌, ◌-◌, drop}
 use Rattle.std.specs.Prelude.{map}
 use Rattle.arr_ast.specs.ExpressionTree.{name_tree}
 use Rattle.arr_ast.specs.ProgramTree.{statement_tree}
-use Rattle.arr_run.specs.Agrees.{each}
+use Rattle.arr_scope.specs.Agrees.{each}
 use Rattle.arr_run.specs.State.{state}
 use Rattle.arr_run.specs.Steps.{newest_first}
 use Rattle.arr_run.specs.Statement.{after_statement, turns, one_turn}

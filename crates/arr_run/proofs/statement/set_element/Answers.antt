@@ -1,6 +1,6 @@
 use Rattle.std.proofs.Common.{sym, ◌∙◌}
-use Rattle.arr_run.specs.Scope.{with_binding}
-use Rattle.arr_run.specs.declared.bound.Bound.TheVariants.{Value}
+use Rattle.arr_scope.specs.Scope.{with_binding}
+use Rattle.arr_scope.specs.declared.bound.Bound.TheVariants.{Value}
 use Rattle.arr_run.proofs.Elements.{element_set, none_set}
 use Rattle.arr_run.proofs.statement.set_element.Goals as goal
 

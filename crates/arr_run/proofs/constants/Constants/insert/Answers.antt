@@ -1,9 +1,0 @@
-use Rattle.std.proofs.Common.{ap, ◌∙◌}
-use Rattle.std.specs.FinSet as set
-use Rattle.arr_run.proofs.Inserted.{from_list-insert}
-use Rattle.arr_run.proofs.constants.Constants.insert.Goals as goal
-
-pub returns : goal.returns
-returns c =
-    from_list-insert _ c.self.inside.values.keys c.args.value c.in_ok-insert.ensures.updates.0
-    ∙ ap (λ s. set.insert s c.args.value) c.self.view_is

@@ -1,6 +1,0 @@
-use Rattle.std.proofs.Common.{◌≡◌, drop}
-use Rattle.arr_run.specs.Scope.{place_of, place_from}
-use Rattle.arr_run.proofs.scope.place_among.Given as goal
-
-abbrev pub invariant-loop-place : goal.invariant-loop-place
-invariant-loop-place g l = place_of l.name l.names ≡ place_from l.place l.name (drop l.place l.names)

@@ -1,0 +1,4 @@
+pub mod api
+mod IndexRows
+mod Inserted
+mod Places

@@ -1,0 +1,9 @@
+pub mod Agrees
+pub mod Counting
+pub mod Element
+pub mod Index
+pub mod IndexSteps
+pub mod Limits
+pub mod Places
+pub mod Scope
+pub mod Shape
