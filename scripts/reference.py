@@ -350,6 +350,21 @@ class Lowering:
         return made
 
 
+def heights_of(nodes, outputs):
+    """Returns the level of each node, for each that is needed the greatest level of a node that uses it, and the height of the outputs,
+    which are used from above."""
+    levels = []
+    for _, left, *right in nodes:
+        levels.append(1 + max(levels[left], levels[right[0]]) if right else 0)
+    height = 1 + max(levels[one] for one in outputs)
+    used = dict.fromkeys(outputs, height)
+    for at in range(len(nodes) - 1, -1, -1):
+        if at in used and levels[at]:
+            for one in nodes[at][1:]:
+                used[one] = max(used.get(one, 0), levels[at])
+    return levels, used, height
+
+
 class Circuit:
     """Layers from the outputs (0) down: `gates[i]` are triples (word, left, right) over positions of layer i + 1; `leaves` are the
     nodes at the input layer's positions from 1 on; `widths` are the sizes of all layers, the input layer's last."""
@@ -357,24 +372,10 @@ class Circuit:
     def __init__(self, lang, text):
         made = Lowering().program(*Parser(lang, text).program())
         nodes, outputs = made.nodes, made.outputs
-        levels = []
-        for word, *parts in nodes:
-            levels.append(1 + max(levels[parts[0]], levels[parts[1]]) if word in ("add", "mul") else 0)
-        needed = set(outputs)
-        for at in range(len(nodes) - 1, -1, -1):
-            if at in needed and levels[at]:
-                needed.update(nodes[at][1:])
-        height = 1 + max(levels[one] for one in outputs)
-        # the greatest level of a node that uses this one; an output is used from above
-        used = {}
-        for at in needed:
-            if levels[at]:
-                for one in nodes[at][1:]:
-                    used[one] = max(used.get(one, 0), levels[at])
-        used.update(dict.fromkeys(outputs, height))
+        levels, used, height = heights_of(nodes, outputs)
         rows = [[None] + [at for at, level in enumerate(levels) if level == 0]]
         for h in range(1, height):
-            rows.append([None] + [at for at in sorted(needed) if levels[at] == h or (levels[at] < h and used[at] > h)])
+            rows.append([None] + [at for at in sorted(used) if levels[at] == h or (levels[at] < h and used[at] > h)])
         rows.append([None] + outputs)
         width = lambda row: max(2, 1 << (len(row) - 1).bit_length())
         self.inputs, self.outputs = made.inputs, len(outputs)
