@@ -1,6 +1,8 @@
 #!/usr/bin/env python3
 """A second prover and verifier, by docs/formats.md and docs/language.md, for whoever writes a compatible one.
 
+    scripts/reference.py eval      reads a case without outputs and proof from standard input, and writes its outputs
+    scripts/reference.py circuit   writes the sizes of its circuit
     scripts/reference.py prove     reads a case without outputs and proof from standard input, and writes it with them
     scripts/reference.py prove --proof 2        the same with a proof of version 2
     scripts/reference.py prove --proof pair     the same with a proof by pairs
@@ -713,6 +715,30 @@ def without_claim(case):
     return case_of(*parts_of(case)[:3])
 
 
+def evaluated(case):
+    """The line of its outputs."""
+    lang, program, inputs = parts_of(case)[:3]
+    circuit = Circuit(lang, program.decode())
+    if len(inputs) != circuit.inputs:
+        raise ValueError("inputs")
+    outputs = [x for x, _ in circuit.tables(inputs)[0][1 : circuit.outputs + 1]]
+    return " ".join(["output", str(len(outputs)), *map(str, outputs)]) + "\n"
+
+
+def sizes(case):
+    """The lines on its circuit, and on a proof of it in version 1."""
+    lang, program, inputs = parts_of(case)[:3]
+    circuit = Circuit(lang, program.decode())
+    if len(inputs) != circuit.inputs:
+        raise ValueError("inputs")
+    first, rest = circuit.exponents[0], circuit.exponents[1:]
+    products = [sum(word == "mul" for word, _, _ in gates) for gates in circuit.gates] + [0]
+    lines = [f"circuit {len(rest)}"]
+    lines += [f"layer {layer} {width} {count}" for layer, (width, count) in enumerate(zip(circuit.widths, products))]
+    lines += [f"proof {4 + sum(56 * k + 8 for k in rest)}", f"challenges {first + sum(2 * k + 1 for k in rest)}", f"bound {first + 5 * sum(rest)}"]
+    return "".join(line + "\n" for line in lines)
+
+
 def vector(case):
     """The lines that examples/vectors/ has beside each case."""
     lang, program, inputs, outputs, proof = parts_of(case)
@@ -732,7 +758,8 @@ def vector(case):
 def main(words):
     kind = words[2] if words[:2] == ["prove", "--proof"] and words[2:] in (["1"], ["2"], ["pair"]) else "1" if words == ["prove"] else None
     version = words[2] if words[:2] == ["convert", "--to"] and words[2:] in (["1"], ["2"]) else None
-    if words not in (["verify"], ["audit"], ["vector"]) and not kind and not version:
+    shown = {"eval": evaluated, "circuit": sizes, "vector": vector}
+    if words not in (["verify"], ["audit"], *([word] for word in shown)) and not kind and not version:
         print(__doc__.strip(), file=sys.stderr)
         return 2
     case = sys.stdin.buffer.read()
@@ -750,7 +777,7 @@ def main(words):
     elif words == ["audit"]:
         sys.stdout.write(audit(*parts_of(case)))
     else:
-        sys.stdout.write(vector(case))
+        sys.stdout.write(shown[words[0]](case))
     return 0
 
 
