@@ -253,6 +253,26 @@ def proof(parts_of_layers, first=4):
     return picture(76, "The parts of the proof", parts)
 
 
+def labels(marks):
+    """Lines to the marked places with what is there, above, below or higher, wherever no other text is."""
+    places, taken, parts = {}, [[], [], []], []
+    for x, line, word, words in marks:
+        places.setdefault(round(x), []).append((line, word, words))
+    for x in sorted(places):
+        line, word = places[x][0][:2]
+        words = ", ".join(one[2] for one in places[x])
+        left = x - 6 * len(words) if x > WIDE / 2 else x
+        right = left + 6 * len(words)
+        free = [at for at, row in enumerate(taken) if all(right < one or two < left for one, two in row)]
+        level = (free + [2])[0]
+        taken[level].append((left, right))
+        top, bottom, text = ((24, 40, 30), (78, 102, 108), (8, 40, 14))[level]
+        parts.append(f'<path class="{line}" d="M{x} {top}V{bottom}"/>')
+        side = " e" if x > WIDE / 2 else ""
+        parts.append(told(x + (-5 if side else 5), text, words, f"s {word}{side}"))
+    return parts
+
+
 def audit(rounds, false_at, lucky, fails_at):
     """The messages and challenges in their order. `rounds` has how many rounds each layer has; `false_at` is the number of the first false
     message, `lucky` of the message before the first exceptional challenge, or -1 - j for a coordinate of the output point; `fails_at` is
@@ -288,20 +308,13 @@ def audit(rounds, false_at, lucky, fails_at):
         marks.append((x, "luckline", "lucktext", "the challenge that let it pass"))
     if fails_at is not None:
         marks.append((x_of(fails_at) + each / 2, "badline", "badtext", "first equation that fails"))
-    places = {}
-    for x, line, word, words in marks:
-        places.setdefault(round(x), []).append((line, word, words))
-    for level, x in enumerate(sorted(places)):
-        line, word = places[x][0][:2]
-        words = ", ".join(one[2] for one in places[x])
-        up = level % 2 == 0
-        parts.append(f'<path class="{line}" d="M{x} {24 if up else 78}V{40 if up else 100}"/>')
-        side = "e" if x > WIDE / 2 else ""
-        parts.append(told(x + (-5 if side else 5), 30 if up else 108, words, f"{word} {side} n".replace(" n", "") + " s"))
+    parts += labels(marks)
     kinds = [("true", "true messages")] if false_at != 0 else []
     kinds += [("bad", "the first false one")] if false_at is not None else []
     kinds += [("after", "messages after it")] if false_at is not None and false_at < total - 1 else []
     kinds += [("luck", "an exceptional challenge")] if lucky is not None else []
-    for place, (kind, words) in enumerate([*kinds, ("leaf", "the equation of the inputs")]):
-        parts += [rect(80 + 165 * place, 122, 12, 11, kind), told(97 + 165 * place, 131, words, "n")]
+    x = 76
+    for kind, words in [*kinds, ("leaf", "equation of the inputs")]:
+        parts += [rect(x, 122, 12, 11, kind), told(x + 16, 131, words, "n")]
+        x += 28 + 5.9 * len(words)
     return picture(140, "Where the audit found what", parts)
