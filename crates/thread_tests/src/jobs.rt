@@ -243,6 +243,115 @@ fn a_withdrawn_job_leaves_no_room(rt: HostRuntime) -> Result<(), AllocError> {
     Ok(())
 }
 
+/// What a call answers is of its own step, and not of what its pass saw last: a job that another
+/// pass submits after a None is taken, and one that another finishes after a Running is done.
+#[test]
+fn a_pass_sees_what_another_did(rt: HostRuntime) -> Result<(), AllocError> {
+    let (table, mut first): (Table, Guest) = JobTable::new(rt.alloc(), 1, 2)?;
+    let mut second = table.split(&mut first, 1);
+    none_taken(&rt, &table, &mut second, 0);
+    let receipt = accepted(&rt, &table, &mut first, 8, 0, 1);
+    let ticket = taken(&rt, &table, &mut second, 0, 2);
+    let late = withdrawn(&rt, &table, &mut first, &receipt, 2);
+    assert!(&rt; matches!(late, Some(JobState::Running)));
+    finished(&rt, &table, &mut second, ticket, 64, 3);
+    let late = withdrawn(&rt, &table, &mut first, &receipt, 3);
+    assert!(&rt; matches!(late, Some(JobState::Done)));
+    none_taken(&rt, &table, &mut second, 3);
+    Ok(())
+}
+
+/// Takes the next job and answers it.
+fn answered<R: Abort + Wait>(rt: &R, table: &Table, pass: &mut Guest, job: u32, answer: u32)
+    requires of { IsPassOf table.now pass.old }
+    ensures of { IsPassOf table.now pass.new }
+    ensures held { pass.new.held ≡ pass.old.held }
+    ensures shares { pass.new.shares ≡ pass.old.shares }
+{
+    let (taken, _) = table.take(rt, pass);
+    let Some(ticket) = taken else {
+        panic!(rt; "a job is queued");
+    };
+    let number = ticket.job();
+    table.finish(rt, pass, ticket, Outcome::Answer(Square(answer)));
+    assert!(rt; number == job);
+}
+
+/// Gives a case to the table, which accepts it, and withdraws it where it is to be withdrawn.
+fn left<R: Abort + Wait>(rt: &R, table: &Table, pass: &mut Guest, case: u32, is_withdrawn: bool)
+    requires of { IsPassOf table.now pass.old }
+    ensures of { IsPassOf table.now pass.new }
+    ensures held { pass.new.held ≡ pass.old.held }
+    ensures shares { pass.new.shares ≡ pass.old.shares }
+{
+    let (submitted, _) = table.submit(rt, pass, case);
+    let Ok(receipt) = submitted else {
+        panic!(rt; "the table has room");
+    };
+    if is_withdrawn {
+        let (late, _) = table.withdraw(rt, pass, &receipt);
+        assert!(rt; late.is_ok());
+    }
+}
+
+/// What became of a job by the first letter of its name, with its answer where there is one.
+fn letter_and_answer(end: &Seen<Square>) -> (u8, u32) {
+    match end {
+        Seen::Queued => (b'q', 0),
+        Seen::Running => (b'r', 0),
+        Seen::Done(Outcome::Answer(square)) => (b'a', square.0),
+        Seen::Done(Outcome::Memory) => (b'm', 0),
+        Seen::Withdrawn => (b'w', 0),
+    }
+}
+
+/// Whether these are the ends of three jobs: answered, withdrawn, still queued.
+fn are_three_ends(jobs: &[(u32, Seen<Square>)]) -> bool {
+    let [(first, one), (second, two), (third, three)] = jobs else {
+        return false;
+    };
+    let answered = *first == 5 && letter_and_answer(one) == (b'a', 25);
+    let withdrawn = *second == 6 && letter_and_answer(two) == (b'w', 0);
+    let queued = *third == 7 && letter_and_answer(three) == (b'q', 0);
+    answered && withdrawn && queued
+}
+
+/// A step by the first letter of its name, with its job.
+fn letter_and_job(entry: Entry) -> (u8, u32) {
+    match entry {
+        Entry::Submit(job) => (b's', job),
+        Entry::Take(job) => (b't', job),
+        Entry::Finish(job) => (b'f', job),
+        Entry::Withdraw(job) => (b'w', job),
+    }
+}
+
+/// A closed table gives each case with what became of it, in the order of submission, and its
+/// history.
+#[test]
+fn a_closed_table_tells_how_each_job_ended(rt: HostRuntime) -> Result<(), AllocError> {
+    let (table, mut pass): (Table, Guest) = JobTable::new(rt.alloc(), 3, 1)?;
+    left(&rt, &table, &mut pass, 5, false);
+    answered(&rt, &table, &mut pass, 0, 25);
+    left(&rt, &table, &mut pass, 6, true);
+    left(&rt, &table, &mut pass, 7, false);
+    let closed = table.close(pass);
+    assert!(&rt; are_three_ends(&closed.jobs));
+    let steps = [
+        (b's', 0),
+        (b't', 0),
+        (b'f', 0),
+        (b's', 1),
+        (b'w', 1),
+        (b's', 2),
+    ];
+    assert!(&rt; closed.history.len() == 6);
+    for (event, step) in closed.history.iter().zip(steps) {
+        assert!(&rt; letter_and_job(event.entry()) == step);
+    }
+    Ok(())
+}
+
 /// The steps of the machine alone, and entries that are none.
 #[test]
 fn steps_as_the_machine(rt: HostRuntime) -> Result<(), AllocError> {
