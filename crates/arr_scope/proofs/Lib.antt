@@ -1,4 +1,5 @@
 pub mod api
+mod AtOnce
 mod IndexRows
 mod Inserted
 mod Places

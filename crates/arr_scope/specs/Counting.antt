@@ -24,8 +24,17 @@ with_constant value counts = record counts { constants = set.insert counts.const
 abbrev pub element_number : ℕ → ℕ
 element_number value = value % modulus
 
+-- a constant that has no node gets one, and so many nodes are counted
+abbrev pub new_constant : ℕ → ℕ → ℕ → Counts → Answer Counts
+new_constant at number more counts =
+    nodes_at at more counts >>= λ counts. Ok (with_constant number counts)
+
 -- a constant has a node from its first use on
 abbrev pub constant_at : ℕ → ℕ → Counts → Answer Counts
 constant_at at value counts =
     if set.contains counts.constants (element_number value) then Ok counts
-    else (nodes_at at 1 counts >>= λ counts. Ok (with_constant (element_number value) counts))
+    else new_constant at (element_number value) 1 counts
+
+-- a constant, and so many nodes after it
+abbrev pub constant_and_nodes : ℕ → ℕ → ℕ → Counts → Answer Counts
+constant_and_nodes at value more counts = constant_at at value counts >>= nodes_at at more

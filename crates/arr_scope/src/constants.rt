@@ -1,6 +1,6 @@
 //! The constants of a run.
 
-ghost use Rattle.std.specs.Prelude.{◌≡◌, OnOk};
+ghost use Rattle.std.specs.Prelude.{◌≡◌, OnOk, OnErr};
 ghost use Rattle.std.specs.Ordering.{nat_cmp};
 ghost use Rattle.std.specs.FinSet as set;
 ghost use Rattle.std.specs.Coded.{coded_ℕ};
@@ -39,7 +39,8 @@ impl Constants {
     }
 
     pub fn insert(&mut self, value: u32) -> Result<(), AllocError>
-        ensures { OnOk result (self.new ≡ set.insert self.old value) }
+        ensures inserted { OnOk result (self.new ≡ set.insert self.old value) }
+        ensures err { OnErr result (self.new ≡ self.old) }
     {
         self.values.insert(value)?;
         Ok(())

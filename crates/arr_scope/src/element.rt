@@ -1,9 +1,10 @@
 //! Elements of values, by their indices.
 
-ghost use Rattle.std.specs.Prelude.{◌≡◌, ◌<◌, ◌^◌, IfOk};
+ghost use Rattle.std.specs.Prelude.{◌≡◌, ◌≢◌, ◌<◌, ◌^◌, IfOk, IfErr};
 ghost use Rattle.arr_ast.specs.IndexTree.{sum_tree};
 ghost use Rattle.arr_ast.specs.ExpressionTree.{indices_tree};
 ghost use Rattle.arr_scope.specs.Agrees.{Agrees};
+ghost use Rattle.arr_scope.specs.declared.refused.CheckRefused.TheVariants.{Memory};
 ghost use Rattle.arr_scope.specs.Element.{offset as offset_of};
 ghost use Rattle.arr_scope.specs.Element.{is_place as is_place_of, index_below as place_below, indices_at};
 
@@ -23,6 +24,7 @@ pub fn place_in<A: Drop>(
         (indices_at scope.now at (indices_tree indices.now).second (indices_tree indices.now).first
         shape) }
     ensures small { IfOk result (λ place. (place.0 < 2 ^ 32) × (place.1 < 2 ^ 32)) }
+    ensures without_memory { IfErr result (λ refused. refused ≢ Memory) }
 {
     match (&indices.second, shape) {
         (None, ShapeOf::Vector(n)) => {
@@ -50,6 +52,7 @@ fn index_within<A: Drop>(
     ensures place { Agrees (λ place. place) result
         (place_below scope.now (sum_tree index.now) dimension) }
     ensures small { IfOk result (λ place. place < 2 ^ 32) }
+    ensures without_memory { IfErr result (λ refused. refused ≢ Memory) }
 {
     let at = index_at(index);
     let value = index_value(scope, at, index)?;

@@ -1,10 +1,11 @@
 //! The values of index expressions.
 
-ghost use Rattle.std.specs.Prelude.{◌≡◌, ◌≤◌, ◌^◌, nat_abs, ◌*ℤ◌, IfOk};
+ghost use Rattle.std.specs.Prelude.{◌≡◌, ◌≢◌, ◌≤◌, ◌^◌, nat_abs, ◌*ℤ◌, IfOk, IfErr};
 ghost use Rattle.arr_ast.specs.IndexTree.{sum_tree, product_tree, factor_tree};
 ghost use Rattle.arr_scope.specs.Agrees.{Agrees};
 ghost use Rattle.arr_scope.specs.Index.{index_value as value_of, index_term_value, index_factor_value, index_at as place_of, index_term_at, index_factor_at, within as part_within, signed, turn_of};
 ghost use Rattle.arr_scope.specs.Scope.{binding_of};
+ghost use Rattle.arr_scope.specs.declared.refused.CheckRefused.TheVariants.{Memory};
 ghost use Rattle.arr_scope.specs.IndexSteps.{added_index_term_value, times_index_factor_value};
 
 use crate::bound::Bound;
@@ -38,6 +39,7 @@ pub fn index_value<A: Drop>(
 ) -> Result<i64, CheckRefused>
     ensures value { Agrees (λ z. z) result (value_of scope.now whole (sum_tree index.now)) }
     ensures small { IfOk result (λ z. nat_abs z ≤ 2 ^ 31) }
+    ensures without_memory { IfErr result (λ refused. refused ≢ Memory) }
 {
     let mut value = term_value(scope, whole, &index.first)?;
     'each: for added in &index.added {
@@ -57,6 +59,7 @@ fn added_value<A: Drop>(
     requires { nat_abs left ≤ 2 ^ 31 }
     ensures value { Agrees (λ z. z) result (added_index_term_value scope.now whole added.now left) }
     ensures small { IfOk result (λ z. nat_abs z ≤ 2 ^ 31) }
+    ensures without_memory { IfErr result (λ refused. refused ≢ Memory) }
 {
     let right = term_value(scope, whole, &added.term)?;
     sum_within(whole, added.sign, left, right)
@@ -69,6 +72,7 @@ fn sum_within(whole: usize, sign: Sign, left: i64, right: i64) -> Result<i64, Ch
     requires right { nat_abs right ≤ 2 ^ 31 }
     ensures value { Agrees (λ z. z) result (part_within whole (signed sign left right)) }
     ensures small { IfOk result (λ z. nat_abs z ≤ 2 ^ 31) }
+    ensures without_memory { IfErr result (λ refused. refused ≢ Memory) }
 {
     match sign {
         Sign::Plus => within(whole, left + right),
@@ -86,6 +90,7 @@ fn term_value<A: Drop>(
     ensures value { Agrees (λ z. z) result
         (index_term_value scope.now whole (product_tree term.now)) }
     ensures small { IfOk result (λ z. nat_abs z ≤ 2 ^ 31) }
+    ensures without_memory { IfErr result (λ refused. refused ≢ Memory) }
 {
     let mut value = factor_value(scope, whole, &term.first)?;
     'each: for times in &term.times {
@@ -106,6 +111,7 @@ fn times_value<A: Drop>(
     ensures value { Agrees (λ z. z) result
         (times_index_factor_value scope.now whole times.now left) }
     ensures small { IfOk result (λ z. nat_abs z ≤ 2 ^ 31) }
+    ensures without_memory { IfErr result (λ refused. refused ≢ Memory) }
 {
     let right = factor_value(scope, whole, &times.factor)?;
     product_within(whole, left, right)
@@ -118,6 +124,7 @@ fn product_within(whole: usize, left: i64, right: i64) -> Result<i64, CheckRefus
     requires right { nat_abs right ≤ 2 ^ 31 }
     ensures value { Agrees (λ z. z) result (part_within whole (left *ℤ right)) }
     ensures small { IfOk result (λ z. nat_abs z ≤ 2 ^ 31) }
+    ensures without_memory { IfErr result (λ refused. refused ≢ Memory) }
 {
     within(whole, left * right)
 }
@@ -132,6 +139,7 @@ fn factor_value<A: Drop>(
     ensures value { Agrees (λ z. z) result
         (index_factor_value scope.now whole (factor_tree factor.now)) }
     ensures small { IfOk result (λ z. nat_abs z ≤ 2 ^ 31) }
+    ensures without_memory { IfErr result (λ refused. refused ≢ Memory) }
 {
     match factor {
         IndexFactor::Number { value, .. } => within(whole, i64::from(*value)),
@@ -144,6 +152,7 @@ fn factor_value<A: Drop>(
 fn within(whole: usize, value: i64) -> Result<i64, CheckRefused>
     ensures value { Agrees (λ z. z) result (part_within whole value) }
     ensures small { IfOk result (λ z. nat_abs z ≤ 2 ^ 31) }
+    ensures without_memory { IfErr result (λ refused. refused ≢ Memory) }
 {
     if value.unsigned_abs() > MAX_PART {
         return Err(CheckRefused::Bad {
@@ -159,6 +168,7 @@ fn turn<A: Drop>(scope: &Scope<A>, whole: usize, name: &Name) -> Result<i64, Che
     ensures value { Agrees (λ z. z) result
         (turn_of whole name.now.at (binding_of name.now.number scope.now)) }
     ensures small { IfOk result (λ z. nat_abs z ≤ 2 ^ 31) }
+    ensures without_memory { IfErr result (λ refused. refused ≢ Memory) }
 {
     match scope.get(name.number) {
         Some(Bound::Turn(number)) => within(whole, i64::from(*number)),

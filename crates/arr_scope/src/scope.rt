@@ -1,6 +1,6 @@
 //! The names in scope.
 
-ghost use Rattle.std.specs.Prelude.{◌≡◌, ℕ, ◌<◌, ◌-◌, List, [], ◌∷◌, ◌++◌, length, take, get_or, set, Option, None, IsSome, IfSome, IfNone, OnOk, option_copied, is_some};
+ghost use Rattle.std.specs.Prelude.{◌≡◌, ℕ, ◌<◌, ◌-◌, List, [], ◌∷◌, ◌++◌, length, take, get_or, set, Option, None, IsSome, IfSome, IfNone, OnOk, OnErr, option_copied, is_some};
 ghost use Rattle.arr_scope.specs.declared.bound.Bound.TheVariants.{Turn};
 ghost use Rattle.arr_scope.specs.Scope.{binding_of, place_of, with_binding, array_of};
 
@@ -119,7 +119,8 @@ impl<A: Drop> Scope<A> {
 
     /// Adds a name after the others. Where the name was in scope already, the older one is still found first.
     pub fn declare(&mut self, name: usize, binding: Bound<A>) -> Result<(), AllocError>
-        ensures { OnOk result (self.new ≡ self.old ++ (name, binding) ∷ []) }
+        ensures declared { OnOk result (self.new ≡ self.old ++ (name, binding) ∷ []) }
+        ensures err { OnErr result (self.new ≡ self.old) }
     {
         if self.is_short {
             self.declare_short(name, binding)
@@ -132,7 +133,8 @@ impl<A: Drop> Scope<A> {
 
     /// Adds a name to a short list.
     fn declare_short(&mut self, name: usize, binding: Bound<A>) -> Result<(), AllocError>
-        ensures { OnOk result (self.new ≡ self.old ++ (name, binding) ∷ []) }
+        ensures declared { OnOk result (self.new ≡ self.old ++ (name, binding) ∷ []) }
+        ensures err { OnErr result (self.new ≡ self.old) }
     {
         self.is_short = true;
         self.names.push((name, binding))?;
@@ -142,7 +144,8 @@ impl<A: Drop> Scope<A> {
     /// Adds a name that is in scope.
     fn declare_again(&mut self, name: usize, binding: Bound<A>) -> Result<(), AllocError>
         requires { IsSome (place_of name self.old) }
-        ensures { OnOk result (self.new ≡ self.old ++ (name, binding) ∷ []) }
+        ensures declared { OnOk result (self.new ≡ self.old ++ (name, binding) ∷ []) }
+        ensures err { OnErr result (self.new ≡ self.old) }
     {
         self.names.push((name, binding))?;
         Ok(())
@@ -151,7 +154,8 @@ impl<A: Drop> Scope<A> {
     /// Adds a name that isn't in scope.
     fn declare_new(&mut self, name: usize, binding: Bound<A>) -> Result<(), AllocError>
         requires { place_of name self.old ≡ None }
-        ensures { OnOk result (self.new ≡ self.old ++ (name, binding) ∷ []) }
+        ensures declared { OnOk result (self.new ≡ self.old ++ (name, binding) ∷ []) }
+        ensures err { OnErr result (self.new ≡ self.old) }
     {
         let place = self.names.len();
         extend_places(&mut self.places, name)?;

@@ -1,12 +1,13 @@
 //! The shapes of operators and functions.
 
-ghost use Rattle.std.specs.Prelude.{◌≡◌, ◌*◌, ◌+◌, ◌-◌};
+ghost use Rattle.std.specs.Prelude.{◌≡◌, ◌≢◌, ◌*◌, ◌+◌, ◌-◌, IfErr, OnErr};
 ghost use Rattle.arr_scope.specs.Agrees.{Agrees};
+ghost use Rattle.arr_ast.specs.declared.expression.Sign.TheVariants.{Plus};
 ghost use Rattle.arr_scope.specs.declared.refused.CheckKind.TheVariants.{Shape};
-ghost use Rattle.arr_scope.specs.declared.refused.CheckRefused.TheVariants.{Bad};
+ghost use Rattle.arr_scope.specs.declared.refused.CheckRefused.TheVariants.{Bad, Memory};
 ghost use Rattle.arr_scope.specs.Shape.{size_of, same_shape, for_nodes, for_minus_one, sum_shape, product_shape, single_shape as shape_of_single, pair_shape as shape_of_pair};
 
-use crate::counts::{Counts, add_nodes, add_nodes_each, use_constant};
+use crate::counts::{Counts, add_nodes, add_nodes_each, use_constant_each};
 use crate::refused::{CheckKind, CheckRefused};
 use arr_ast::{PairFunction, ShapeOf, Sign, SingleFunction};
 
@@ -51,11 +52,11 @@ pub fn opposite_shape(
     at: usize,
     shape: ShapeOf,
 ) -> Result<ShapeOf, CheckRefused>
-    ensures { Agrees (λ shape. (shape, counts.new)) result
+    ensures shape { Agrees (λ shape. (shape, counts.new)) result
         (for_minus_one at (size_of shape) shape counts.old) }
+    ensures err { OnErr result (counts.new ≡ counts.old) }
 {
-    use_constant(counts, at, MINUS_ONE)?;
-    add_nodes(counts, at, size(shape))?;
+    use_constant_each(counts, at, MINUS_ONE, size(shape), 1)?;
     Ok(shape)
 }
 
@@ -67,8 +68,10 @@ pub fn signed_shape(
     left: ShapeOf,
     right: ShapeOf,
 ) -> Result<ShapeOf, CheckRefused>
-    ensures { Agrees (λ shape. (shape, counts.new)) result
+    ensures shape { Agrees (λ shape. (shape, counts.new)) result
         (sum_shape sign at left right counts.old) }
+    ensures err { OnErr result (counts.new ≡ counts.old) }
+    ensures without_memory { sign ≡ Plus → IfErr result (λ refused. refused ≢ Memory) }
 {
     if !is_alike(left, right) {
         return Err(misshapen(at));
@@ -79,8 +82,7 @@ pub fn signed_shape(
             Ok(left)
         }
         Sign::Minus => {
-            use_constant(counts, at, MINUS_ONE)?;
-            add_nodes_each(counts, at, size(left), 2)?;
+            use_constant_each(counts, at, MINUS_ONE, size(left), 2)?;
             Ok(left)
         }
     }
@@ -93,8 +95,10 @@ pub fn times_shape(
     left: ShapeOf,
     right: ShapeOf,
 ) -> Result<ShapeOf, CheckRefused>
-    ensures { Agrees (λ shape. (shape, counts.new)) result
+    ensures shape { Agrees (λ shape. (shape, counts.new)) result
         (product_shape at left right counts.old) }
+    ensures err { OnErr result (counts.new ≡ counts.old) }
+    ensures without_memory { IfErr result (λ refused. refused ≢ Memory) }
 {
     if !is_alike(left, right) {
         return Err(misshapen(at));
@@ -110,8 +114,10 @@ pub fn single_shape(
     at: usize,
     shape: ShapeOf,
 ) -> Result<ShapeOf, CheckRefused>
-    ensures { Agrees (λ shape. (shape, counts.new)) result
+    ensures shape { Agrees (λ shape. (shape, counts.new)) result
         (shape_of_single function at shape counts.old) }
+    ensures err { OnErr result (counts.new ≡ counts.old) }
+    ensures without_memory { IfErr result (λ refused. refused ≢ Memory) }
 {
     match (function, shape) {
         (SingleFunction::Sum, _) => {
@@ -131,8 +137,10 @@ pub fn pair_shape(
     left: ShapeOf,
     right: ShapeOf,
 ) -> Result<ShapeOf, CheckRefused>
-    ensures { Agrees (λ shape. (shape, counts.new)) result
+    ensures shape { Agrees (λ shape. (shape, counts.new)) result
         (shape_of_pair function at left right counts.old) }
+    ensures err { OnErr result (counts.new ≡ counts.old) }
+    ensures without_memory { IfErr result (λ refused. refused ≢ Memory) }
 {
     match (function, left, right) {
         (PairFunction::Scale, ShapeOf::Scalar, _) => {

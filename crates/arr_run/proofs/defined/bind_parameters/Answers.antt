@@ -15,7 +15,7 @@ each-preserved g c =
       | in-Some+in_ok-declare w ↦
           c.each.invariant
           ∙ bound_more parameters place _ c.each.names c.pop.new.self.items c.each.left.items (w.in-Some.shape, w.in-Some.array) c.each-test.true w.in-Some.ensures.items
-          ∙ ap (λ (names : Names g.row.A.Denot). names ++ parameters_bound (numbers (drop (place + 1) parameters)) (reverse c.pop.new.self.items)) (sym (w.names-is ∙ w.in_ok-declare.ensures))
+          ∙ ap (λ (names : Names g.row.A.Denot). names ++ parameters_bound (numbers (drop (place + 1) parameters)) (reverse c.pop.new.self.items)) (sym (w.names-is ∙ w.in_ok-declare.ensures.declared))
       | in_default w ↦
           c.each.invariant
           ∙ bound_over (numbers (drop place parameters)) (numbers (drop (place + 1) parameters)) c.each.names c.match-pop.names c.each.left.items c.pop.new.self.items
