@@ -6,11 +6,11 @@ use Rattle.shared_list.specs.Turned.{turned}
 
 abbrev pub items_of : {A : Type 0} → Held A → List A
 items_of (One item) = item ∷ []
-items_of (Rows items) = items.value.items
-items_of (Turned nothing items rows columns) = turned nothing rows columns items.value.items
+items_of (Rows items) = items
+items_of (Turned turn) = turned turn.value.nothing turn.value.rows turn.value.columns turn.value.items
 
 -- a transpose is that of a whole matrix
 abbrev pub IsWhole : {A : Type 0} → Held A → Type 0
 IsWhole (One item) = Unit {0}
 IsWhole (Rows items) = Unit {0}
-IsWhole (Turned nothing items rows columns) = length items.value.items ≡ rows * columns
+IsWhole (Turned turn) = length turn.value.items ≡ turn.value.rows * turn.value.columns

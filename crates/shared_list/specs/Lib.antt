@@ -1,2 +1,4 @@
+pub mod Changes
 pub mod Held
+pub mod Items
 pub mod Turned

@@ -1,10 +1,11 @@
 //! Lists that many may hold.
 
-ghost use Rattle.std.specs.Prelude.{◌≡◌, ◌<◌, ◌^◌, [], ◌∷◌, length, get_or, set, IsTrue, IfOk, IfSome, IfNone, OnOk, ◌≢◌};
+ghost use Rattle.std.specs.Prelude.{◌≡◌, ◌<◌, ◌^◌, [], ◌∷◌, length, get_or, set, IfOk, IfSome, IfNone, OnOk, OnErr, ◌≢◌};
 ghost use Rattle.shared_list.specs.Turned.{turned};
 
-use crate::held::Held;
-use crate::turning::{item_or, turned_item, turned_items};
+use crate::held::{Held, Transpose};
+use crate::items::Items;
+use crate::turning::{set_turned, turned_item_or, turned_items};
 use std::alloc::{AllocError, Global};
 use std::marker::Model;
 use std::rc::Rc;
@@ -44,7 +45,7 @@ impl<T: Copy> SharedList<T> {
     pub fn new(alloc: Global, items: Vec<T>) -> Result<SharedList<T>, AllocError>
         ensures { IfOk result (λ list. list ≡ items.items) }
     {
-        let items = Rc::new(alloc, items)?;
+        let items = Items::new(alloc, items)?;
         Ok(SharedList {
             held: Held::Rows(items),
         })
@@ -57,25 +58,25 @@ impl<T: Copy> SharedList<T> {
         match &self.held {
             Held::One(item) => Ok(SharedList::one(*item)),
             Held::Rows(items) => {
-                let items = items.clone()?;
+                let items = items.share()?;
                 Ok(SharedList {
                     held: Held::Rows(items),
                 })
             }
-            Held::Turned {
-                nothing,
-                items,
-                rows,
-                columns,
-            } => {
-                let items = items.clone()?;
-                Ok(SharedList {
-                    held: Held::Turned {
-                        nothing: *nothing,
+            Held::Turned(turn) => {
+                let items = turn.items.share()?;
+                let turn = Box::new(
+                    turn.alloc,
+                    Transpose {
+                        alloc: turn.alloc,
+                        nothing: turn.nothing,
                         items,
-                        rows: *rows,
-                        columns: *columns,
+                        rows: turn.rows,
+                        columns: turn.columns,
                     },
+                )?;
+                Ok(SharedList {
+                    held: Held::Turned(turn),
                 })
             }
         }
@@ -87,8 +88,8 @@ impl<T: Copy> SharedList<T> {
     {
         match &self.held {
             Held::One(_) => 1,
-            Held::Rows(items) => items.as_slice().len(),
-            Held::Turned { items, .. } => items.as_slice().len(),
+            Held::Rows(items) => items.len(),
+            Held::Turned(turn) => turn.items.len(),
         }
     }
 
@@ -102,8 +103,8 @@ impl<T: Copy> SharedList<T> {
         }
         match &self.held {
             Held::One(item) => Some(*item),
-            Held::Rows(items) => Some(items.as_slice()[0]),
-            Held::Turned { nothing, .. } => Some(self.item_or(0, *nothing)),
+            Held::Rows(items) => items.only(),
+            Held::Turned(turn) => Some(self.item_or(0, turn.nothing)),
         }
     }
 
@@ -113,66 +114,45 @@ impl<T: Copy> SharedList<T> {
     {
         match &self.held {
             Held::One(item) => { if place == 0 { *item } else { nothing } }
-            Held::Rows(items) => item_or(items, place, nothing),
-            Held::Turned {
-                nothing: within,
-                items,
-                rows,
-                columns,
-            } => {
-                if place < items.as_slice().len() {
-                    let (rows, columns) = (*rows as usize, *columns as usize);
-                    turned_item(items.as_slice(), rows, columns, place, *within)
-                } else {
-                    nothing
-                }
-            }
-        }
-    }
-
-    /// A copy of the items, in order.
-    fn copied(&self, alloc: Global) -> Result<Vec<T>, AllocError>
-        ensures { IfOk result (λ items. items.items ≡ self.now) }
-    {
-        match &self.held {
-            Held::One(item) => alone(alloc, *item),
-            Held::Rows(items) => Vec::from_slice(alloc, items),
-            Held::Turned {
+            Held::Rows(items) => items.item_or(place, nothing),
+            Held::Turned(turn) => turned_item_or(
+                &turn.items,
+                turn.rows as usize,
+                turn.columns as usize,
+                turn.nothing,
+                place,
                 nothing,
-                items,
-                rows,
-                columns,
-            } => turned_items(alloc, *rows as usize, *columns as usize, *nothing, items),
+            ),
         }
     }
 
-    /// The items in order, copied only where they are in another order.
+    /// The items in order, copied only where they are in another order or have changes.
     pub fn in_order(&self, alloc: Global) -> Result<Rc<Vec<T>>, AllocError>
         ensures { IfOk result (λ items. items.value.items ≡ self.now) }
     {
         match &self.held {
-            Held::Rows(items) => items.clone(),
-            _ => {
-                let items = self.copied(alloc)?;
+            Held::One(item) => {
+                let items = alone(alloc, *item)?;
+                Ok(Rc::new(alloc, items)?)
+            }
+            Held::Rows(items) => items.in_order(alloc),
+            Held::Turned(turn) => {
+                let items = turned_in_order(alloc, turn)?;
                 Ok(Rc::new(alloc, items)?)
             }
         }
     }
 
-    /// The items as a vector, copied only where others hold them too or they are in another order.
+    /// The items as a vector, copied only where others hold them too, they are in another order or
+    /// they have changes.
     pub fn into_vec(self, alloc: Global) -> Result<Vec<T>, AllocError>
         ensures { IfOk result (λ items. items.items ≡ self) }
     {
         let SharedList { held } = self;
         match held {
             Held::One(item) => alone(alloc, item),
-            Held::Rows(items) => taken(alloc, items),
-            Held::Turned {
-                nothing,
-                items,
-                rows,
-                columns,
-            } => turned_items(alloc, rows as usize, columns as usize, nothing, &items),
+            Held::Rows(items) => items.into_vec(alloc),
+            Held::Turned(turn) => turned_in_order(alloc, &turn),
         }
     }
 
@@ -189,24 +169,24 @@ impl<T: Copy> SharedList<T> {
         ensures { IfOk result (λ list. list ≡ turned nothing n m self.now) }
     {
         match &self.held {
-            Held::Rows(items) if items.as_slice().len() == n * m => {
-                let items = items.clone()?;
-                Ok(SharedList {
-                    held: Held::Turned {
+            Held::Rows(items) if items.len() == n * m => {
+                let items = items.share()?;
+                let turn = Box::new(
+                    alloc,
+                    Transpose {
+                        alloc,
                         nothing,
                         items,
                         rows: n as u32,
                         columns: m as u32,
                     },
+                )?;
+                Ok(SharedList {
+                    held: Held::Turned(turn),
                 })
             }
-            Held::Turned {
-                items,
-                rows,
-                columns,
-                ..
-            } if *rows as usize == m && *columns as usize == n => {
-                let items = items.clone()?;
+            Held::Turned(turn) if turn.rows as usize == m && turn.columns as usize == n => {
+                let items = turn.items.share()?;
                 Ok(SharedList {
                     held: Held::Rows(items),
                 })
@@ -227,32 +207,32 @@ impl<T: Copy> SharedList<T> {
         requires m { m < 2 ^ 32 }
         ensures { IfOk result (λ list. list ≡ turned nothing n m self.now) }
     {
-        let items = self.copied(alloc)?;
+        let items = self.in_order(alloc)?;
         let turned = turned_items(alloc, n, m, nothing, &items)?;
         SharedList::new(alloc, turned)
     }
 
-    /// Sets an item, where there is one at this place. The list is copied where others hold it too.
+    /// Sets an item, where there is one at this place. What others hold stays as it is, and costs a
+    /// copy only where it is short or as many items were set as pay for that.
+    #[tactic(auto, using(crate::proofs::api::Transposes::of_sets))]
     pub fn set(&mut self, alloc: Global, place: usize, item: T) -> Result<(), AllocError>
-        ensures { OnOk result (self.new ≡ set self.old place item) }
+        ensures set { OnOk result (self.new ≡ set self.old place item) }
+        ensures refused { OnErr result (self.new ≡ self.old) }
     {
-        if let Held::Rows(items) = &mut self.held {
-            if set_alone(items, place, item) {
-                return Ok(());
+        match &mut self.held {
+            Held::One(only) => {
+                if place == 0 {
+                    *only = item;
+                }
+                Ok(())
+            }
+            Held::Rows(items) => items.set(alloc, place, item),
+            Held::Turned(turn) => {
+                let rows = turn.rows as usize;
+                let columns = turn.columns as usize;
+                set_turned(alloc, &mut turn.items, rows, columns, place, item)
             }
         }
-        let items = self.copied_with(alloc, place, item)?;
-        *self = SharedList::new(alloc, items)?;
-        Ok(())
-    }
-
-    /// A copy with an item set, where there is one at this place.
-    fn copied_with(&self, alloc: Global, place: usize, item: T) -> Result<Vec<T>, AllocError>
-        ensures { IfOk result (λ items. items.items ≡ set self.now place item) }
-    {
-        let mut items = self.copied(alloc)?;
-        set_in(&mut items, place, item);
-        Ok(items)
     }
 }
 
@@ -265,35 +245,17 @@ fn alone<T: Copy>(alloc: Global, item: T) -> Result<Vec<T>, AllocError>
     Ok(items)
 }
 
-/// The items as a vector, copied where others hold them too.
-fn taken<T: Copy>(alloc: Global, items: Rc<Vec<T>>) -> Result<Vec<T>, AllocError>
-    ensures { IfOk result (λ found. found.items ≡ items.value.items) }
+/// The items of a transpose.
+fn turned_in_order<T: Copy>(alloc: Global, turn: &Transpose<T>) -> Result<Vec<T>, AllocError>
+    ensures { IfOk result (λ items. items.items
+        ≡ turned turn.now.nothing turn.now.rows turn.now.columns turn.now.items) }
 {
-    match Rc::try_unwrap(items) {
-        Ok(items) => Ok(items),
-        Err(items) => Vec::from_slice(alloc, &items),
-    }
-}
-
-/// Sets an item where nobody else holds the list, and answers whether so.
-fn set_alone<T: Copy>(items: &mut Rc<Vec<T>>, place: usize, item: T) -> bool
-    ensures alone { IsTrue result → items.new.value.items ≡ set items.old.value.items place item }
-    ensures others { ¬ IsTrue result → items.new ≡ items.old }
-{
-    match Rc::get_mut(items) {
-        Some(items) => {
-            set_in(items, place, item);
-            true
-        }
-        None => false,
-    }
-}
-
-/// Sets an item, where there is one at this place.
-fn set_in<T: Copy>(items: &mut Vec<T>, place: usize, item: T)
-    ensures { items.new.items ≡ set items.old.items place item }
-{
-    if place < items.len() {
-        items[place] = item;
-    }
+    let items = turn.items.in_order(alloc)?;
+    turned_items(
+        alloc,
+        turn.rows as usize,
+        turn.columns as usize,
+        turn.nothing,
+        &items,
+    )
 }

@@ -1,9 +1,10 @@
 //! Transposes of matrices that are held row by row.
 
-ghost use Rattle.std.specs.Prelude.{◌≡◌, ◌<◌, ◌^◌, ◌*◌, ◌+◌, ◌/◌, ◌%◌, length, map, get_or, IfOk, OnOk};
+ghost use Rattle.std.specs.Prelude.{◌≡◌, ◌<◌, ◌^◌, ◌*◌, ◌+◌, ◌/◌, ◌%◌, length, map, get_or, set, IfOk, OnOk, OnErr};
 ghost use Rattle.std.specs.List.{range_with_len};
 ghost use Rattle.shared_list.specs.Turned.{turned};
 
+use crate::items::{Items, item_or};
 use std::alloc::{AllocError, Global};
 
 /// n rows of m items, as m rows of n.
@@ -48,21 +49,56 @@ fn add_column<T: Copy>(
     Ok(())
 }
 
-/// The item at a place, or `nothing` past the end.
-pub fn item_or<T: Copy>(items: &[T], place: usize, nothing: T) -> T
-    ensures { result ≡ get_or items.now place nothing }
+/// Where the item at a place of the transpose of so many rows stands before the turn.
+pub fn place_before(length: usize, rows: usize, columns: usize, place: usize) -> usize
+    requires whole { length ≡ rows * columns }
+    requires inside { place < length }
+    ensures { result ≡ place % rows * columns + place / rows }
 {
-    match items.get(place) {
-        Some(found) => *found,
-        None => nothing,
+    place % rows * columns + place / rows
+}
+
+/// The item at a place of the transpose of so many rows, or `nothing` past its end.
+#[tactic(auto, using(crate::proofs::api::Transposes::of_reads))]
+pub fn turned_item_or<T: Copy>(
+    items: &Items<T>,
+    rows: usize,
+    columns: usize,
+    within: T,
+    place: usize,
+    nothing: T,
+) -> T
+    requires { length items.now ≡ rows * columns }
+    ensures { result ≡ get_or (turned within rows columns items.now) place nothing }
+{
+    let length = items.len();
+    if place < length {
+        items.item_or(place_before(length, rows, columns, place), within)
+    } else {
+        nothing
     }
 }
 
-/// The item at a place of the transpose of so many rows.
-pub fn turned_item<T: Copy>(items: &[T], rows: usize, columns: usize, place: usize, nothing: T) -> T
-    requires whole { length items.now ≡ rows * columns }
-    requires inside { place < length items.now }
-    ensures { result ≡ get_or items.now (place % rows * columns + place / rows) nothing }
+/// Sets an item of the transpose of so many rows, where there is one at this place.
+#[tactic(auto, using(crate::proofs::api::Transposes::of_sets))]
+pub fn set_turned<T: Copy>(
+    alloc: Global,
+    items: &mut Items<T>,
+    rows: usize,
+    columns: usize,
+    place: usize,
+    item: T,
+) -> Result<(), AllocError>
+    requires { length items.old ≡ rows * columns }
+    ensures set { (nothing : T) → OnOk result (turned nothing rows columns items.new
+        ≡ set (turned nothing rows columns items.old) place item) }
+    ensures refused { OnErr result (items.new ≡ items.old) }
+    ensures whole { length items.new ≡ rows * columns }
 {
-    item_or(items, place % rows * columns + place / rows, nothing)
+    let length = items.len();
+    if place >= length {
+        return Ok(());
+    }
+    items.set(alloc, place_before(length, rows, columns, place), item)?;
+    Ok(())
 }
