@@ -1,6 +1,7 @@
-/* Calls the library at the edges of what it takes, and sees each answer: edges PLAIN PROVED, two files with a case, the second with the
- * proof that `prove` writes. Room ends where memory that may be touched does, so that a byte written past it ends the process. It prints
- * how many answers were seen, and ends with 1 at the first that isn't as it should be. */
+/* Calls the library at the edges of what it takes, and sees each answer: edges PLAIN PROVED, two
+ * files with a case, the second with the proof that `prove` writes. Room ends where memory that may
+ * be touched does, so that a byte written past it ends the process. It prints how many answers were
+ * seen, and ends with 1 at the first that isn't as it should be. */
 #define _GNU_SOURCE
 #include "gkr.h"
 #include <stdio.h>
@@ -47,15 +48,18 @@ static size_t load(const char *path, uint8_t *to) {
     return size;
 }
 
-static uint8_t prove(const uint8_t *input, size_t size, uint8_t *reply, size_t room, size_t *needed) {
+static uint8_t prove(const uint8_t *input, size_t size, uint8_t *reply, size_t room,
+                     size_t *needed) {
     return gkr_c_prove(GKR_LINES_1, input, size, reply, room, needed);
 }
 
-static uint8_t shorten(const uint8_t *input, size_t size, uint8_t *reply, size_t room, size_t *needed) {
+static uint8_t shorten(const uint8_t *input, size_t size, uint8_t *reply, size_t room,
+                       size_t *needed) {
     return gkr_c_convert(2, input, size, reply, room, needed);
 }
 
-static uint8_t run_verify(const uint8_t *input, size_t size, uint8_t *reply, size_t room, size_t *needed) {
+static uint8_t run_verify(const uint8_t *input, size_t size, uint8_t *reply, size_t room,
+                          size_t *needed) {
     return gkr_c_run((const uint8_t *)"verify", 6, input, size, reply, room, needed);
 }
 
@@ -77,28 +81,37 @@ static void rooms(call *of, const uint8_t *input, size_t size, const char *what)
 }
 
 /* A call that ends so, with this reply, in ample room. */
-static void ends(uint8_t status, uint8_t due, size_t needed, const uint8_t *room, const char *reply, const char *what) {
+static void ends(uint8_t status, uint8_t due, const size_t *needed, const uint8_t *room,
+                 const char *reply, const char *what) {
     size_t size = strlen(reply);
-    sees(status == due && needed == size && !memcmp(room, reply, size) && is_untouched(room, size, 4096), what);
+    sees(status == due && *needed == size && !memcmp(room, reply, size) &&
+             is_untouched(room, size, 4096),
+         what);
 }
 
 static void inputs(call *of, const char *what) {
     size_t needed = 77;
     uint8_t *room = room_of(4096), *nothing = room_of(0);
-    ends(of(nothing, 0, room, 4096, &needed), GKR_BAD_CASE, needed, room, "refused case end 0\n", what);
+    ends(of(nothing, 0, room, 4096, &needed), GKR_BAD_CASE, &needed, room, "refused case end 0\n",
+         what);
     room = room_of(4096);
-    ends(of(long_case, sizeof long_case, room, 4096, &needed), GKR_TOO_LONG, needed, room, "refused long 8388608\n", what);
+    ends(of(long_case, sizeof long_case, room, 4096, &needed), GKR_TOO_LONG, &needed, room,
+         "refused long 8388608\n", what);
     room = room_of(4096);
-    ends(of(long_case, sizeof long_case - 1, room, 4096, &needed), GKR_BAD_CASE, needed, room, "refused case header 0\n", what);
+    ends(of(long_case, sizeof long_case - 1, room, 4096, &needed), GKR_BAD_CASE, &needed, room,
+         "refused case header 0\n", what);
     room = room_of(4096);
-    ends(of(proved, 10, room, 4096, &needed), GKR_BAD_CASE, needed, room, "refused case end 10\n", what);
+    ends(of(proved, 10, room, 4096, &needed), GKR_BAD_CASE, &needed, room, "refused case end 10\n",
+         what);
 }
 
-static void words(const char *text, size_t size, const uint8_t *input, size_t length, uint8_t due, const char *reply) {
+static void words(const char *text, size_t size, const uint8_t *input, size_t length, uint8_t due,
+                  const char *reply) {
     size_t needed = 77;
     uint8_t *room = room_of(4096), *apart = room_of(size);
     memcpy(apart, text, size);
-    ends(gkr_c_run(apart, size, input, length, room, 4096, &needed), due, needed, room, reply, text);
+    ends(gkr_c_run(apart, size, input, length, room, 4096, &needed), due, &needed, room, reply,
+         text);
 }
 
 static void choices(void) {
@@ -106,12 +119,15 @@ static void choices(void) {
     for (int at = 0; at < 7; at++) {
         size_t needed = 77;
         uint8_t *room = room_of(4096);
-        ends(gkr_c_prove(numbers[at], plain, plain_size, room, 4096, &needed), GKR_USAGE, needed, room, "", "an unknown kind");
-        ends(gkr_c_convert(numbers[at], proved, proved_size, room, 4096, &needed), GKR_USAGE, needed, room, "", "an unknown version");
+        ends(gkr_c_prove(numbers[at], plain, plain_size, room, 4096, &needed), GKR_USAGE, &needed,
+             room, "", "an unknown kind");
+        ends(gkr_c_convert(numbers[at], proved, proved_size, room, 4096, &needed), GKR_USAGE,
+             &needed, room, "", "an unknown version");
     }
     size_t needed = 77;
     uint8_t *room = room_of(4096);
-    ends(gkr_c_convert(3, proved, proved_size, room, 4096, &needed), GKR_USAGE, needed, room, "", "version 3");
+    ends(gkr_c_convert(3, proved, proved_size, room, 4096, &needed), GKR_USAGE, &needed, room, "",
+         "version 3");
 }
 
 int main(int argc, char **argv) {
@@ -119,9 +135,14 @@ int main(int argc, char **argv) {
     plain_size = load(argv[1], plain);
     proved_size = load(argv[2], proved);
     memset(long_case, '7', sizeof long_case);
-    struct { call *of; const char *name; int takes_proved; } calls[] = {
-        {gkr_c_eval, "eval", 0}, {gkr_c_circuit, "circuit", 0}, {prove, "prove", 0}, {gkr_c_verify, "verify", 1},
-        {gkr_c_audit, "audit", 1}, {shorten, "convert", 1}, {run_verify, "run", 1},
+    struct {
+        call *of;
+        const char *name;
+        int takes_proved;
+    } calls[] = {
+        {gkr_c_eval, "eval", 0},     {gkr_c_circuit, "circuit", 0}, {prove, "prove", 0},
+        {gkr_c_verify, "verify", 1}, {gkr_c_audit, "audit", 1},     {shorten, "convert", 1},
+        {run_verify, "run", 1},
     };
     for (int at = 0; at < 7; at++) {
         int it = calls[at].takes_proved;

@@ -1,5 +1,5 @@
-/* Proves a case and verifies the proof: example FILE.. prints for each file with a case without outputs how long the proved case is, and
- * the verdict on it. */
+/* Proves a case and verifies the proof: example FILE.. prints for each file with a case without
+ * outputs how long the proved case is, and the verdict on it. */
 #include "gkr.h"
 #include <stdio.h>
 #include <stdlib.h>
@@ -12,7 +12,8 @@ static int show(const char *path) {
     size_t size = fread(input, 1, sizeof input, file), needed, length;
     fclose(file);
     uint8_t status = gkr_c_prove(GKR_LINES_2, input, size, proved, sizeof proved, &length);
-    if (status != GKR_DONE) return printf("%s: %d, %.*s", path, status, (int)length, (char *)proved), 1;
+    if (status != GKR_DONE)
+        return printf("%s: %d, %.*s", path, status, (int)length, (char *)proved), 1;
     status = gkr_c_verify(proved, length, verdict, sizeof verdict, &needed);
     printf("%s: %zu bytes, %.*s", path, length, (int)needed, (char *)verdict);
     return status != GKR_DONE;

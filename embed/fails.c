@@ -1,14 +1,16 @@
-/* Refuses each growth of memory in turn, in the first call the first, in the next the second, and so on until a call asks for no more, and
- * then once more so that the growth and all later ones are refused. A call then ends with GKR_MEMORY, or hands out a prefix of its reply
- * with GKR_WRITE_FAULT, or ends as it should; and it has given all memory back. fails COMMAND [NUMBER] < INPUT, linked with
- * -Wl,--wrap=malloc,--wrap=realloc,--wrap=free; it prints a line on what was seen, and ends with 1 where that is wrong. */
+/* Refuses each growth of memory in turn, in the first call the first, in the next the second, and
+ * so on until a call asks for no more, and then once more so that the growth and all later ones are
+ * refused. A call then ends with GKR_MEMORY, or hands out a prefix of its reply with
+ * GKR_WRITE_FAULT, or ends as it should; and it has given all memory back. fails COMMAND [NUMBER] <
+ * INPUT, linked with -Wl,--wrap=malloc,--wrap=realloc,--wrap=free; it prints a line on what was
+ * seen, and ends with 1 where that is wrong. */
 #include "gkr.h"
 #include <stdio.h>
 #include <stdlib.h>
 #include <string.h>
 
-/* How many growths come before the one that is refused, or -1 where none is; blocks that are taken; whether later growths are refused,
- * too; and whether any was. */
+/* How many growths come before the one that is refused, or -1 where none is; blocks that are taken;
+ * whether later growths are refused, too; and whether any was. */
 static long left = -1, taken;
 static int on, refused;
 
@@ -45,11 +47,14 @@ static size_t size, wanted;
 static uint8_t run(const char *command, uint32_t choice, uint8_t *to, size_t *needed) {
     if (!strcmp(command, "eval")) return gkr_c_eval(input, size, to, sizeof reply, needed);
     if (!strcmp(command, "circuit")) return gkr_c_circuit(input, size, to, sizeof reply, needed);
-    if (!strcmp(command, "prove")) return gkr_c_prove(choice, input, size, to, sizeof reply, needed);
+    if (!strcmp(command, "prove"))
+        return gkr_c_prove(choice, input, size, to, sizeof reply, needed);
     if (!strcmp(command, "verify")) return gkr_c_verify(input, size, to, sizeof reply, needed);
     if (!strcmp(command, "audit")) return gkr_c_audit(input, size, to, sizeof reply, needed);
-    if (!strcmp(command, "convert")) return gkr_c_convert(choice, input, size, to, sizeof reply, needed);
-    if (!strcmp(command, "run")) return gkr_c_run((const uint8_t *)"verify", 6, input, size, to, sizeof reply, needed);
+    if (!strcmp(command, "convert"))
+        return gkr_c_convert(choice, input, size, to, sizeof reply, needed);
+    if (!strcmp(command, "run"))
+        return gkr_c_run((const uint8_t *)"verify", 6, input, size, to, sizeof reply, needed);
     exit(2);
 }
 
@@ -73,9 +78,12 @@ int main(int argc, char **argv) {
             left = number, refused = 0;
             uint8_t status = run(argv[1], choice, reply, &needed);
             left = -1;
-            if (taken) return printf("%s: refusal %ld keeps %ld blocks\n", argv[1], number, taken), 1;
+            if (taken)
+                return printf("%s: refusal %ld keeps %ld blocks\n", argv[1], number, taken), 1;
             if (!is_right(status, due, needed))
-                return printf("%s: refusal %ld ends with %d and %zu bytes\n", argv[1], number, status, needed), 1;
+                return printf("%s: refusal %ld ends with %d and %zu bytes\n", argv[1], number,
+                              status, needed),
+                       1;
             if (!refused) break;
             counts[status]++;
             refusals++;

@@ -1,5 +1,5 @@
-/* The functions by which the archive takes memory, for processors that the kit has no object for. Each gives whether memory was found,
- * and where it is. */
+/* The functions by which the archive takes memory, for processors that the kit has no object for.
+ * Each gives whether memory was found, and where it is. */
 #include <stdint.h>
 #include <stdlib.h>
 
@@ -13,7 +13,9 @@ static char nowhere[16];
 
 static struct found found(void *at) { return (struct found){at != 0, at ? at : nowhere}; }
 
-struct found rattle_alloc(size_t size, size_t edge) { return found(malloc(size ? size : edge)); }
+struct found rattle_alloc(size_t size, size_t edge) {
+    return found(malloc(size ? size : edge));
+}
 
 struct found rattle_realloc(void *at, size_t old, size_t size, size_t edge) {
     (void)old;

@@ -1,6 +1,8 @@
-/* Measures the library: measure PLAIN PROVED [PROGRAM] prints for each command how many calls a second one thread makes, and four do, how
- * much processor time a call takes, and for verify and prove the same of starting PROGRAM for each; then how many bytes are still taken
- * after 1,000 calls. measure stack PLAIN prints how many bytes of stack each command takes past those of a thread that does nothing. */
+/* Measures the library: measure PLAIN PROVED [PROGRAM] prints for each command how many calls a
+ * second one thread makes, and four do, how much processor time a call takes, and for verify and
+ * prove the same of starting PROGRAM for each; then how many bytes are still taken after 1,000
+ * calls. measure stack PLAIN prints how many bytes of stack each command takes past those of a
+ * thread that does nothing. */
 #define _GNU_SOURCE
 #include "gkr.h"
 #include <fcntl.h>
@@ -32,7 +34,8 @@ static double now(void) {
 static double spent(int whose) {
     struct rusage used;
     getrusage(whose, &used);
-    return used.ru_utime.tv_sec + used.ru_stime.tv_sec + (used.ru_utime.tv_usec + used.ru_stime.tv_usec) / 1e6;
+    return used.ru_utime.tv_sec + used.ru_stime.tv_sec +
+           (used.ru_utime.tv_usec + used.ru_stime.tv_usec) / 1e6;
 }
 
 static uint8_t call(int what) {
@@ -97,7 +100,8 @@ static void start(const char *program, const char *command, const uint8_t *bytes
     close(out[1]);
     if (write(in[1], bytes, count) != (ssize_t)count) abort();
     close(in[1]);
-    while (read(out[0], reply, sizeof reply) > 0) {}
+    while (read(out[0], reply, sizeof reply) > 0) {
+    }
     close(out[0]);
     waitpid(child, &status, 0);
     if (!WIFEXITED(status) || WEXITSTATUS(status)) abort();
@@ -123,12 +127,13 @@ static void speed(int what, const char *program) {
     double side_by_side = THREADS * calls / (now() - begun), cpu = spent(RUSAGE_SELF);
     begun = now();
     many((void *)(long)what);
-    printf("%-8s %8.0f/s in one thread, %8.0f/s in four, %.1f us of a processor", names[what], calls / (now() - begun), side_by_side,
-           (spent(RUSAGE_SELF) - cpu) / calls * 1e6);
+    printf("%-8s %8.0f/s in one thread, %8.0f/s in four, %.1f us of a processor", names[what],
+           calls / (now() - begun), side_by_side, (spent(RUSAGE_SELF) - cpu) / calls * 1e6);
     if (program && what < 2) {
         cpu = spent(RUSAGE_SELF) + spent(RUSAGE_CHILDREN);
         begun = now();
-        for (int at = 0; at < STARTS; at++) start(program, names[what], what ? plain : proved, what ? plain_size : proved_size);
+        for (int at = 0; at < STARTS; at++)
+            start(program, names[what], what ? plain : proved, what ? plain_size : proved_size);
         printf("; by a process each %5.0f/s", STARTS / (now() - begun));
         printf(", %.0f us", (spent(RUSAGE_SELF) + spent(RUSAGE_CHILDREN) - cpu) / STARTS * 1e6);
     }
@@ -139,9 +144,11 @@ int main(int argc, char **argv) {
     if (argc < 3) return 2;
     if (!strcmp(argv[1], "stack")) {
         plain_size = load(argv[2], plain);
-        if (gkr_c_prove(GKR_LINES_1, plain, plain_size, proved, GKR_CASE_LIMIT, &proved_size)) return 1;
+        if (gkr_c_prove(GKR_LINES_1, plain, plain_size, proved, GKR_CASE_LIMIT, &proved_size))
+            return 1;
         size_t empty = depth(nothing, 0);
-        for (int what = 0; what < 6; what++) printf("%s %zu\n", names[what], depth(once, what) - empty);
+        for (int what = 0; what < 6; what++)
+            printf("%s %zu\n", names[what], depth(once, what) - empty);
         return 0;
     }
     plain_size = load(argv[1], plain);
@@ -149,6 +156,7 @@ int main(int argc, char **argv) {
     for (int what = 0; what < 6; what++) speed(what, argc > 3 ? argv[3] : 0);
     struct mallinfo2 before = mallinfo2();
     for (int at = 0; at < 1000; at++) call(0);
-    printf("bytes still taken after 1000 calls: %zd\n", (ssize_t)(mallinfo2().uordblks - before.uordblks));
+    printf("bytes still taken after 1000 calls: %zd\n",
+           (ssize_t)(mallinfo2().uordblks - before.uordblks));
     return 0;
 }

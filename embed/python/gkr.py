@@ -4,9 +4,10 @@
     >>> gkr.verify(open("examples/vectors/product.case", "rb").read())
     Reply(status=<Status.DONE: 0>, text=b'accepted\\n')
 
-Each function runs one command as the program `gkr` does on its standard input, and gives the number that the program ends with and
-its reply. The library is libgkr.so beside this file, or what the environment's GKR_LIBRARY names. Other threads run during a call, and
-any number of them may call at once. As a program, `python3 gkr.py COMMAND.. < INPUT` does what `gkr COMMAND.. < INPUT` does.
+Each function runs one command as the program `gkr` does on its standard input, and gives the number
+that the program ends with and its reply. The library is libgkr.so beside this file, or what the
+environment's GKR_LIBRARY names. Other threads run during a call, and any number of them may call at
+once. As a program, `python3 gkr.py COMMAND.. < INPUT` does what `gkr COMMAND.. < INPUT` does.
 """
 
 import ctypes
@@ -28,7 +29,7 @@ class Status(enum.IntEnum):
     BAD_COUNT = 5  # another number of inputs or outputs than the program has
     BAD_PROOF = 6  # the proof's bytes spell no messages of the circuit's shape
     WRITE_FAULT = 8  # no memory was found for the reply; the text is a prefix of it
-    MEMORY = 9  # no memory was found, or the circuit has more than 33,554,432 gates; the text is empty
+    MEMORY = 9  # no memory was found, or the circuit has over 33,554,432 gates; the text is empty
     TOO_LONG = 10  # the input is longer than a case may be
     UNREADABLE = 11  # of run: the words are no text
     NOT_HERE = 12  # of run: the words name a command that isn't on a case
@@ -51,8 +52,8 @@ class Reply(NamedTuple):
 
 _HERE = os.path.dirname(os.path.abspath(__file__))
 _library = ctypes.CDLL(os.environ.get("GKR_LIBRARY") or os.path.join(_HERE, "libgkr.so"))
-# Room that most replies fit in, in bytes, and room that every reply of prove and convert fits in, so that a proof is made once. Pages that
-# no reply touches cost nothing.
+# Room that most replies fit in, in bytes, and room that every reply of prove and convert fits in,
+# so that a proof is made once. Pages that no reply touches cost nothing.
 _ROOM, _MOST = 4096, 8 << 20
 
 
@@ -77,7 +78,8 @@ def _call(function, before: tuple, case: bytes, room: int) -> Reply:
         room = needed.value
 
 
-_eval, _circuit, _verify, _audit = (_function(name) for name in ("eval", "circuit", "verify", "audit"))
+_eval, _circuit = _function("eval"), _function("circuit")
+_verify, _audit = _function("verify"), _function("audit")
 _prove, _convert = (_function(name, ctypes.c_uint32) for name in ("prove", "convert"))
 _run = _function("run", ctypes.c_char_p, ctypes.c_size_t)
 
@@ -108,14 +110,15 @@ def prove(case: bytes, kind: int = Kind.LINES_1) -> Reply:
 
 
 def convert(case: bytes, version: int) -> Reply:
-    """The case with its proof by lines in version 1 or 2. Another version ends with Status.USAGE."""
+    """The case with its proof by lines in version 1 or 2. Others end with Status.USAGE."""
     return _call(_convert, (version,), case, _MOST)
 
 
 def run(words: Sequence[str], case: bytes) -> Reply:
-    """Any command on a case, by the words of a command line, as run(["prove", "--proof", "pair"], case)."""
+    """Any command on a case, by its words, as run(["prove", "--proof", "pair"], case)."""
     text = "\0".join(words).encode(errors="surrogateescape")
-    return _call(_run, (text, len(text)), case, _MOST if words[:1] in (["prove"], ["convert"]) else _ROOM)
+    room = _MOST if words and words[0] in ("prove", "convert") else _ROOM
+    return _call(_run, (text, len(text)), case, room)
 
 
 def _main() -> int:

@@ -4,7 +4,8 @@ use std::env;
 
 fn main() {
     println!("cargo:rerun-if-env-changed=GKR_LIB");
-    let folder = env::var("GKR_LIB").expect("GKR_LIB names the folder that embed/build-library made");
+    let folder =
+        env::var("GKR_LIB").expect("GKR_LIB names the folder that embed/build-library made");
     println!("cargo:rustc-link-search=native={folder}");
     println!("cargo:rustc-link-lib=static=gkr");
 }

@@ -1,4 +1,5 @@
-//! Calls the library as the program is called: `calls COMMAND.. < INPUT` writes the reply and ends with the number.
+//! Calls the library as the program is called: `calls COMMAND.. < INPUT` writes the reply and ends
+//! with the number.
 
 use std::io::{Read, Write};
 use std::{env, io, process};

@@ -1,8 +1,9 @@
 //! The commands of gkr on a case, called on bytes in memory.
 //!
-//! Each function runs one command as the program `gkr` does on its standard input, and gives the number that the program ends with
-//! and its reply. They require nothing of the bytes, share nothing and start no thread: any number of threads may call them at once.
-//! A call takes at most 192 KiB of stack.
+//! Each function runs one command as the program `gkr` does on its standard input, and gives the
+//! number that the program ends with and its reply. They require nothing of the bytes, share
+//! nothing and start no thread: any number of threads may call them at once. A call takes at most
+//! 192 KiB of stack.
 //!
 //! ```ignore
 //! let proved = gkr::prove(gkr::Kind::Lines2, &case);
@@ -56,13 +57,51 @@ pub enum Kind {
 }
 
 // `gkr.h` says what these do and what they want of a caller.
-unsafe extern "C" {
-    fn gkr_c_eval(input: *const u8, size: usize, reply: *mut u8, room: usize, needed: *mut usize) -> u8;
-    fn gkr_c_circuit(input: *const u8, size: usize, reply: *mut u8, room: usize, needed: *mut usize) -> u8;
-    fn gkr_c_verify(input: *const u8, size: usize, reply: *mut u8, room: usize, needed: *mut usize) -> u8;
-    fn gkr_c_audit(input: *const u8, size: usize, reply: *mut u8, room: usize, needed: *mut usize) -> u8;
-    fn gkr_c_prove(kind: u32, input: *const u8, size: usize, reply: *mut u8, room: usize, needed: *mut usize) -> u8;
-    fn gkr_c_convert(version: u32, input: *const u8, size: usize, reply: *mut u8, room: usize, needed: *mut usize) -> u8;
+extern "C" {
+    fn gkr_c_eval(
+        input: *const u8,
+        size: usize,
+        reply: *mut u8,
+        room: usize,
+        needed: *mut usize,
+    ) -> u8;
+    fn gkr_c_circuit(
+        input: *const u8,
+        size: usize,
+        reply: *mut u8,
+        room: usize,
+        needed: *mut usize,
+    ) -> u8;
+    fn gkr_c_verify(
+        input: *const u8,
+        size: usize,
+        reply: *mut u8,
+        room: usize,
+        needed: *mut usize,
+    ) -> u8;
+    fn gkr_c_audit(
+        input: *const u8,
+        size: usize,
+        reply: *mut u8,
+        room: usize,
+        needed: *mut usize,
+    ) -> u8;
+    fn gkr_c_prove(
+        kind: u32,
+        input: *const u8,
+        size: usize,
+        reply: *mut u8,
+        room: usize,
+        needed: *mut usize,
+    ) -> u8;
+    fn gkr_c_convert(
+        version: u32,
+        input: *const u8,
+        size: usize,
+        reply: *mut u8,
+        room: usize,
+        needed: *mut usize,
+    ) -> u8;
     fn gkr_c_run(
         words: *const u8,
         count: usize,
@@ -115,23 +154,32 @@ fn called(room: usize, call: impl Fn(*mut u8, usize, *mut usize) -> u8) -> Reply
 
 /// The outputs of a case without outputs: `output C y1 .. yC`.
 pub fn eval(case: &[u8]) -> Reply {
-    // SAFETY: here and below, the pointers and lengths are those of slices that are borrowed for the call and overlap nowhere.
-    called(ROOM, |reply, room, needed| unsafe { gkr_c_eval(case.as_ptr(), case.len(), reply, room, needed) })
+    // SAFETY: here and below, the pointers and lengths are those of slices that are borrowed for
+    // the call and overlap nowhere.
+    called(ROOM, |reply, room, needed| unsafe {
+        gkr_c_eval(case.as_ptr(), case.len(), reply, room, needed)
+    })
 }
 
 /// The sizes of the circuit of a case without outputs.
 pub fn circuit(case: &[u8]) -> Reply {
-    called(ROOM, |reply, room, needed| unsafe { gkr_c_circuit(case.as_ptr(), case.len(), reply, room, needed) })
+    called(ROOM, |reply, room, needed| unsafe {
+        gkr_c_circuit(case.as_ptr(), case.len(), reply, room, needed)
+    })
 }
 
 /// The verdict on the proof of a case: `accepted`, or the first equation that fails.
 pub fn verify(case: &[u8]) -> Reply {
-    called(ROOM, |reply, room, needed| unsafe { gkr_c_verify(case.as_ptr(), case.len(), reply, room, needed) })
+    called(ROOM, |reply, room, needed| unsafe {
+        gkr_c_verify(case.as_ptr(), case.len(), reply, room, needed)
+    })
 }
 
 /// What an audit finds in the proof of a case, which is by lines.
 pub fn audit(case: &[u8]) -> Reply {
-    called(ROOM, |reply, room, needed| unsafe { gkr_c_audit(case.as_ptr(), case.len(), reply, room, needed) })
+    called(ROOM, |reply, room, needed| unsafe {
+        gkr_c_audit(case.as_ptr(), case.len(), reply, room, needed)
+    })
 }
 
 /// The case with its outputs and a proof of them.
@@ -148,11 +196,24 @@ pub fn convert(version: u32, case: &[u8]) -> Reply {
     })
 }
 
-/// Any command on a case, by the words of a command line, as `run(&["prove", "--proof", "pair"], case)`.
+/// Any command on a case, by the words of a command line, as
+/// `run(&["prove", "--proof", "pair"], case)`.
 pub fn run(words: &[&str], case: &[u8]) -> Reply {
     let words = words.join("\0");
-    let room = if words.starts_with("prove") || words.starts_with("convert") { MOST } else { ROOM };
+    let room = if words.starts_with("prove") || words.starts_with("convert") {
+        MOST
+    } else {
+        ROOM
+    };
     called(room, |reply, room, needed| unsafe {
-        gkr_c_run(words.as_ptr(), words.len(), case.as_ptr(), case.len(), reply, room, needed)
+        gkr_c_run(
+            words.as_ptr(),
+            words.len(),
+            case.as_ptr(),
+            case.len(),
+            reply,
+            room,
+            needed,
+        )
     })
 }
