@@ -31,22 +31,66 @@ pub fn input_values(alloc: Global, circuit: &Circuit, inputs: &[Fp]) -> Result<V
     Ok(values)
 }
 
-/// The values of a layer's gates, from those of the layer below, side by side where there are many.
-pub fn gate_values<R: Threads + Sync>(
-    rt: &R,
+/// What works the values of a layer's gates.
+pub(crate) trait GateWork {
+    /// What has to hold of it.
+    ghost ready: { Self → Type 0 };
+
+    /// Writes the value of each gate.
+    fn work(&self, gates: &[CircuitGate], below: &[Fp], values: &mut [Fp])
+        requires ready { ready self.now }
+        requires capacity { length values.old ≡ length gates.now }
+        requires operands { All (IsOver (length below.now)) gates.now }
+        ensures { values.new ≡ map (gate_value below.now) gates.now };
+}
+
+/// The calling thread works all of them.
+#[derive(Drop)]
+pub(crate) struct Alone;
+
+impl GateWork for Alone {
+    ghost use Rattle.std.specs.Prelude.{⊤};
+
+    ghost ready = { λ w. ⊤ };
+
+    fn work(&self, gates: &[CircuitGate], below: &[Fp], values: &mut [Fp]) {
+        evaluate(gates, below, values)
+    }
+}
+
+/// As many threads as there are processors work them, where there are many.
+#[derive(Drop)]
+pub(crate) struct SideBySide<'r, R> {
+    pub(crate) rt: &'r R,
+}
+
+impl<'r, R: Threads + Sync> GateWork for SideBySide<'r, R> {
+    ghost use Rattle.std.specs.Thread.{IsSync};
+
+    ghost ready = { λ w. IsSync R.row };
+
+    fn work(&self, gates: &[CircuitGate], below: &[Fp], values: &mut [Fp]) {
+        if gates.len() < MANY {
+            evaluate(gates, below, values);
+        } else {
+            evaluate_side_by_side(self.rt, gates, below, values);
+        }
+    }
+}
+
+/// The values of a layer's gates, from those of the layer below.
+pub(crate) fn gate_values<W: GateWork>(
+    work: &W,
     alloc: Global,
     gates: &[CircuitGate],
     below: &[Fp],
 ) -> Result<Vec<Fp>, AllocError>
-    requires { All (IsOver (length below.now)) gates.now }
+    requires ready { W.ready work.now }
+    requires operands { All (IsOver (length below.now)) gates.now }
     ensures { IfOk result (λ v. v.items ≡ map (gate_value below.now) gates.now) }
 {
     let mut values = vec![in alloc; Fp::zero(); gates.len()]?;
-    if gates.len() < MANY {
-        evaluate(gates, below, &mut values);
-    } else {
-        evaluate_side_by_side(rt, gates, below, &mut values);
-    }
+    work.work(gates, below, &mut values);
     Ok(values)
 }
 

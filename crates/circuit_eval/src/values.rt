@@ -3,7 +3,7 @@
 ghost use Rattle.std.specs.Prelude.{◌≡◌, ◌<◌, length, slice_index_or, [], IfOk};
 ghost use Rattle.circuit_eval.specs.Tables.{AreTables};
 
-use crate::layer::{gate_values, input_values};
+use crate::layer::{Alone, GateWork, SideBySide, gate_values, input_values};
 use circuit_core::Circuit;
 use field_ext::Fp;
 use mle_table::BaseTable;
@@ -46,10 +46,36 @@ pub fn layer_values<R: Threads + Sync>(
     requires { length inputs.now ≡ circuit.now.parts.inputs }
     ensures { IfOk result (AreTables circuit.now.parts inputs.now) }
 {
+    layer_values_by(&SideBySide { rt }, alloc, circuit, inputs)
+}
+
+/// The values of every layer, as [`layer_values`] gives them, worked by the calling thread alone.
+pub fn layer_values_alone(
+    alloc: Global,
+    circuit: &Circuit,
+    inputs: &[Fp],
+) -> Result<Values, AllocError>
+    requires { length inputs.now ≡ circuit.now.parts.inputs }
+    ensures { IfOk result (AreTables circuit.now.parts inputs.now) }
+{
+    layer_values_by(&Alone, alloc, circuit, inputs)
+}
+
+/// The values of every layer, each of which is worked so.
+fn layer_values_by<W: GateWork>(
+    work: &W,
+    alloc: Global,
+    circuit: &Circuit,
+    inputs: &[Fp],
+) -> Result<Values, AllocError>
+    requires ready { W.ready work.now }
+    requires counted { length inputs.now ≡ circuit.now.parts.inputs }
+    ensures { IfOk result (AreTables circuit.now.parts inputs.now) }
+{
     let mut below = input_values(alloc, circuit, inputs)?;
     let mut tables: Vec<BaseTable> = Vec::with_capacity(alloc, circuit.height() + 1)?;
     for layer in (0..circuit.height()).rev() {
-        let values = gate_values(rt, alloc, circuit.gates(layer), &below)?;
+        let values = gate_values(work, alloc, circuit.gates(layer), &below)?;
         tables.push(BaseTable::of(below))?;
         below = values;
     }

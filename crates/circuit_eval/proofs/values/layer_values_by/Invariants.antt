@@ -2,7 +2,7 @@
 use Rattle.std.proofs.Common.{◌≡◌, ◌+◌, map, length}
 use Rattle.circuit_core.specs.Parts.{height, layer_values}
 use Rattle.circuit_eval.proofs.api.LayerTables.{AreTold}
-use Rattle.circuit_eval.proofs.values.layer_values.Given as goal
+use Rattle.circuit_eval.proofs.values.layer_values_by.Given as goal
 
 abbrev pub invariant-loop-layer : goal.invariant-loop-layer
 invariant-loop-layer g l = record {

@@ -1,14 +1,14 @@
 -- Each layer is evaluated from the one below
-use Rattle.std.proofs.Common.{◌≡◌, ◌<◌, ◌≤◌, ◌+◌, ◌-◌, ◌∙◌, ◌++◌, ◌∷◌, [], ℕ, length, map, reverse, sym, ap, subst, arith, rules, All}
+use Rattle.std.proofs.Common.{◌≡◌, ◌<◌, ◌≤◌, ◌+◌, ◌-◌, ◌∙◌, ◌++◌, ◌∷◌, [], ℕ, length, map, reverse, sym, ap, subst, arith, All}
 use Rattle.std.proofs.lemmas.List.{map-append, length-map, length_push}
 use Rattle.field_ext.specs.Field.{embed_k}
 use Rattle.circuit_core.specs.Parts.{IsOver, height, width_of}
 use Rattle.circuit_eval.specs.Tables.{AreTables}
 use Rattle.circuit_eval.proofs.api.LayerTables.{length-values, values_power, made, AreTold, told_push, turned, map-reverse}
-use Rattle.circuit_eval.proofs.values.layer_values.Goals as goal
+use Rattle.circuit_eval.proofs.values.layer_values_by.Goals as goal
 
-pub gate_values-requires : goal.gate_values-requires
-gate_values-requires g c =
+pub gate_values-requires-clause-operands : goal.gate_values-requires-clause-operands
+gate_values-requires-clause-operands g c =
     let circuit = c.args.circuit.now in
     let inputs = c.args.inputs.now in
     let layer = c.loop-layer.layer in
@@ -16,7 +16,7 @@ gate_values-requires g c =
     let within : layer ≤ height circuit.parts = omega (arith, c.loop-layer.auto.layer, c.height-layer.ensures) in
     let many : length c.deref.result.now ≡ width_of circuit.parts ((layer - 1) + 1) =
     ap length (c.deref.ensures.value ∙ c.loop-layer.invariant.below) ∙ length-values circuit inputs layer within ∙ ap (λ (i : ℕ). width_of circuit.parts i) up in
-    (search rules, subst (λ (width : ℕ). All (IsOver width) c.gates.result.now) (sym many) c.gates.ensures.operands)
+    subst (λ (width : ℕ). All (IsOver width) c.gates.result.now) (sym many) c.gates.ensures.operands
 
 pub of-requires : goal.of-requires
 of-requires g c =
