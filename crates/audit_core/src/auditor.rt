@@ -24,22 +24,18 @@ use circuit_core::Circuit;
 use circuit_eval::Values;
 use field_ext::{Ext, Fp};
 use gkr_layers::Verdict;
-use gkr_prove::prove_as;
+use gkr_prove::prove_alone;
 use gkr_verify::check_as;
 use io_edge::OpenGate;
 use proof_wire::{Messages, ProofForm};
 use std::alloc::{AllocError, Global};
-use std::marker::Sync;
-use std::sync::Wait;
-use std::thread::Threads;
 use transcript_fs::{Challenges, Given};
 
 /// Audits a proof by lines that a circuit with these values of its layers, which are its values for some inputs, has these
 /// outputs: as many of them as the circuit has, messages of its shape, and challenges from a source that has enough of them.
 /// Every message is taken in, whatever the verdict. Err only where no memory is found; the challenges may then have moved
 /// on.
-pub fn audit<R: Threads + Wait + Sync, C: Challenges>(
-    rt: &R,
+pub fn audit<C: Challenges>(
     alloc: Global,
     circuit: &Circuit,
     values: &Values,
@@ -63,7 +59,6 @@ pub fn audit<R: Threads + Wait + Sync, C: Challenges>(
         (exponent_at circuit.now.parts 0)) (all_messages messages.now.layers)) }
 {
     audit_as(
-        rt,
         alloc,
         ProofForm::Line,
         circuit,
@@ -75,8 +70,7 @@ pub fn audit<R: Threads + Wait + Sync, C: Challenges>(
 }
 
 /// Audits a proof of this form, as [`audit`] one by lines.
-pub fn audit_as<R: Threads + Wait + Sync, C: Challenges>(
-    rt: &R,
+pub fn audit_as<C: Challenges>(
     alloc: Global,
     form: ProofForm,
     circuit: &Circuit,
@@ -100,13 +94,12 @@ pub fn audit_as<R: Threads + Wait + Sync, C: Challenges>(
         (exponent_at circuit.now.parts 0)) (all_messages messages.now.layers)) }
 {
     let drawn = draw_all(alloc, circuit, messages.layers.as_slice(), challenges)?;
-    let audit = audit_drawn(rt, alloc, form, circuit, values, outputs, messages, drawn)?;
+    let audit = audit_drawn(alloc, form, circuit, values, outputs, messages, drawn)?;
     Ok(audit)
 }
 
 /// Audits a proof with which these challenges were drawn.
-fn audit_drawn<R: Threads + Wait + Sync>(
-    rt: &R,
+fn audit_drawn(
     alloc: Global,
     form: ProofForm,
     circuit: &Circuit,
@@ -126,7 +119,7 @@ fn audit_drawn<R: Threads + Wait + Sync>(
 {
     let k = circuit.coordinates(0);
     let (point, behind) = drawn.as_slice().split_at(k);
-    let truth = true_messages(rt, alloc, form, circuit, values, &drawn)?;
+    let truth = true_messages(alloc, form, circuit, values, &drawn)?;
     let found = compare(messages.layers.as_slice(), truth.layers.as_slice(), behind);
     let difference = claimed_less_true(alloc, circuit, values, outputs)?;
     let same = is_zero(difference.values());
@@ -143,8 +136,7 @@ fn audit_drawn<R: Threads + Wait + Sync>(
 }
 
 /// The honest messages at these challenges.
-fn true_messages<R: Threads + Wait + Sync>(
-    rt: &R,
+fn true_messages(
     alloc: Global,
     form: ProofForm,
     circuit: &Circuit,
@@ -162,7 +154,7 @@ fn true_messages<R: Threads + Wait + Sync>(
         (λ truth. HaveShape form (drop 1 (exponents circuit.now.parts)) truth.layers) }
 {
     let mut given = Given::of(Vec::from_slice(alloc, drawn)?);
-    let truth = prove_as(rt, alloc, form, circuit, values, &mut given, 1, &OpenGate)?;
+    let truth = prove_alone(alloc, form, circuit, values, &mut given, &OpenGate)?;
     Ok(truth)
 }
 

@@ -7,8 +7,8 @@
 //! and Zero-Knowledge", 4.1 and 4.6, whose proof of soundness it follows along one run.
 //!
 //! ```text
-//! let values = layer_values(&rt, alloc, &circuit, &inputs)?;
-//! let audit = audit(&rt, alloc, &circuit, &values, &outputs, &messages, &mut challenges)?;
+//! let values = layer_values_alone(alloc, &circuit, &inputs)?;
+//! let audit = audit(alloc, &circuit, &values, &outputs, &messages, &mut challenges)?;
 //! audit.challenge      // by its number and value
 //! ```
 #![tactic(auto)]

@@ -8,6 +8,7 @@ ghost use Rattle.proof_two.specs.declared.kind.ProofVersion.TheVariants.{One};
 ghost use Rattle.case_prove.specs.Answers.{IsAnswered, IsProveAnswer, is_proved_case};
 ghost use Rattle.case_prove.specs.Circuits.{RefusesCircuit};
 
+use crate::prover::Workers;
 use crate::proving::prove_case;
 use crate::refused::Refused;
 use arr_compile::BadProgram;
@@ -88,7 +89,8 @@ fn prove_reply<R: Threads + Wait + Sync, G: Gate>(
     ensures { IfOk result (λ reply. IsProveAnswer (ByLines One) case.now reply) }
 {
     let kind = ProofKind::ByLines(ProofVersion::One);
-    match prove_case(rt, alloc, case, kind, workers, gate) {
+    let prover = Workers { rt, workers, gate };
+    match prove_case(alloc, &prover, case, kind) {
         Ok(proved) => Ok(Reply::Proved(proved)),
         Err(refused) => refused_reply(refused),
     }

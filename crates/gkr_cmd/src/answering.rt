@@ -3,54 +3,28 @@
 ghost use Rattle.std.specs.Prelude.{◌≡◌, ◌≢◌, IfOk};
 ghost use Rattle.case_text.specs.Forms.{Allows};
 ghost use Rattle.case_text.specs.declared.case.form.Form.TheVariants.{Full};
-ghost use Rattle.phase_run.specs.Work.{IsWorkerCount};
-ghost use Rattle.gkr_words.specs.Commands.{HasWorkers};
 ghost use Rattle.gkr_cmd.specs.Replies.{form_of, IsAnswer, IsAuditAnswer, IsCaseReply, IsCircuitAnswer, IsConvertAnswer, IsEvalAnswer, IsVerifyAnswer, IsWithinLimit};
-ghost use Rattle.gkr_cmd.specs.Waiting.{CaseWaits};
 ghost use Rattle.case_prove.specs.Answers.{IsProveAnswer};
 
 use crate::reply_error::ReplyError;
 use crate::reported::{audit_lines, refused_reply, sum_line, verdict_line};
 use case_prove::{
-    Converted, audit_case, circuit_case, convert_case, eval_case, prove_case, verify_case,
+    Converted, Prover, audit_case, circuit_case, convert_case, eval_case, prove_case, verify_case,
 };
 use case_text::{Case, CaseRefused, Form, Outputs, Reply, read_case};
-use gkr_words::{CaseCommand, Command};
-use io_edge::Gate;
+use gkr_words::CaseCommand;
 use proof_two::{ProofKind, ProofVersion};
 use std::alloc::Global;
-use std::marker::Sync;
-use std::sync::Wait;
-use std::thread::Threads;
 
-/// The reply of a command that doesn't run the prover to an input that isn't too long.
+/// The reply of a command on a case to an input that isn't too long. Who proves makes no difference to it.
 #[tactic(auto, using(crate::proofs::Replied::answered))]
-pub fn answer_alone(alloc: Global, command: CaseCommand, input: &[u8]) -> Result<Reply, ReplyError>
-    requires alone { ¬ CaseWaits command }
-    requires limit { IsWithinLimit input.now }
-    ensures reply { IfOk result (λ reply. IsCaseReply (form_of command)
-        (IsAnswer command) input.now reply) }
-    ensures fault { result ≢ Err ReplyError.ReadFault }
-{
-    let case = match read_case(alloc, input, form_of(command)) {
-        Ok(case) => case,
-        Err(CaseRefused::Bad(bad)) => return Ok(Reply::Case(bad)),
-        Err(CaseRefused::Memory) => return Err(ReplyError::Memory),
-    };
-    answer_case_alone(alloc, command, &case)
-}
-
-/// The reply of a command that runs the prover to an input that isn't too long.
-#[tactic(auto, using(crate::proofs::Replied::answered))]
-pub fn answer_waiting<R: Threads + Wait + Sync, G: Gate>(
-    rt: &R,
+pub fn answer<P: Prover>(
     alloc: Global,
+    prover: &P,
     command: CaseCommand,
     input: &[u8],
-    gate: &G,
 ) -> Result<Reply, ReplyError>
-    requires waits { CaseWaits command }
-    requires workers { HasWorkers (Command.OfCase command) }
+    requires ready { P.ready prover.now }
     requires limit { IsWithinLimit input.now }
     ensures reply { IfOk result (λ reply. IsCaseReply (form_of command)
         (IsAnswer command) input.now reply) }
@@ -61,7 +35,7 @@ pub fn answer_waiting<R: Threads + Wait + Sync, G: Gate>(
         Err(CaseRefused::Bad(bad)) => return Ok(Reply::Case(bad)),
         Err(CaseRefused::Memory) => return Err(ReplyError::Memory),
     };
-    answer_case_waiting(rt, alloc, command, &case, gate)
+    answer_case(alloc, prover, command, &case)
 }
 
 /// The form of the case that a command reads.
@@ -74,9 +48,14 @@ fn form_of(command: CaseCommand) -> Form
     }
 }
 
-/// What a command that doesn't run the prover says of a case.
-fn answer_case_alone(alloc: Global, command: CaseCommand, case: &Case) -> Result<Reply, ReplyError>
-    requires alone { ¬ CaseWaits command }
+/// What a command says of a case.
+fn answer_case<P: Prover>(
+    alloc: Global,
+    prover: &P,
+    command: CaseCommand,
+    case: &Case,
+) -> Result<Reply, ReplyError>
+    requires ready { P.ready prover.now }
     requires outputs { Allows (form_of command) case.now.outputs }
     requires proof { Allows (form_of command) case.now.proof }
     ensures reply { IfOk result (λ reply. IsAnswer command case.now reply) }
@@ -85,31 +64,10 @@ fn answer_case_alone(alloc: Global, command: CaseCommand, case: &Case) -> Result
     match command {
         CaseCommand::Eval => evaluate(alloc, case),
         CaseCommand::Circuit => lay_out(alloc, case),
+        CaseCommand::Prove { workers: _, kind } => prove(alloc, prover, case, kind),
         CaseCommand::Verify => verify(alloc, case),
+        CaseCommand::Audit => audit(alloc, case),
         CaseCommand::Convert(version) => convert(alloc, case, version),
-        CaseCommand::Prove { .. } | CaseCommand::Audit => unreachable!(),
-    }
-}
-
-/// What a command that runs the prover says of a case.
-fn answer_case_waiting<R: Threads + Wait + Sync, G: Gate>(
-    rt: &R,
-    alloc: Global,
-    command: CaseCommand,
-    case: &Case,
-    gate: &G,
-) -> Result<Reply, ReplyError>
-    requires waits { CaseWaits command }
-    requires workers { HasWorkers (Command.OfCase command) }
-    requires outputs { Allows (form_of command) case.now.outputs }
-    requires proof { Allows (form_of command) case.now.proof }
-    ensures reply { IfOk result (λ reply. IsAnswer command case.now reply) }
-    ensures fault { result ≢ Err ReplyError.ReadFault }
-{
-    match command {
-        CaseCommand::Prove { workers, kind } => prove(rt, alloc, case, kind, workers, gate),
-        CaseCommand::Audit => audit(rt, alloc, case),
-        _ => unreachable!(),
     }
 }
 
@@ -137,21 +95,19 @@ fn lay_out(alloc: Global, case: &Case) -> Result<Reply, ReplyError>
     }
 }
 
-/// What `prove` says of a case, with a proof of this kind by so many workers.
+/// What `prove` says of a case, with a proof of this kind.
 #[tactic(auto, using(crate::proofs::Replied::prove_refused))]
-fn prove<R: Threads + Wait + Sync, G: Gate>(
-    rt: &R,
+fn prove<P: Prover>(
     alloc: Global,
+    prover: &P,
     case: &Case,
     kind: ProofKind,
-    workers: u32,
-    gate: &G,
 ) -> Result<Reply, ReplyError>
-    requires { IsWorkerCount workers }
+    requires { P.ready prover.now }
     ensures reply { IfOk result (λ reply. IsProveAnswer kind case.now reply) }
     ensures fault { result ≢ Err ReplyError.ReadFault }
 {
-    match prove_case(rt, alloc, case, kind, workers, gate) {
+    match prove_case(alloc, prover, case, kind) {
         Ok(proved) => Ok(Reply::Proved(proved)),
         Err(refused) => refused_reply(refused),
     }
@@ -173,13 +129,13 @@ fn verify(alloc: Global, case: &Case) -> Result<Reply, ReplyError>
 
 /// What `audit` says of a case.
 #[tactic(auto, using(crate::proofs::Replied::audit_replied, crate::proofs::Replied::audit_refused, crate::proofs::Replied::full_has))]
-fn audit<R: Threads + Wait + Sync>(rt: &R, alloc: Global, case: &Case) -> Result<Reply, ReplyError>
+fn audit(alloc: Global, case: &Case) -> Result<Reply, ReplyError>
     requires outputs { Allows Full case.now.outputs }
     requires proof { Allows Full case.now.proof }
     ensures reply { IfOk result (λ reply. IsAuditAnswer case.now reply) }
     ensures fault { result ≢ Err ReplyError.ReadFault }
 {
-    match audit_case(rt, alloc, case) {
+    match audit_case(alloc, case) {
         Ok(audit) => Ok(Reply::Audit(audit_lines(audit))),
         Err(refused) => refused_reply(refused),
     }

@@ -1,6 +1,6 @@
 //! The whole program.
 
-ghost use Rattle.std.specs.Prelude.{◌≡◌, IfNone, IfSome, map, string_bytes};
+ghost use Rattle.std.specs.Prelude.{◌≡◌, IfNone, IfSome, true, false, map, string_bytes};
 ghost use Rattle.gkr_words.specs.Commands.{HasWorkers, ReadsCase, command_of};
 ghost use Rattle.gkr_cmd.specs.Headline.{KeepsPromises};
 ghost use Rattle.gkr_cmd.specs.RunLaws.{RunLaws};
@@ -27,7 +27,7 @@ use std::sync::Wait;
 use std::thread::Threads;
 
 /// The laws that the promises of a run rest on.
-fn run_laws()
+pub(crate) fn run_laws()
     ensures { RunLaws }
 {
     evaluable_is_done();
@@ -53,10 +53,11 @@ fn run_laws()
     read_exactly();
 }
 
-/// Runs the command that the words name, unless that runs the prover or is `serve`, as `gkr_run` does.
+/// Runs the command that the words name, as `gkr_run` does, unless that may keep workers or is
+/// `serve`.
 ///
-/// No bound lets it wait, so it returns. None is answered where the words name another command, and
-/// then nothing was read or written.
+/// No bound lets it wait, so it returns. None is answered where the words name `prove` or `demo`
+/// with two workers or more, or `serve`, and then nothing was read or written.
 #[tactic(auto, using(crate::proofs::InputReads::none_within))]
 pub fn run_alone<R: Threads + Sync, S: Source, K: Sink, G: Gate>(
     rt: &R,
@@ -94,20 +95,28 @@ pub fn run_alone<R: Threads + Sync, S: Source, K: Sink, G: Gate>(
     let Ok(command) = named_command(alloc, words) else {
         return Some(Status::Memory);
     };
-    if let Some(
-        Command::OfCase(CaseCommand::Prove { .. } | CaseCommand::Audit)
-        | Command::Demo { .. }
-        | Command::Serve { .. }
-        | Command::ServeHistory { .. },
-    ) = command
-    {
+    if waits(command) {
         return None;
     }
     let made = reply_alone(rt, alloc, command, source, gate);
     Some(finish(alloc, made, sink))
 }
 
-/// Runs the command that the words name, which runs the prover or is `serve`.
+/// Whether a command may keep workers, or is `serve`.
+fn waits(command: Option<Command>) -> bool
+    ensures waits { result ≡ true → Waits command }
+    ensures alone { result ≡ false → ¬ Waits command }
+{
+    match command {
+        None | Some(Command::Session { .. }) => false,
+        Some(Command::OfCase(CaseCommand::Prove { workers, .. })) => workers > 1,
+        Some(Command::OfCase(_)) => false,
+        Some(Command::Demo { workers, .. }) => workers > 1,
+        Some(Command::Serve { .. } | Command::ServeHistory { .. }) => true,
+    }
+}
+
+/// Runs the command that the words name, which may keep workers or is `serve`.
 #[tactic(auto, using(crate::proofs::InputReads::none_within))]
 fn run_waiting<R: Threads + Wait + Sync, S: Source, K: Sink, G: Gate>(
     rt: &R,
@@ -149,8 +158,8 @@ fn run_waiting<R: Threads + Wait + Sync, S: Source, K: Sink, G: Gate>(
 
 /// Runs the command that the words name: reads the whole input, makes the whole reply, writes it.
 ///
-/// Workers that are kept wait for each other, and so do the threads of `serve`. Commands that run no
-/// prover are run by `run_alone`, which returns.
+/// Workers that are kept wait for each other, and so do the threads of `serve`. All other commands
+/// are run by `run_alone`, which returns.
 pub fn gkr_run<R: Threads + Wait + Sync, S: Source, K: Sink, G: Gate>(
     rt: &R,
     alloc: Global,

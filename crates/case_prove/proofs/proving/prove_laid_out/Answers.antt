@@ -14,7 +14,7 @@ use Rattle.case_prove.proofs.ProvedSizes.{fits, kind_length}
 use Rattle.case_prove.proofs.proving.prove_laid_out.Goals as goal
 
 pub honest_messages-requires-clause-few : goal.honest_messages-requires-clause-few
-honest_messages-requires-clause-few g c κs within =
+honest_messages-requires-clause-few g c =
     omega (arith, ap length c.deref.ensures.value, c.in_ok-outputs.ensures.as_many, c.circuit_is_sound.ensures.few_outputs c.args.case.now.lang c.args.case.now.program c.args.circuit.now.parts c.requires.compiled)
 
 pub new-requires : goal.new-requires

@@ -1,9 +1,5 @@
-use Rattle.std.proofs.Common.{rules, arith}
-use Rattle.std.proofs.lemmas.Grind.{elements}
+use Rattle.std.proofs.Common.{rules}
 use Rattle.gkr_cmd.proofs.replying.reply_alone.Goals as goal
-
-pub run_case_alone-requires : goal.run_case_alone-requires
-run_case_alone-requires g c = search rules
 
 pub run_session-requires-clause-piece : goal.run_session-requires-clause-piece
 run_session-requires-clause-piece g c = search rules
@@ -37,27 +33,6 @@ returns-in-None-clause-fault g c = search rules
 
 pub returns-in-None-clause-no_fault : goal.returns-in-None-clause-no_fault
 returns-in-None-clause-no_fault g c = search rules
-
-pub returns-in-Some-OfCase-clause-reply : goal.returns-in-Some-OfCase-clause-reply
-returns-in-Some-OfCase-clause-reply g c = search rules
-
-pub returns-in-Some-OfCase-clause-usage : goal.returns-in-Some-OfCase-clause-usage
-returns-in-Some-OfCase-clause-usage g c = search rules
-
-pub returns-in-Some-OfCase-clause-read : goal.returns-in-Some-OfCase-clause-read
-returns-in-Some-OfCase-clause-read g c = search rules
-
-pub returns-in-Some-OfCase-clause-within : goal.returns-in-Some-OfCase-clause-within
-returns-in-Some-OfCase-clause-within g c = grind (arith, elements)
-
-pub returns-in-Some-OfCase-clause-unread : goal.returns-in-Some-OfCase-clause-unread
-returns-in-Some-OfCase-clause-unread g c = search rules
-
-pub returns-in-Some-OfCase-clause-fault : goal.returns-in-Some-OfCase-clause-fault
-returns-in-Some-OfCase-clause-fault g c = search rules
-
-pub returns-in-Some-OfCase-clause-no_fault : goal.returns-in-Some-OfCase-clause-no_fault
-returns-in-Some-OfCase-clause-no_fault g c = search rules
 
 pub returns-in-Some-Session-clause-reply : goal.returns-in-Some-Session-clause-reply
 returns-in-Some-Session-clause-reply g c = search rules

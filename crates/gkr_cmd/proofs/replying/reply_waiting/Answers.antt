@@ -2,15 +2,6 @@ use Rattle.std.proofs.Common.{rules, arith}
 use Rattle.std.proofs.lemmas.Grind.{elements}
 use Rattle.gkr_cmd.proofs.replying.reply_waiting.Goals as goal
 
-pub run_case_waiting-requires-clause-waits : goal.run_case_waiting-requires-clause-waits
-run_case_waiting-requires-clause-waits g c = search rules
-
-pub run_case_waiting-requires-clause-workers : goal.run_case_waiting-requires-clause-workers
-run_case_waiting-requires-clause-workers g c = search rules
-
-pub demo-requires-after_bounds : goal.demo-requires-after_bounds
-demo-requires-after_bounds g c = search rules
-
 pub reply_service-requires-clause-service : goal.reply_service-requires-clause-service
 reply_service-requires-clause-service g c = search rules
 
@@ -23,26 +14,26 @@ unreachable-requires g c = search rules
 pub unreachable-unreachable : goal.unreachable-unreachable
 unreachable-unreachable g c = search rules
 
-pub returns-in-Some-OfCase-clause-reply : goal.returns-in-Some-OfCase-clause-reply
-returns-in-Some-OfCase-clause-reply g c = search rules
+pub returns-in-Some-OfCase-Prove-clause-reply : goal.returns-in-Some-OfCase-Prove-clause-reply
+returns-in-Some-OfCase-Prove-clause-reply g c = search rules
 
-pub returns-in-Some-OfCase-clause-usage : goal.returns-in-Some-OfCase-clause-usage
-returns-in-Some-OfCase-clause-usage g c = search rules
+pub returns-in-Some-OfCase-Prove-clause-usage : goal.returns-in-Some-OfCase-Prove-clause-usage
+returns-in-Some-OfCase-Prove-clause-usage g c = search rules
 
-pub returns-in-Some-OfCase-clause-read : goal.returns-in-Some-OfCase-clause-read
-returns-in-Some-OfCase-clause-read g c = search rules
+pub returns-in-Some-OfCase-Prove-clause-read : goal.returns-in-Some-OfCase-Prove-clause-read
+returns-in-Some-OfCase-Prove-clause-read g c = search rules
 
-pub returns-in-Some-OfCase-clause-within : goal.returns-in-Some-OfCase-clause-within
-returns-in-Some-OfCase-clause-within g c = grind (arith, elements)
+pub returns-in-Some-OfCase-Prove-clause-within : goal.returns-in-Some-OfCase-Prove-clause-within
+returns-in-Some-OfCase-Prove-clause-within g c = grind (arith, elements)
 
-pub returns-in-Some-OfCase-clause-unread : goal.returns-in-Some-OfCase-clause-unread
-returns-in-Some-OfCase-clause-unread g c = search rules
+pub returns-in-Some-OfCase-Prove-clause-unread : goal.returns-in-Some-OfCase-Prove-clause-unread
+returns-in-Some-OfCase-Prove-clause-unread g c = search rules
 
-pub returns-in-Some-OfCase-clause-fault : goal.returns-in-Some-OfCase-clause-fault
-returns-in-Some-OfCase-clause-fault g c = search rules
+pub returns-in-Some-OfCase-Prove-clause-fault : goal.returns-in-Some-OfCase-Prove-clause-fault
+returns-in-Some-OfCase-Prove-clause-fault g c = search rules
 
-pub returns-in-Some-OfCase-clause-no_fault : goal.returns-in-Some-OfCase-clause-no_fault
-returns-in-Some-OfCase-clause-no_fault g c = search rules
+pub returns-in-Some-OfCase-Prove-clause-no_fault : goal.returns-in-Some-OfCase-Prove-clause-no_fault
+returns-in-Some-OfCase-Prove-clause-no_fault g c = search rules
 
 pub returns-in-Some-Demo-clause-reply : goal.returns-in-Some-Demo-clause-reply
 returns-in-Some-Demo-clause-reply g c = search rules

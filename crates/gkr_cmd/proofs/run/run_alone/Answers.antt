@@ -42,24 +42,6 @@ returns-in_default-clause-untaken g c = search rules
 pub returns-in_default-clause-unwritten : goal.returns-in_default-clause-unwritten
 returns-in_default-clause-unwritten g c = search rules
 
-pub returns-in-Some-OfCase-Prove-clause-run : goal.returns-in-Some-OfCase-Prove-clause-run
-returns-in-Some-OfCase-Prove-clause-run g c = search rules
-
-pub returns-in-Some-OfCase-Prove-clause-unread : goal.returns-in-Some-OfCase-Prove-clause-unread
-returns-in-Some-OfCase-Prove-clause-unread g c = search rules
-
-pub returns-in-Some-OfCase-Prove-clause-waits : goal.returns-in-Some-OfCase-Prove-clause-waits
-returns-in-Some-OfCase-Prove-clause-waits g c = search rules
-
-pub returns-in-Some-OfCase-Prove-clause-untaken : goal.returns-in-Some-OfCase-Prove-clause-untaken
-returns-in-Some-OfCase-Prove-clause-untaken g c = search rules
-
-pub returns-in-Some-OfCase-Prove-clause-unwritten : goal.returns-in-Some-OfCase-Prove-clause-unwritten
-returns-in-Some-OfCase-Prove-clause-unwritten g c = search rules
-
-pub returns-in-Some-OfCase-Prove-2 : goal.returns-in-Some-OfCase-Prove-2
-returns-in-Some-OfCase-Prove-2 g c = search rules
-
 pub reply_alone-made-requires-clause-workers : goal.reply_alone-made-requires-clause-workers
 reply_alone-made-requires-clause-workers g c = search rules
 

@@ -1,5 +1,5 @@
 use Rattle.std.proofs.Common.{rules}
-use Rattle.gkr_cmd.proofs.answering.answer_alone.Goals as goal
+use Rattle.gkr_cmd.proofs.answering.answer.Goals as goal
 
 pub returns-in-Err-Bad-clause-reply : goal.returns-in-Err-Bad-clause-reply
 returns-in-Err-Bad-clause-reply g = search rules
@@ -13,14 +13,11 @@ returns-in-Err-Memory-clause-reply g = search rules
 pub returns-in-Err-Memory-clause-fault : goal.returns-in-Err-Memory-clause-fault
 returns-in-Err-Memory-clause-fault g c = search rules
 
-pub answer_case_alone-requires-clause-alone : goal.answer_case_alone-requires-clause-alone
-answer_case_alone-requires-clause-alone g c = search rules
+pub answer_case-requires-clause-outputs : goal.answer_case-requires-clause-outputs
+answer_case-requires-clause-outputs g = search rules
 
-pub answer_case_alone-requires-clause-outputs : goal.answer_case_alone-requires-clause-outputs
-answer_case_alone-requires-clause-outputs g = search rules
-
-pub answer_case_alone-requires-clause-proof : goal.answer_case_alone-requires-clause-proof
-answer_case_alone-requires-clause-proof g = search rules
+pub answer_case-requires-clause-proof : goal.answer_case-requires-clause-proof
+answer_case-requires-clause-proof g = search rules
 
 pub returns-clause-reply : goal.returns-clause-reply
 returns-clause-reply g = search rules

@@ -1,6 +1,6 @@
 use Rattle.std.proofs.Common.{arith, length, ap, rules}
 use Rattle.gkr_cmd.proofs.Replied.{command_replied, too_long}
-use Rattle.gkr_cmd.proofs.replying.run_case_waiting.Goals as goal
+use Rattle.gkr_cmd.proofs.replying.run_case.Goals as goal
 
 pub returns-then-is_too_long-clause-reply : goal.returns-then-is_too_long-clause-reply
 returns-then-is_too_long-clause-reply g c =
@@ -9,8 +9,8 @@ returns-then-is_too_long-clause-reply g c =
 
 pub returns-clause-reply : goal.returns-clause-reply
 returns-clause-reply g c =
-    command_replied c.args.command (g.S.Source.left c.args.source.now) (g.S.Source.left c.read_input.new.source) c.in_ok-input.input.items c.answer_waiting.result
-    c.in_ok-input.ensures.bytes (omega (arith, c.is_too_long.ensures.short c.if-is_too_long.false, ap length c.deref.ensures.value)) (rw c.deref-2.ensures.value at c.answer_waiting.ensures.reply)
+    command_replied c.args.command (g.S.Source.left c.args.source.now) (g.S.Source.left c.read_input.new.source) c.in_ok-input.input.items c.answer.result
+    c.in_ok-input.ensures.bytes (omega (arith, c.is_too_long.ensures.short c.if-is_too_long.false, ap length c.deref.ensures.value)) (rw c.deref-2.ensures.value at c.answer.ensures.reply)
 
 pub overflow_cast-read_input : goal.overflow_cast-read_input
 overflow_cast-read_input g c = search rules
@@ -51,14 +51,8 @@ returns-then-is_too_long-clause-fault g c = search rules
 pub returns-then-is_too_long-clause-no_fault : goal.returns-then-is_too_long-clause-no_fault
 returns-then-is_too_long-clause-no_fault g c = search rules
 
-pub answer_waiting-requires-clause-waits : goal.answer_waiting-requires-clause-waits
-answer_waiting-requires-clause-waits g c = search rules
-
-pub answer_waiting-requires-clause-workers : goal.answer_waiting-requires-clause-workers
-answer_waiting-requires-clause-workers g c = search rules
-
-pub answer_waiting-requires-clause-limit : goal.answer_waiting-requires-clause-limit
-answer_waiting-requires-clause-limit g c = search rules
+pub answer-requires-clause-limit : goal.answer-requires-clause-limit
+answer-requires-clause-limit g c = search rules
 
 pub returns-clause-named : goal.returns-clause-named
 returns-clause-named g c = search rules
