@@ -302,6 +302,24 @@ def many_workers(rows):
     two = rows.written(at, ["prove", "--workers", "2", "--proof", "2"], case, lambda text: text.startswith(case[:-4]))
     rows.sees(at, ["verify"], two, b"accepted\n")
     rows.converts(at, one, two)
+    any_workers(rows, "many workers, narrow", case_of("input a; input b; output a*b;", "2 3 4"))
+    any_workers(rows, "many workers", case)
+    # the widest layer has 2^16 values
+    wide = " ".join(["50000", *(str(value % 1000) for value in range(50000))])
+    any_workers(rows, "many workers, wide", case_of("input a[200][250]; output sum(a*a);", wide))
+    # more than 2^17 values, so that all stages are shared
+    widest = " ".join(["136900", *(str(value % 1000) for value in range(136900))])
+    any_workers(rows, "many workers, widest", case_of("input a[370][370]; output sum(a*a);", widest, 2))
+
+
+def any_workers(rows, at, case):
+    """Each kind of proof of a case is the same by any number of workers, and accepted."""
+    for kind in ("1", "2", "pair"):
+        words = ["prove", "--proof", kind]
+        one = rows.written(at, words, case, lambda text: text.startswith(case[:-4]))
+        rows.sees(at, ["verify"], one, b"accepted\n")
+        for count in COUNTS:
+            rows.sees(at, [*words, "--workers", count], case, one)
 
 
 def served(client, case, outputs, proof):

@@ -36,10 +36,10 @@ pub record AreBegun (source : Source) (sum : LayerSum) (before : List ℕ) (n : 
   pub drawn : rs ≡ draws source before (round_messages qs)
   pub state : after ≡ state_after source before (round_messages qs)
 
--- the line over 2 ^ k values has so many parts, which are not too many for a crew, and is over these values
-abbrev pub IsLineFor : LineJobsView → ℕ → List K → ℕ → Type 0
-IsLineFor l k values parts =
-    (part_coordinates ≤ k) × (l.number ≡ parts_of k) × (l.number ≤ parts) × (l.values ≡ values)
+-- the line over 2 ^ k values has as many parts, and is over these values
+abbrev pub IsLineFor : LineJobsView → ℕ → List K → Type 0
+IsLineFor l k values =
+    (part_coordinates ≤ k) × (l.number ≡ parts_of k) × (l.values ≡ values)
 
 -- what is known of the line of a layer over these values, after these challenges of its rounds, are its coefficients
 abbrev pub IsLineAhead : ℕ → List K → List K → Option (Vec K) → Type 0

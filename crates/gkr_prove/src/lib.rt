@@ -15,13 +15,14 @@
 #![tactic(auto)]
 
 mod alone;
-mod crewed;
 mod kept;
 mod last;
 mod layer;
 mod layers;
 mod prover;
 mod rounds;
+mod shared;
+mod sharing;
 
 pub use alone::prove_alone;
 pub use kept::KeptPlace;

@@ -10,8 +10,8 @@ ghost use Rattle.phase_run.specs.Work.{IsWorkerCount};
 ghost use Rattle.proof_wire.specs.Lists.{all_messages, HaveShape};
 ghost use Rattle.gkr_layers.specs.Honest.{AreHonestMessages, IsHonestProof};
 
-use crate::crewed::{prove_layers, widest_layer};
 use crate::kept::KeptPlace;
+use crate::sharing::{prove_layers, widest_layer};
 use circuit_core::Circuit;
 use circuit_eval::Values;
 use field_ext::Ext;
@@ -20,16 +20,16 @@ use pair_reduce::PairMessages;
 use proof_wire::{Listed, Messages, ProofForm};
 use round_tables::Buffers;
 use std::alloc::{AllocError, Global};
-use std::marker::{Send, Sync};
-use std::sync::Wait;
+use std::marker::Sync;
 use std::thread::Threads;
 use transcript_fs::{Challenges, draw_point};
 
 /// The honest messages by lines of a circuit with these values of its layers, which are its values for some inputs, and
 /// challenges from a source that has enough of them. They are of the circuit's shape, and all are taken in. Err only where no
-/// memory is found; the challenges may then have moved on. They are the same for every number of workers, which work the parts of
-/// a wide layer side by side: all but the one that leads enter the gate with each. One worker enters it with each piece.
-pub fn prove<R: Threads + Wait + Sync, C: Challenges + Send, G: Gate>(
+/// memory is found; the challenges may then have moved on. They are the same for every number of workers, which share the wide
+/// stages of a proof, and its first round of four pieces or more: each enters the gate with each part that it claims. One worker enters it
+/// with each piece of a round.
+pub fn prove<R: Threads + Sync, C: Challenges, G: Gate>(
     rt: &R,
     alloc: Global,
     circuit: &Circuit,
@@ -66,7 +66,7 @@ pub fn prove<R: Threads + Wait + Sync, C: Challenges + Send, G: Gate>(
 }
 
 /// The honest messages by pairs, as [`prove`] gives those by lines.
-pub fn prove_pair<R: Threads + Wait + Sync, C: Challenges + Send, G: Gate>(
+pub fn prove_pair<R: Threads + Sync, C: Challenges, G: Gate>(
     rt: &R,
     alloc: Global,
     circuit: &Circuit,
@@ -103,7 +103,7 @@ pub fn prove_pair<R: Threads + Wait + Sync, C: Challenges + Send, G: Gate>(
 }
 
 /// The honest messages of this form, as [`prove`] gives those by lines.
-pub fn prove_as<R: Threads + Wait + Sync, C: Challenges + Send, G: Gate>(
+pub fn prove_as<R: Threads + Sync, C: Challenges, G: Gate>(
     rt: &R,
     alloc: Global,
     form: ProofForm,

@@ -12,7 +12,7 @@ use sumcheck_prove::{Entry, round_alone};
 use transcript_fs::Challenges;
 
 /// The messages of all rounds of a layer, the challenge after each, the buffers that the layer used, and the coefficients of its
-/// line, where a crew has worked it.
+/// line, where workers have worked it.
 #[derive(Drop)]
 pub(crate) struct ProvedRounds {
     pub(crate) messages: Vec<Round>,

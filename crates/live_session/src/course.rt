@@ -26,7 +26,7 @@ use round_tables::{Buffers, GateTables};
 use std::alloc::{AllocError, Global};
 use std::marker::Sync;
 use std::thread::Threads;
-use sumcheck_prove::round;
+use sumcheck_prove::{bind_round, round};
 
 /// Where the challenges lead: the output point isn't drawn yet, they bind a layer's tables, or all messages are sent.
 #[derive(Drop)]
@@ -169,7 +169,7 @@ fn bind<'a, R: Threads + Sync, G: Gate>(
     ensures { IfOk result (λ next. (inputs : List F) → AreTables circuit.now.parts inputs values.now
         → IsAt circuit.now.parts inputs (take (u + 1) words.now) next) }
 {
-    tables.bind(words[u]);
+    bind_round(rt, alloc, &mut tables, words[u], workers, gate)?;
     send(
         rt,
         alloc,

@@ -1,4 +1,3 @@
-pub mod api
 mod Summing
 mod Loading
 mod Handed
@@ -6,3 +5,5 @@ mod Ahead
 mod FoldedParts
 mod LineParts
 mod RangeJobs
+mod Worked
+mod Crossing

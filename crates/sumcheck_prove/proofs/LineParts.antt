@@ -46,7 +46,7 @@ module _ (values b c : List K) where
       read worked k (work_of k (aimed b c h.0)) (each k (aimed b c h.0) h.2)
       ∙ job_worked k h.0 h.1 (omega arith)
 
-  -- what a crew was given, by whatever name
+  -- what workers were given, by whatever name
   pub jobs_worked : (jobs given worked : List Job) → given ≡ map (aimed b c) jobs → All (HasLine values) jobs →
       IsEachWorked work_of given worked → length jobs * 2048 ≤ length values → (k : ℕ) → k < length jobs →
       get_or (map line_of worked) k [] ≡ part_line (values_of values k) (take 11 b) (take 11 c)

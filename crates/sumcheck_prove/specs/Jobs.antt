@@ -1,5 +1,5 @@
--- What a crew does: with parts of a layer's tables, with parts of its line, and with ranges of places
-use Rattle.std.specs.Prelude.{◌≡◌, ℕ, ◌<◌, Bool, List, [], Option, Some, None, if◌then◌else◌, slice_index_or}
+-- What workers do: with parts of a layer's tables, with parts of its line, and with ranges of places
+use Rattle.std.specs.Prelude.{◌≡◌, ℕ, ◌<◌, Bool, List, [], Option, Some, None, slice_index_or}
 use Rattle.field_ext.specs.Field.{K}
 use Rattle.round_tables.specs.LayerSum.{LayerSum}
 use Rattle.table_parts.specs.PartTables.{PartTables, folded_part, part_sum}
@@ -8,23 +8,18 @@ use Rattle.sumcheck_prove.specs.Lines.{LineView, worked_line, aimed_line}
 use Rattle.sumcheck_prove.specs.declared.jobs.Job.{Job}
 
 -- the job of a part of the tables before it is worked
-abbrev pub job_of : Bool → K → List K → PartTables → Job
-job_of folds r none part = record {
+abbrev pub job_of : K → List K → PartTables → Job
+job_of r none part = record {
   part = part;
-  folds = folds;
   r = r;
   sum = none;
   line = None;
   share = None;
 }
 
--- the part after it: folded, where it is to be
-abbrev pub part_after : Bool → K → PartTables → PartTables
-part_after folds r part = if folds then folded_part r part else part
-
--- the job after it, with the sum of the part that it leaves
+-- the job after it: the part is folded, and the sum is that of the part that is left
 abbrev pub round_of : Job → Job
-round_of job = let part : PartTables = part_after job.folds job.r job.part in
+round_of job = let part : PartTables = folded_part job.r job.part in
     record job { part = part; sum = part_sum part }
 
 -- the job after it, with this range, if any

@@ -27,11 +27,3 @@ impl<'g, G: Gate> Entry for AtGate<'g, G> {
         self.gate.enter(0, u32::try_from(piece).unwrap_or(u32::MAX));
     }
 }
-
-/// An entry that holds nobody.
-#[derive(Drop)]
-pub struct OpenEntry;
-
-impl Entry for OpenEntry {
-    fn pass(&self, _piece: usize) {}
-}

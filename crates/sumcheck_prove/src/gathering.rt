@@ -1,17 +1,18 @@
-//! The gathering of a layer's gates by a crew.
+//! The gathering of a layer's gates by workers.
 
-ghost use Rattle.std.specs.Prelude.{◌≡◌, ◌≤◌, ◌<◌, ℕ, IfOk, false, true, length, vec_len};
+ghost use Rattle.std.specs.Prelude.{◌≡◌, ◌≤◌, ◌<◌, ◌^◌, ℕ, IfOk, false, true, length, vec_len};
 ghost use Rattle.sumcheck_prove.specs.Jobs.{HasRange, HaveRanges};
 
-use crate::jobs::{Job, Jobs, jobs_for};
-use crew::Crew;
+use crate::jobs::{Job, jobs_for};
+use crate::workers::Workers;
+use io_edge::Gate;
 use round_tables::{Collecting, GateTables, Gathered, Lending, OpenTables, Rooms, Share, Unlent};
 use std::alloc::{AllocError, Global};
-use std::marker::Model;
+use std::marker::{Model, Sync};
 use std::mem::replace;
-use std::sync::Wait;
+use std::thread::Threads;
 
-/// What gathering by a crew takes: a job and a room for each range. Seen as the number of ranges.
+/// What gathering by workers takes: a job and a room for each range. Seen as the number of ranges.
 #[derive(Drop)]
 pub struct GatherJobs<'a> {
     alloc: Global,
@@ -94,24 +95,22 @@ fn collect_all<'a>(collecting: &mut Collecting<'a>, jobs: &mut [Job<'a>])
     }
 }
 
-/// The tables of the phase that begins, gathered by the crew in ranges.
-fn gathered_by<'a, R: Wait>(
-    rt: &R,
+/// The tables of the phase that begins, gathered by workers in ranges.
+fn gathered_by<'a, R: Threads + Sync, G: Gate>(
+    workers: &Workers<'_, R, G>,
     mut lending: Lending<'a>,
-    crew: &mut Crew<'_, Jobs<'a>>,
     gather: &mut GatherJobs<'a>,
     mut jobs: Vec<Job<'a>>,
 ) -> GateTables<'a>
     requires none { lending.lent ≡ 0 }
     requires rooms { lending.rooms ≡ vec_len jobs }
     requires number { lending.number ≤ vec_len jobs }
-    requires few { vec_len jobs ≤ crew.old.parts }
+    requires few { vec_len jobs < 2 ^ 32 }
     ensures tables { result ≡ lending.entry.sum }
     ensures gather { gather.new ≡ vec_len jobs.entry }
-    ensures crew { crew.new ≡ crew.old }
 {
     lend_all(&mut lending, &mut jobs);
-    let mut jobs = crew.round(rt, jobs);
+    let mut jobs = workers.work(jobs, 1);
     let mut collecting = lending.collect();
     collect_all(&mut collecting, &mut jobs);
     let Gathered { tables, rooms } = collecting.gathered();
@@ -120,23 +119,26 @@ fn gathered_by<'a, R: Wait>(
     tables
 }
 
-/// The tables of the phase that begins, as `OpenTables::gathered` makes them: a crew gathers ranges of their places, in any order. Where
-/// there aren't two, or they don't divide the tables, the lead gathers alone. It takes no memory but where the jobs are for a narrower layer.
-pub fn gather_by<'a, R: Wait>(
-    rt: &R,
+/// The tables of the phase that begins, as `OpenTables::gathered` makes them: in a wide layer workers gather ranges of their places, in
+/// any order. Where there aren't two, or they don't divide the tables, the calling thread gathers alone. Past the claims of the workers it
+/// takes no memory but where the jobs are for a narrower layer.
+pub fn gather_by<'a, R: Threads + Sync, G: Gate>(
+    workers: &Workers<'_, R, G>,
     tables: OpenTables<'a>,
-    crew: &mut Crew<'_, Jobs<'a>>,
+    wide: bool,
     gather: &mut GatherJobs<'a>,
 ) -> GateTables<'a>
-    requires few { gather.old ≤ crew.old.parts }
+    requires few { gather.old < 2 ^ 32 }
     ensures tables { result ≡ tables.entry }
     ensures gather { gather.new ≡ gather.old }
-    ensures crew { crew.new ≡ crew.old }
 {
+    if !wide {
+        return tables.gathered();
+    }
     let jobs = replace(&mut gather.jobs, Vec::new(gather.alloc));
     let rooms = replace(&mut gather.rooms, Rooms::none(gather.alloc));
     match tables.lend(rooms) {
-        Ok(lending) => gathered_by(rt, lending, crew, gather, jobs),
+        Ok(lending) => gathered_by(workers, lending, gather, jobs),
         Err(unlent) => {
             let Unlent { tables, rooms } = unlent;
             gather.jobs = jobs;

@@ -1,6 +1,6 @@
-//! What a crew works: parts of a layer's tables, parts of its line, and ranges of places to which its gates are gathered.
+//! What workers work: parts of a layer's tables, parts of its line, and ranges of places to which its gates are gathered.
 
-ghost use Rattle.std.specs.Prelude.{◌≡◌, ℕ, ◌<◌, ◌≤◌, [], IfOk, length, map, slice_index_or, vec_len};
+ghost use Rattle.std.specs.Prelude.{◌≡◌, ℕ, ◌<◌, ◌^◌, [], IfOk, length, map, slice_index_or, vec_len};
 ghost use Rattle.field_ext.specs.Field.{K, k_ops};
 ghost use Rattle.field_ext.specs.Polynomial.{value_at};
 ghost use Rattle.field_ext.specs.Sums.{sum_below};
@@ -8,30 +8,30 @@ ghost use Rattle.sumcheck_prove.specs.Jobs.{job_of, round_of};
 
 use crate::adding::{no_message, plus};
 use crate::lines::LineShare;
-use crew::Crew;
+use crate::workers::{PAYING_PARTS, Workers};
 use field_ext::Ext;
+use io_edge::Gate;
 use mle_table::BaseTable;
 use phase_run::PartWork;
 use round_tables::Share;
 use std::alloc::{AllocError, Global};
-use std::marker::PhantomData;
+use std::marker::{PhantomData, Sync};
 use std::mem::swap;
-use std::sync::Wait;
+use std::thread::Threads;
 use table_parts::Part;
 
 /// What a worker is to do: to work a part of the line, where there is one, or to gather a range of places, where there is one, or
-/// else to sum a part of the tables, where it is to be folded once it is folded by a challenge.
+/// else to fold a part of the tables by a challenge and to sum it.
 #[derive(Drop)]
 pub struct Job<'a> {
     part: Part,
-    folds: bool,
     r: Ext,
     sum: [Ext; 3],
     pub(crate) line: Option<LineShare<'a>>,
     pub(crate) share: Option<Share<'a>>,
 }
 
-/// The work of a crew: each job is done as it says.
+/// The work: each job is done as it says.
 #[derive(Drop)]
 pub struct Jobs<'a> {
     tables: PhantomData<&'a BaseTable>,
@@ -61,9 +61,7 @@ impl<'a> PartWork for Jobs<'a> {
             share.gather();
             job.share = Some(share);
         } else {
-            if job.folds {
-                job.part.fold(job.r);
-            }
+            job.part.fold(job.r);
             job.sum = job.part.sum();
         }
     }
@@ -75,7 +73,6 @@ pub(crate) fn job_with<'a>(alloc: Global, line: Option<LineShare<'a>>) -> Job<'a
 {
     Job {
         part: Part::empty(alloc),
-        folds: false,
         r: Ext::zero(),
         sum: no_message(),
         line,
@@ -95,12 +92,11 @@ pub fn jobs_for<'a>(alloc: Global, parts: usize) -> Result<Vec<Job<'a>>, AllocEr
 }
 
 /// Puts a part into a job, in exchange for the part that is there.
-fn take_in(job: &mut Job<'_>, part: &mut Part, folds: bool, r: Ext, none: [Ext; 3])
-    ensures job { job.new ≡ job_of folds r none part.old }
+fn take_in(job: &mut Job<'_>, part: &mut Part, r: Ext, none: [Ext; 3])
+    ensures job { job.new ≡ job_of r none part.old }
     ensures part { part.new ≡ job.old.part }
 {
     swap(&mut job.part, part);
-    job.folds = folds;
     job.r = r;
     job.sum = none;
     job.line = None;
@@ -115,13 +111,13 @@ fn give_back(job: &mut Job<'_>, part: &mut Part)
 }
 
 /// Puts each part into the job of its place, in exchange for the part that is there.
-fn load(parts: &mut [Part], jobs: &mut [Job<'_>], folds: bool, r: Ext, none: [Ext; 3])
+fn load(parts: &mut [Part], jobs: &mut [Job<'_>], r: Ext, none: [Ext; 3])
     requires same { length jobs.old ≡ length parts.old }
     ensures parts { length parts.new ≡ length parts.old }
-    ensures jobs { jobs.new ≡ map (job_of folds r none) parts.old }
+    ensures jobs { jobs.new ≡ map (job_of r none) parts.old }
 {
     for k in 0..parts.len() {
-        take_in(&mut jobs[k], &mut parts[k], folds, r, none);
+        take_in(&mut jobs[k], &mut parts[k], r, none);
     }
 }
 
@@ -136,25 +132,22 @@ pub(crate) fn unload(jobs: &mut [Job<'_>], parts: &mut [Part])
     }
 }
 
-/// Lets a crew work each part, by the job of its place. The parts are in the jobs then.
-pub(crate) fn worked<'a, R: Wait>(
-    rt: &R,
-    crew: &mut Crew<'_, Jobs<'a>>,
+/// Lets workers fold and sum each part, by the job of its place. The parts are in the jobs then.
+pub(crate) fn worked<'a, R: Threads + Sync, G: Gate>(
+    workers: &Workers<'_, R, G>,
     parts: &mut Vec<Part>,
     mut jobs: Vec<Job<'a>>,
-    folds: bool,
     r: Ext,
     none: [Ext; 3],
 ) -> Vec<Job<'a>>
     requires same { vec_len jobs ≡ vec_len parts.old }
-    requires few { vec_len jobs ≤ crew.old.parts }
-    ensures crew { crew.new ≡ crew.old }
+    requires few { vec_len jobs < 2 ^ 32 }
     ensures parts { vec_len parts.new ≡ vec_len parts.old }
     ensures jobs { result.items
-        ≡ map (λ part. round_of (job_of folds r none part)) parts.old.items }
+        ≡ map (λ part. round_of (job_of r none part)) parts.old.items }
 {
-    load(parts, &mut jobs, folds, r, none);
-    crew.round(rt, jobs)
+    load(parts, &mut jobs, r, none);
+    workers.work(jobs, PAYING_PARTS)
 }
 
 /// What the sums of the jobs add to.

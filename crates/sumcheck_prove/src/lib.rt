@@ -1,9 +1,9 @@
 //! The prover's message of a round of sumcheck, and the binding of its coordinate.
 //!
 //! The message is the true polynomial of the round, of degree at most 2, as its three coefficients: the sum of what the
-//! pieces of the round give, which workers claim and sum in any order; wide tables are folded by workers, too. [`round_by`] and
-//! [`advance_by`] do the same by a crew that is kept from round to round, and [`line_by`] gives the line that ends the layer by the
-//! same crew. Source: Thaler, "Proofs, Arguments, and Zero-Knowledge", 4.1 and 4.6.
+//! pieces of the round give, which workers claim and sum in any order; wide tables are folded by workers, too. [`advance_by`] folds and
+//! sums in one pass, [`gather_by`] gathers the gates of a phase, and [`line_by`] gives the line that ends the layer, by the same workers.
+//! Source: Thaler, "Proofs, Arguments, and Zero-Knowledge", 4.1 and 4.6.
 //!
 //! A round, with the verifier of `sumcheck_verify`:
 //!
@@ -17,20 +17,22 @@
 #![tactic(auto)]
 
 mod adding;
+mod advancing;
 mod binding;
-mod crewed;
 mod entry;
 mod gathering;
 mod jobs;
 mod lines;
 mod message;
 mod pieces;
+mod workers;
 
 pub use adding::round_alone;
+pub use advancing::{Advanced, advance_by};
 pub use binding::bind_round;
-pub use crewed::{Advanced, Summed, advance_by, round_by};
 pub use entry::{AtGate, Entry};
 pub use gathering::{GatherJobs, gather_by};
-pub use jobs::{Job, Jobs, jobs_for};
+pub use jobs::{Job, jobs_for};
 pub use lines::{LineJobs, line_by};
-pub use message::round;
+pub use message::{round, round_in};
+pub use workers::Workers;

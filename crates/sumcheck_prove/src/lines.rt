@@ -1,4 +1,4 @@
-//! The line of a layer by a crew.
+//! The line of a layer by workers.
 
 ghost use Rattle.std.specs.Prelude.{◌≡◌, ℕ, ◌+◌, ◌*◌, ◌<◌, ◌≤◌, ◌++◌, [], All, IfOk, length, map, slice_index_or, vec_len, vec_capacity};
 ghost use Rattle.field_ext.specs.Field.{k_ops};
@@ -8,14 +8,15 @@ ghost use Rattle.line_reduce.specs.Parts.{joined, most_coordinates, part_coeffic
 ghost use Rattle.sumcheck_prove.specs.Jobs.{HasLine, aimed, line_of};
 ghost use Rattle.sumcheck_prove.specs.Lines.{aimed_line, worked_line};
 
-use crate::jobs::{Job, Jobs, job_with};
-use crew::Crew;
+use crate::jobs::{Job, job_with};
+use crate::workers::{PAYING_PARTS, Workers};
 use field_ext::Ext;
+use io_edge::Gate;
 use line_reduce::{LinePart, PART_COEFFICIENTS, line_of_parts};
 use mle_table::BaseTable;
 use std::alloc::{AllocError, Global};
-use std::marker::Model;
-use std::sync::Wait;
+use std::marker::{Model, Sync};
+use std::thread::Threads;
 
 /// A part of a line, and the table over which it is.
 #[derive(Drop)]
@@ -67,7 +68,7 @@ impl<'a> LineShare<'a> {
     }
 }
 
-/// What a crew's line over a table takes: a job for each part of the table, and a buffer for the lines of all.
+/// What a line over a table by workers takes: a job for each part of the table, and a buffer for the lines of all.
 #[derive(Drop)]
 pub struct LineJobs<'a> {
     jobs: Vec<Job<'a>>,
@@ -174,14 +175,13 @@ fn collected(jobs: &[Job<'_>], mut lines: Vec<Ext>) -> Vec<Ext>
     lines
 }
 
-/// The coefficients of the line from `b`, at 0, to `c`, at 1, over the table that the jobs are for, as `line_poly` gives them: a crew
-/// works the parts of the table, in any order. It takes no memory.
-pub fn line_by<'a, R: Wait>(
-    rt: &R,
+/// The coefficients of the line from `b`, at 0, to `c`, at 1, over the table that the jobs are for, as `line_poly` gives them:
+/// workers work the parts of the table, in any order. It takes no memory but for their claims.
+pub fn line_by<'a, R: Threads + Sync, G: Gate>(
+    workers: &Workers<'_, R, G>,
     table: &BaseTable,
     b: &[Ext],
     c: &[Ext],
-    crew: &mut Crew<'_, Jobs<'a>>,
     jobs: LineJobs<'a>,
 ) -> Vec<Ext>
     requires least { part_coordinates ≤ table.now.k }
@@ -190,10 +190,8 @@ pub fn line_by<'a, R: Wait>(
     requires end { length c.now ≡ table.now.k }
     requires values { jobs.values ≡ table.now.items }
     requires parts { jobs.number ≡ parts_of table.now.k }
-    requires few { jobs.number ≤ crew.old.parts }
     ensures line { result.items ≡ coefficients k_ops (table.now.k + 1)
         (line_polynomial k_ops table.now.items b.now c.now) }
-    ensures crew { crew.new ≡ crew.old }
 {
     let LineJobs {
         mut jobs,
@@ -201,7 +199,7 @@ pub fn line_by<'a, R: Wait>(
         ..
     } = jobs;
     aim_all(&mut jobs, b, c);
-    let jobs = crew.round(rt, jobs);
+    let jobs = workers.work(jobs, PAYING_PARTS);
     let lines = collected(&jobs, lines);
     line_of_parts(table, lines, b, c)
 }

@@ -17,13 +17,14 @@ use std::alloc::{AllocError, Global};
 use std::marker::Sync;
 use std::thread::Threads;
 
-/// Starting two threads costs as much as summing some 8,192 pairs, so a round pays for them from 16,384 pairs on. The first round
-/// of a layer, once in the layer, may start them from 4,096 pairs on.
-const PAIRS_FOR_TWO: usize = 16384;
+/// Starting and joining threads takes as long as summing some 8,192 pairs, so only a round of so many pairs is shared.
+pub(crate) const PAIRS_TO_SUM: usize = 65536;
 
-const PAIRS_FOR_TWO_AT_FIRST: usize = 4096;
+/// `round` shares the first round of a layer, once in the layer, from so many pairs on.
+const PAIRS_TO_SUM_AT_FIRST: usize = 4096;
 
-const PAIRS_FOR_EACH: usize = 4096;
+/// A thread is started for so many pairs.
+const PAIRS_FOR_EACH: usize = 8192;
 
 /// The coefficients of 1, X and X² of the next round's polynomial, where a round is left: the sum of what its pieces give,
 /// whatever the number of workers and the order of their claims. Each piece is entered at the gate before it is summed.
@@ -41,7 +42,29 @@ pub fn round<R: Threads + Sync, G: Gate>(
     requires workers { IsWorkerCount workers }
     ensures { IfOk result (λ message. message ≡ coefficients k_ops 3 (next_poly tables.now)) }
 {
-    let ahead = summed_ahead(rt, alloc, tables, workers, gate)?;
+    let least = if tables.is_fresh() {
+        PAIRS_TO_SUM_AT_FIRST
+    } else {
+        PAIRS_TO_SUM
+    };
+    let threads = threads_from(tables.pairs(), least, workers);
+    round_in(rt, alloc, tables, threads, gate)
+}
+
+/// The coefficients that `round` gives, summed in so many threads whatever the number of pairs, and in no more than there are pieces.
+pub fn round_in<R: Threads + Sync, G: Gate>(
+    rt: &R,
+    alloc: Global,
+    tables: &GateTables<'_>,
+    threads: u32,
+    gate: &G,
+) -> Result<[Ext; 3], AllocError>
+    requires here { tables.now.lent ≡ [] }
+    requires left { length tables.now.bound < tables.now.k + tables.now.k }
+    requires threads { IsWorkerCount threads }
+    ensures { IfOk result (λ message. message ≡ coefficients k_ops 3 (next_poly tables.now)) }
+{
+    let ahead = summed_ahead(rt, alloc, tables, threads, gate)?;
     let mut total = no_message();
     for piece in 0..tables.pieces() {
         total = plus(total, piece_message(tables, &ahead, piece, gate));
@@ -49,41 +72,28 @@ pub fn round<R: Threads + Sync, G: Gate>(
     Ok(total)
 }
 
-/// The messages of all pieces, where the round has so many pairs that threads pay for them.
+/// The messages of all pieces, where there are several, and threads to sum them.
 fn summed_ahead<R: Threads + Sync, G: Gate>(
     rt: &R,
     alloc: Global,
     tables: &GateTables<'_>,
-    workers: u32,
+    threads: u32,
     gate: &G,
 ) -> Result<Option<Vec<[Ext; 3]>>, AllocError>
     requires here { tables.now.lent ≡ [] }
     requires left { length tables.now.bound < tables.now.k + tables.now.k }
-    requires workers { IsWorkerCount workers }
+    requires threads { IsWorkerCount threads }
     ensures { IfOk result (AreAhead tables.now) }
 {
     let Ok(pieces) = u32::try_from(tables.pieces()) else {
         return Ok(None);
     };
-    let threads = threads_for(tables.pairs(), tables.is_fresh(), workers);
-    if threads == 1 {
+    let threads = threads.min(pieces);
+    if threads <= 1 {
         return Ok(None);
     }
     let sums = run(rt, alloc, pieces, threads, &PieceSums { tables }, gate)?;
     Ok(Some(sums))
-}
-
-/// How many threads a round of so many pairs pays for, the first of its layer or another, of so many workers.
-fn threads_for(pairs: usize, first: bool, workers: u32) -> u32
-    requires { IsWorkerCount workers }
-    ensures { IsWorkerCount result }
-{
-    let least = if first {
-        PAIRS_FOR_TWO_AT_FIRST
-    } else {
-        PAIRS_FOR_TWO
-    };
-    threads_from(pairs, least, workers)
 }
 
 /// How many threads so many pairs pay for, from the least that pays for two on.

@@ -1,7 +1,7 @@
 //! Workers, provers and clients that pass gates: each piece is worked once, and some work beside each other.
 
 use super::*;
-use test_gates::{CountingGate, MeetingGate, TogetherGate};
+use test_gates::{CountingGate, MeetingGate};
 
 /// A case that sums the numbers below this one of a square.
 fn sum_case(alloc: Global, side: u32) -> Result<Vec<u8>, AllocError> {
@@ -70,15 +70,29 @@ fn works_a_session_beside_each_other(rt: HostRuntime) -> Result<(), Fail> {
     Ok(())
 }
 
-/// The sum of 16,384 values has wide layers, which a crew works. The gate holds whoever of the crew has a part, while the lead goes on
-/// with the others, until a second one is there or a while has passed. Which it is the schedule chooses, and the proof is the same.
+/// The first piece with a number above 1 is one of layer 12's first round, which two workers share: whoever has piece 2 or 3 first is held
+/// until the other has the next one. The proof is that of one worker.
 #[test]
-fn proves_the_same_where_workers_are_held(rt: HostRuntime) -> Result<(), Fail> {
-    let case = sum_case(rt.alloc(), 128)?;
-    let gate = TogetherGate::new(&rt);
-    let crew = done(&rt, &["gkr", "prove", "--workers", "4"], &case, &gate)?;
+fn proves_beside_each_other(rt: HostRuntime) -> Result<(), Fail> {
+    let case = sum_case(rt.alloc(), 64)?;
+    let gate = MeetingGate::new(2);
+    let beside = done(&rt, &["gkr", "prove", "--workers", "2"], &case, &gate)?;
+    assert!(rt; gate.entries() >= 2);
+    assert!(rt; !gate.is_raised());
     let alone = done(&rt, &["gkr", "prove"], &case, &OpenGate)?;
-    assert!(rt; crew.as_slice() == alone.as_slice());
+    assert!(rt; beside.as_slice() == alone.as_slice());
+    Ok(())
+}
+
+/// The products of two matrices of 16 rows and columns, 4,096 of them, are a layer whose rounds have four pieces too.
+#[test]
+fn demonstrates_beside_each_other(rt: HostRuntime) -> Result<(), Fail> {
+    let gate = MeetingGate::new(2);
+    let beside = done(&rt, &["gkr", "demo", "14", "--workers", "2"], b"", &gate)?;
+    assert!(rt; gate.entries() >= 2);
+    assert!(rt; !gate.is_raised());
+    let alone = done(&rt, &["gkr", "demo", "14"], b"", &OpenGate)?;
+    assert_eq!(rt; beside.as_slice(), alone.as_slice());
     Ok(())
 }
 

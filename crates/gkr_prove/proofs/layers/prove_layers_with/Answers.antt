@@ -12,16 +12,13 @@ use Rattle.transcript_fs.proofs.api.Draws.{length-draws, state-append}
 use Rattle.gkr_layers.proofs.api.Circuits.{below_more, below_none}
 use Rattle.gkr_layers.proofs.api.Shapes.{length-messages, has_layer, has_below}
 use Rattle.gkr_layers.specs.Honest.{AreHonest, IsHonestLayer}
+use Rattle.gkr_prove.proofs.HasSteps.{has_here}
 use Rattle.gkr_prove.proofs.api.LayerSteps.{messages-more, table_values, layers_more, over-next}
 use Rattle.gkr_prove.proofs.api.TableShapes.{table_exponent, is_layer, few_gates, shape_more}
 use Rattle.gkr_prove.proofs.layers.prove_layers_with.Goals as goal
 use Rattle.gkr_layers.specs.Places.{Place, IsOver}
 use Rattle.gkr_layers.specs.ClaimPlace.{place_of}
 use Rattle.gkr_prove.specs.Kept.{kept_place}
-
--- challenges for the layers from one on
-has_here : (p : Parts) (source : Source) (s : List ℕ) (i : ℕ) → i < height p → IsTrue (source.has s (message_count (layers_below p i))) → IsTrue (source.has s (message_count (layer_at p i ∷ layers_below p (i + 1))))
-has_here p source s i u h = subst (λ (layers : List GateLayer). IsTrue (source.has s (message_count layers))) (below_more p i u) h
 
 pub prove_layer-requires : goal.prove_layer-requires
 prove_layer-requires g c κs =

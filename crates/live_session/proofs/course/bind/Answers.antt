@@ -19,19 +19,19 @@ send-requires-clause-most g c =
     omega (arith, e, (size_of c.args.circuit.now (c.args.layer + 1) (omega (arith, c.requires.layer))).2)
 
 pub send-requires-clause-here : goal.send-requires-clause-here
-send-requires-clause-here g c κs within = ap (λ (t : LayerSum). t.lent) c.bind.ensures ∙ c.requires.here
+send-requires-clause-here g c κs within = ap (λ (t : LayerSum). t.lent) c.in_ok-bind_round.ensures.bound ∙ c.requires.here
 
 pub send-requires-clause-k : goal.send-requires-clause-k
 send-requires-clause-k g c κs within =
     let e = table_exponent c.args.circuit.now c.requires.values.0 c.args.values.now (c.args.layer + 1) c.table.result.now c.requires.values.1 (omega (arith, c.requires.layer)) c.table.ensures in
     let at = within_at c.args.circuit.now.parts c.requires.values.0 c.args.words.now c.args.u c.args.layer c.args.base c.args.sent.items c.args.tables (omega (arith, c.requires.there)) (c.requires.at_stage c.requires.values.0 c.requires.values.1) in
-    ap (λ (t : LayerSum). t.k) c.bind.ensures ∙ at.2 ∙ sym e
+    ap (λ (t : LayerSum). t.k) c.in_ok-bind_round.ensures.bound ∙ at.2 ∙ sym e
 
 pub send-requires-clause-values : goal.send-requires-clause-values
 send-requires-clause-values g c κs within =
     let is = c.requires.at_stage c.requires.values.0 c.requires.values.1 in
     let v : c.args.layer + 1 ≤ height c.args.circuit.now.parts = omega (arith, c.requires.layer) in
-    ap (λ (t : LayerSum). t.values) (c.bind.ensures ∙ (λ j. record (is.tables_are j) { bound = c.args.tables.bound ++ c.index-words-u.result ∷ [] }))
+    ap (λ (t : LayerSum). t.values) (c.in_ok-bind_round.ensures.bound ∙ (λ j. record (is.tables_are j) { bound = c.args.tables.bound ++ c.index-words-u.result ∷ [] }))
     ∙ sym (table_values c.args.circuit.now.parts c.requires.values.0 c.args.values.now (c.args.layer + 1) c.table.result.now.items c.requires.values.1 v c.table.ensures)
 
 pub send-requires-clause-drawn : goal.send-requires-clause-drawn
@@ -47,13 +47,13 @@ send-requires-clause-drawn g c κs within =
     ∙ sym c.index-words-u.is in
     ap (λ (m : ℕ). take m rest) count ∙ take_more rest n c.index-words-u.result u
     ∙ (λ j. at.1 j ++ read j ∷ [])
-    ∙ ap (λ (t : LayerSum). t.bound) (sym c.bind.ensures)
+    ∙ ap (λ (t : LayerSum). t.bound) (sym c.in_ok-bind_round.ensures.bound)
 
 pub send-requires-clause-few : goal.send-requires-clause-few
 send-requires-clause-few g c =
-    omega (arith, length-take (c.args.u + 1 - c.args.base) (drop c.args.base c.args.words.now), c.requires.at, c.requires.left, ap (λ (t : LayerSum). t.k) c.bind.ensures)
+    omega (arith, length-take (c.args.u + 1 - c.args.base) (drop c.args.base c.args.words.now), c.requires.at, c.requires.left, ap (λ (t : LayerSum). t.k) c.in_ok-bind_round.ensures.bound)
 
 pub returns : goal.returns
 returns g c inputs tables =
     bound_more c.args.circuit.now.parts inputs c.args.words.now c.args.u c.args.layer c.args.base c.args.sent.items c.args.tables c.index-words-u.result c.requires.there c.index-words-u.is (c.requires.at_stage inputs tables)
-    c.bind.new.self c.send.new.sent.items c.bind.ensures c.requires.left c.in_ok-send.ensures
+    c.bind_round.new.tables c.send.new.sent.items c.in_ok-bind_round.ensures.bound c.requires.left c.in_ok-send.ensures

@@ -25,14 +25,8 @@ returns-in-Ok-clause-tables g c = search rules
 pub returns-in-Ok-clause-gather : goal.returns-in-Ok-clause-gather
 returns-in-Ok-clause-gather g c = search rules
 
-pub returns-in-Ok-clause-crew : goal.returns-in-Ok-clause-crew
-returns-in-Ok-clause-crew g c = search rules
-
 pub returns-in-Err-clause-tables : goal.returns-in-Err-clause-tables
 returns-in-Err-clause-tables g c = search rules
 
 pub returns-in-Err-clause-gather : goal.returns-in-Err-clause-gather
 returns-in-Err-clause-gather g c = search rules
-
-pub returns-in-Err-clause-crew : goal.returns-in-Err-clause-crew
-returns-in-Err-clause-crew g c = search rules

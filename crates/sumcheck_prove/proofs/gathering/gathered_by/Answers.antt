@@ -25,7 +25,7 @@ collect_all-requires-clause-ranges g c k job u =
     let within : k < c.args.lending.number = omega (arith, u, count) in
     let few : c.args.lending.number ≤ length given = omega (arith, size, number, c.requires.number) in
     coe 0 1 (i. HasRange (range_of (sym sum i) (sym parts i) (sym values i) true k) (get_or (sym c.deref_mut-2.ensures.value i) k job))
-    (ranges_worked lending.sum lending.parts lending.size given c.round-jobs.result.items lending.number few c.round-jobs.ensures.each ranges k job within)
+    (ranges_worked lending.sum lending.parts lending.size given c.work-jobs.result.items lending.number few c.work-jobs.ensures.each ranges k job within)
 
 pub lend_all-requires-clause-none : goal.lend_all-requires-clause-none
 lend_all-requires-clause-none g c = search rules
@@ -33,8 +33,8 @@ lend_all-requires-clause-none g c = search rules
 pub lend_all-requires-clause-number : goal.lend_all-requires-clause-number
 lend_all-requires-clause-number g c = search rules
 
-pub round-jobs-requires : goal.round-jobs-requires
-round-jobs-requires g c = search rules
+pub work-jobs-requires : goal.work-jobs-requires
+work-jobs-requires g c = search rules
 
 pub collect-collecting-requires : goal.collect-collecting-requires
 collect-collecting-requires g c = search rules
@@ -56,6 +56,3 @@ returns-clause-tables g c = search rules
 
 pub returns-clause-gather : goal.returns-clause-gather
 returns-clause-gather g c = search rules
-
-pub returns-clause-crew : goal.returns-clause-crew
-returns-clause-crew g c = search rules

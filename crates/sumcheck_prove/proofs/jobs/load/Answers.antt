@@ -6,7 +6,7 @@ use Rattle.sumcheck_prove.proofs.jobs.load.Goals as goal
 
 pub loop-k-preserved : goal.loop-k-preserved
 loop-k-preserved c =
-    let f = job_of c.args.folds c.args.r c.args.none in
+    let f = job_of c.args.r c.args.none in
     let k = c.loop-k.k in
     let part = c.index-parts-k.result in
     let before = c.loop-k.invariant in
@@ -20,4 +20,4 @@ loop-k-preserved c =
 pub returns-clause-jobs : goal.returns-clause-jobs
 returns-clause-jobs c =
     let all : length c.args.parts.now ≡ c.loop-k.k = omega arith in
-    all_placed (job_of c.args.folds c.args.r c.args.none) c.args.parts.now c.args.jobs.now c.loop-k.jobs c.loop-k.k all (c.requires.same ∙ all) c.loop-k.invariant.jobs
+    all_placed (job_of c.args.r c.args.none) c.args.parts.now c.args.jobs.now c.loop-k.jobs c.loop-k.k all (c.requires.same ∙ all) c.loop-k.invariant.jobs

@@ -8,5 +8,5 @@ abbrev pub invariant-loop-k : goal.invariant-loop-k
 invariant-loop-k l = record {
   len : length l.parts ≡ length l.fn.parts;
   rest : (j : ℕ) (part : PartTables) → l.k ≤ j → get_or l.parts j part ≡ get_or l.fn.parts j part;
-  jobs : l.jobs ≡ map (job_of l.folds l.r l.none) (take l.k l.fn.parts) ++ drop l.k l.fn.jobs;
+  jobs : l.jobs ≡ map (job_of l.r l.none) (take l.k l.fn.parts) ++ drop l.k l.fn.jobs;
 }

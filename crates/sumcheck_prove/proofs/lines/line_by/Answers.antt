@@ -23,9 +23,9 @@ collected-lines-requires-clause-sizes g c k u =
     let number : length c.jobs.inside.jobs.items ≡ c.args.jobs.number = sym jobs.ok.0 ∙ ap (λ (l : LineJobsView). l.number) c.jobs.view_is in
     let over : All (HasLine c.args.table.now.items) c.jobs.inside.jobs.items = subst (λ (vs : List K). All (HasLine vs) jobs.items) (ap (λ (l : LineJobsView). l.values) c.jobs.view_is ∙ c.requires.values) c.jobs.invariant.0 in
     let fits = parts_cover c.args.table.now.k (length c.jobs.inside.jobs.items) c.args.jobs.number (length c.args.table.now.items) c.requires.least c.args.table.now.whole number c.requires.parts in
-    let inside : k < length c.jobs.inside.jobs.items = omega (arith, u, c.deref.ensures.len, c.round-jobs.ensures.len, jobs.ok.0) in
+    let inside : k < length c.jobs.inside.jobs.items = omega (arith, u, c.deref.ensures.len, c.work-jobs.ensures.len, jobs.ok.0) in
     ap (λ (js : List Job). length (get_or (map line_of js) k [])) c.deref.ensures.value
-    ∙ ap length (jobs_worked values b e jobs.items _ c.round-jobs.result.items handed over c.round-jobs.ensures.each fits k inside)
+    ∙ ap length (jobs_worked values b e jobs.items _ c.work-jobs.result.items handed over c.work-jobs.ensures.each fits k inside)
     ∙ length-part (values_of values k) (take 11 b) (take 11 e)
 
 pub line_of_parts-requires-clause-lines : goal.line_of_parts-requires-clause-lines
@@ -41,12 +41,12 @@ line_of_parts-requires-clause-lines g c =
     let number : length c.jobs.inside.jobs.items ≡ c.args.jobs.number = sym jobs.ok.0 ∙ ap (λ (l : LineJobsView). l.number) c.jobs.view_is in
     let over : All (HasLine c.args.table.now.items) c.jobs.inside.jobs.items = subst (λ (vs : List K). All (HasLine vs) jobs.items) (ap (λ (l : LineJobsView). l.values) c.jobs.view_is ∙ c.requires.values) c.jobs.invariant.0 in
     let fits = parts_cover c.args.table.now.k (length c.jobs.inside.jobs.items) c.args.jobs.number (length c.args.table.now.items) c.requires.least c.args.table.now.whole number c.requires.parts in
-    let count : length c.deref.result.now ≡ length c.jobs.inside.jobs.items = c.deref.ensures.len ∙ c.round-jobs.ensures.len ∙ jobs.ok.0 in
+    let count : length c.deref.result.now ≡ length c.jobs.inside.jobs.items = c.deref.ensures.len ∙ c.work-jobs.ensures.len ∙ jobs.ok.0 in
     let all : length c.deref.result.now ≡ 2 ^ (c.args.table.now.k - 11) = count ∙ number ∙ c.requires.parts in
     c.collected-lines.ensures
     ∙ joined-same (λ k. get_or (map line_of c.deref.result.now) k []) (λ k. part_line (values_of values k) (take 11 b) (take 11 e)) (length c.deref.result.now) (λ k u.
     ap (λ (js : List Job). get_or (map line_of js) k []) c.deref.ensures.value
-    ∙ jobs_worked values b e jobs.items _ c.round-jobs.result.items handed over c.round-jobs.ensures.each fits k (omega (arith, u, count)))
+    ∙ jobs_worked values b e jobs.items _ c.work-jobs.result.items handed over c.work-jobs.ensures.each fits k (omega (arith, u, count)))
     ∙ ap (part_lines values (take 11 b) (take 11 e)) all
 
 pub aim_all-requires-clause-start : goal.aim_all-requires-clause-start
@@ -55,8 +55,8 @@ aim_all-requires-clause-start g c = search rules
 pub aim_all-requires-clause-end : goal.aim_all-requires-clause-end
 aim_all-requires-clause-end g c = search rules
 
-pub round-jobs-requires : goal.round-jobs-requires
-round-jobs-requires g c = search rules
+pub work-jobs-requires : goal.work-jobs-requires
+work-jobs-requires g c = search rules
 
 pub collected-lines-requires-clause-none : goal.collected-lines-requires-clause-none
 collected-lines-requires-clause-none g c = search rules
@@ -76,8 +76,5 @@ line_of_parts-requires-clause-start g c = search rules
 pub line_of_parts-requires-clause-end : goal.line_of_parts-requires-clause-end
 line_of_parts-requires-clause-end g c = search rules
 
-pub returns-clause-line : goal.returns-clause-line
-returns-clause-line g c = search rules
-
-pub returns-clause-crew : goal.returns-clause-crew
-returns-clause-crew g c = search rules
+pub returns : goal.returns
+returns g c = search rules

@@ -1,5 +1,5 @@
 -- The pieces may be shared among threads
-use Rattle.sumcheck_prove.proofs.api.Crossing.{sums_sync}
+use Rattle.sumcheck_prove.proofs.Crossing.{sums_sync}
 use Rattle.sumcheck_prove.proofs.message.summed_ahead.Goals as goal
 
 pub run-requires-sync-W : goal.run-requires-sync-W
