@@ -8,7 +8,6 @@ ghost use Rattle.proof_two.specs.declared.kind.ProofVersion.TheVariants.{One};
 ghost use Rattle.case_prove.specs.Answers.{IsAnswered, IsProveAnswer, is_proved_case};
 ghost use Rattle.case_prove.specs.Circuits.{RefusesCircuit};
 
-use crate::prover::Workers;
 use crate::proving::prove_case;
 use crate::refused::Refused;
 use arr_compile::BadProgram;
@@ -18,7 +17,6 @@ use proof_two::{ProofKind, ProofVersion};
 use std::alloc::{AllocError, Global};
 use std::marker::{Model, Sync};
 use std::snapshot::Snapshot;
-use std::sync::Wait;
 use std::thread::Threads;
 
 /// A case, which contracts alone see, with the bytes that `prove` writes for it, with a proof of version 1.
@@ -57,7 +55,7 @@ impl Answered {
 }
 
 /// The case with the reply of `prove` to it, which is the case with its proof of version 1 or a refusal.
-pub fn answer_case<R: Threads + Wait + Sync, G: Gate>(
+pub fn answer_case<R: Threads + Sync, G: Gate>(
     rt: &R,
     alloc: Global,
     case: &Case,
@@ -78,7 +76,7 @@ pub fn answer_case<R: Threads + Wait + Sync, G: Gate>(
 }
 
 /// What `prove` says of a case.
-fn prove_reply<R: Threads + Wait + Sync, G: Gate>(
+fn prove_reply<R: Threads + Sync, G: Gate>(
     rt: &R,
     alloc: Global,
     case: &Case,
@@ -89,8 +87,7 @@ fn prove_reply<R: Threads + Wait + Sync, G: Gate>(
     ensures { IfOk result (λ reply. IsProveAnswer (ByLines One) case.now reply) }
 {
     let kind = ProofKind::ByLines(ProofVersion::One);
-    let prover = Workers { rt, workers, gate };
-    match prove_case(alloc, &prover, case, kind) {
+    match prove_case(rt, alloc, case, kind, workers, gate) {
         Ok(proved) => Ok(Reply::Proved(proved)),
         Err(refused) => refused_reply(refused),
     }

@@ -7,6 +7,8 @@ ghost use Rattle.circuit_eval.specs.Tables.{AreTables};
 ghost use Rattle.transcript_fs.specs.Transcript.{transcript};
 ghost use Rattle.proof_wire.specs.Lists.{all_messages, HaveShape};
 ghost use Rattle.gkr_layers.specs.Honest.{AreHonestMessages};
+ghost use Rattle.phase_run.specs.Work.{IsWorkerCount};
+ghost use Rattle.proof_two.specs.Kinds.{form_in};
 ghost use Rattle.arr_compile.specs.Circuits.{IsCompiled};
 ghost use Rattle.case_prove.specs.Circuits.{RefusesCircuit};
 ghost use Rattle.case_prove.specs.Evaluated.{IsEvaluated};
@@ -14,29 +16,36 @@ ghost use Rattle.case_prove.specs.Proved.{IsProved};
 ghost use Rattle.case_prove.specs.Started.{start_of};
 
 use crate::circuit::circuit_of;
-use crate::prover::Prover;
 use crate::refused::Refused;
 use crate::started::transcript_of;
 use arr_compile::laws::{circuit_computes, circuit_is_sound};
 use case_text::Case;
 use circuit_core::Circuit;
-use circuit_eval::Values;
+use circuit_eval::{Values, layer_values};
 use field_ext::Fp;
+use gkr_prove::prove_as;
+use io_edge::Gate;
 use mle_table::BaseTable;
 use proof_two::{ProofKind, encode_kind};
 use proof_wire::{Messages, ProofForm};
 use std::alloc::{AllocError, Global};
+use std::marker::Sync;
+use std::thread::Threads;
+use transcript_fs::laws::always_has;
 
 /// The case with its program's meaning on its inputs as outputs, and with the one honest proof of this kind of them. It is
 /// refused as `Program` exactly where the program's text or its layout is refused so, and else as `Input` exactly where the
-/// numbers of inputs differ. Outputs and proof of the given case play no part. The proof is the same whoever makes it.
-pub fn prove_case<P: Prover>(
+/// numbers of inputs differ. Outputs and proof of the given case play no part. The proof is the same for every number of
+/// workers, which enter the gate as those of `gkr_prove::prove` do.
+pub fn prove_case<R: Threads + Sync, G: Gate>(
+    rt: &R,
     alloc: Global,
-    prover: &P,
     case: &Case,
     kind: ProofKind,
+    workers: u32,
+    gate: &G,
 ) -> Result<Case, Refused>
-    requires ready { P.ready prover.now }
+    requires workers { IsWorkerCount workers }
     ensures proved { IfOk result (λ proved. IsProved kind case.now proved) }
     ensures refused { IfErr result (λ refused. RefusesCircuit case.now refused) }
 {
@@ -44,31 +53,59 @@ pub fn prove_case<P: Prover>(
         Ok(circuit) => circuit,
         Err(refused) => return Err(refused),
     };
-    match prove_laid_out(alloc, prover, case, &circuit, kind) {
+    match prove_laid_out(rt, alloc, case, &circuit, kind, workers, gate) {
         Ok(proved) => Ok(proved),
         Err(_) => Err(Refused::Memory),
     }
 }
 
 /// What `prove_case` gives where the case's program is laid out as this circuit, which isn't compiled again.
-pub fn prove_laid_out<P: Prover>(
+pub fn prove_laid_out<R: Threads + Sync, G: Gate>(
+    rt: &R,
     alloc: Global,
-    prover: &P,
     case: &Case,
     circuit: &Circuit,
     kind: ProofKind,
+    workers: u32,
+    gate: &G,
 ) -> Result<Case, AllocError>
-    requires ready { P.ready prover.now }
     requires compiled { IsCompiled case.now.lang case.now.program circuit.now.parts }
     requires counted { length case.now.inputs ≡ circuit.now.parts.inputs }
+    requires workers { IsWorkerCount workers }
     ensures { IfOk result (λ proved. IsProved kind case.now proved) }
 {
     circuit_is_sound();
-    let values = prover.layer_values(alloc, circuit, case.inputs())?;
+    let values = layer_values(rt, alloc, circuit, case.inputs())?;
     let outputs = meant_outputs(alloc, case, circuit, &values)?;
     let form = kind.form();
-    let messages = honest_messages(alloc, prover, case, circuit, &values, &outputs, form)?;
-    let proof = encode_kind(alloc, kind, &messages)?;
+    let messages = honest_messages(
+        rt, alloc, case, circuit, &values, &outputs, form, workers, gate,
+    )?;
+    proved_case(alloc, case, circuit, kind, outputs, &messages)
+}
+
+/// The case with its program's meaning on its inputs as outputs, which these are, and with the proof of this kind that these honest
+/// messages of them spell.
+pub(crate) fn proved_case(
+    alloc: Global,
+    case: &Case,
+    circuit: &Circuit,
+    kind: ProofKind,
+    outputs: Vec<Fp>,
+    messages: &Messages,
+) -> Result<Case, AllocError>
+    requires compiled { IsCompiled case.now.lang case.now.program circuit.now.parts }
+    requires evaluated { IsEvaluated case.now outputs.items }
+    requires as_many { length outputs.items ≡ circuit.now.parts.outputs }
+    requires honest { AreHonestMessages (form_in kind) circuit.now.parts case.now.inputs transcript
+        (start_of (form_in kind) case.now.program case.now.inputs outputs.items)
+        (all_messages messages.now.layers) }
+    requires shape { HaveShape (form_in kind) (drop 1 (exponents circuit.now.parts))
+        messages.now.layers }
+    ensures { IfOk result (λ proved. IsProved kind case.now proved) }
+{
+    circuit_is_sound();
+    let proof = encode_kind(alloc, kind, messages)?;
     let program = Vec::from_slice(alloc, case.program())?;
     let inputs = Vec::from_slice(alloc, case.inputs())?;
     Ok(Case::new(case.lang(), program, inputs, Some(outputs), Some(proof)))
@@ -110,16 +147,18 @@ fn real_parts(alloc: Global, table: &BaseTable, count: usize) -> Result<Vec<Fp>,
 
 /// The honest messages of the claim that the case's program has these outputs on its inputs, with the challenges of the
 /// transcript of these three.
-fn honest_messages<P: Prover>(
+fn honest_messages<R: Threads + Sync, G: Gate>(
+    rt: &R,
     alloc: Global,
-    prover: &P,
     case: &Case,
     circuit: &Circuit,
     values: &Values,
     outputs: &[Fp],
     form: ProofForm,
+    workers: u32,
+    gate: &G,
 ) -> Result<Messages, AllocError>
-    requires ready { P.ready prover.now }
+    requires workers { IsWorkerCount workers }
     requires tables { AreTables circuit.now.parts case.now.inputs values.now }
     requires few { length outputs.now < 2 ^ 32 }
     ensures honest { IfOk result
@@ -129,6 +168,16 @@ fn honest_messages<P: Prover>(
     ensures shape { IfOk result
         (λ messages. HaveShape form (drop 1 (exponents circuit.now.parts)) messages.layers) }
 {
+    always_has();
     let mut challenges = transcript_of(case, form, outputs);
-    prover.messages(alloc, form, circuit, values, &mut challenges)
+    prove_as(
+        rt,
+        alloc,
+        form,
+        circuit,
+        values,
+        &mut challenges,
+        workers,
+        gate,
+    )
 }

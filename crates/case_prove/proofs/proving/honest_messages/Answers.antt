@@ -9,6 +9,6 @@ use Rattle.case_prove.proofs.proving.honest_messages.Goals as goal
 pub returns-clause-honest : goal.returns-clause-honest
 returns-clause-honest g c =
     let case = c.args.case.now in
-    IfOk-weaker c.messages.result _ _
+    IfOk-weaker c.prove_as.result _ _
     (λ messages honest. subst (λ (s : List ℕ). AreHonestMessages c.args.form c.args.circuit.now.parts case.inputs transcript s (all_messages messages.layers)) c.transcript_of-challenges.ensures (honest case.inputs c.requires.tables))
-    c.messages.ensures.honest
+    c.prove_as.ensures.honest
