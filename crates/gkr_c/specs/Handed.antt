@@ -5,7 +5,7 @@ use Rattle.gkr_words.specs.declared.words.CaseCommand.{CaseCommand}
 use Rattle.gkr_words.specs.declared.words.Command.TheVariants.{OfCase}
 use Rattle.gkr_cmd.specs.declared.status.Status.{Status}
 use Rattle.gkr_cmd.specs.Headline.{Ends, KeepsPromises}
-use Rattle.gkr_cmd.specs.Waiting.{IsHere}
+use Rattle.gkr_cmd.specs.Here.{IsHere}
 use Rattle.gkr_cmd.specs.Replies.{code_of}
 
 -- the ends of a run before it, where its source holds this input and nothing failed

@@ -1,10 +1,10 @@
 pub mod Demo
 pub mod Finished
 pub mod Headline
+pub mod Here
 pub mod Programs
 pub mod Reached
 pub mod Replies
 pub mod RunLaws
 pub mod Runs
 pub mod Reported
-pub mod Waiting

@@ -3,6 +3,7 @@
 ghost use Rattle.std.specs.Prelude.{◌≡◌, ◌≢◌, ◌++◌, ◌≤◌, ◌-◌, length, IfOk, OnOk, IsSome, Some};
 ghost use Rattle.sha2.specs.Sha256.{sha256};
 ghost use Rattle.gkr_layers.specs.declared.verdict.Verdict.TheVariants.{Accepted};
+ghost use Rattle.phase_run.specs.Work.{IsWorkerCount};
 ghost use Rattle.arr_compile.specs.Circuits.{IsCompiled};
 ghost use Rattle.case_prove.specs.Circuits.{RefusesCircuit};
 ghost use Rattle.case_prove.specs.Proved.{IsProved};
@@ -17,19 +18,28 @@ use arr_compile::laws::{
     circuit_computes, compiled_or_refused, one_circuit, one_circuit_refusal, one_tree,
 };
 use case_prove::laws::{one_saying, proved_is_accepted};
-use case_prove::{Prover, Refused, circuit_of, prove_laid_out, verify_laid_out};
+use case_prove::{Refused, circuit_of, prove_laid_out, verify_laid_out};
 use case_text::{Case, DemoSummary, Reply};
 use circuit_core::Circuit;
 use field_ext::Fp;
 use gkr_verify::Verdict;
+use io_edge::Gate;
 use itoa::Buffer;
 use proof_two::{ProofKind, ProofVersion};
 use sha2::{Digest, Sha256};
 use std::alloc::{AllocError, Global};
+use std::marker::Sync;
+use std::thread::Threads;
 
-/// The reply of `demo`: its case is generated, compiled once, proved, and verified.
-pub fn demo<P: Prover>(alloc: Global, prover: &P, number: u32) -> Result<Reply, ReplyError>
-    requires { P.ready prover.now }
+/// The reply of `demo`: its case is generated, compiled once, proved by so many workers, and verified.
+pub fn demo<R: Threads + Sync, G: Gate>(
+    rt: &R,
+    alloc: Global,
+    number: u32,
+    workers: u32,
+    gate: &G,
+) -> Result<Reply, ReplyError>
+    requires { IsWorkerCount workers }
     ensures reply { IfOk result (λ reply. IsDemoAnswer number reply) }
     ensures fault { result ≢ Err ReplyError.ReadFault }
 {
@@ -39,7 +49,7 @@ pub fn demo<P: Prover>(alloc: Global, prover: &P, number: u32) -> Result<Reply, 
         Err(refused) => return Err(out_of_memory(number, refused)),
     };
     let kind = ProofKind::ByLines(ProofVersion::One);
-    let proved = prove_laid_out(alloc, prover, &case, &circuit, kind)?;
+    let proved = prove_laid_out(rt, alloc, &case, &circuit, kind, workers, gate)?;
     accept(alloc, &case, &circuit, &proved)?;
     Ok(Reply::Demo(summary(number, &circuit, &case, &proved)))
 }

@@ -3,14 +3,14 @@
 ghost use Rattle.std.specs.Prelude.{◌≡◌, List, ℕ, IfNone, IfSome, true, false, map, string_bytes};
 ghost use Rattle.gkr_words.specs.Commands.{ReadsCase, command_of};
 ghost use Rattle.gkr_cmd.specs.Headline.{KeepsPromises};
-ghost use Rattle.gkr_cmd.specs.Waiting.{IsHere};
+ghost use Rattle.gkr_cmd.specs.Here.{IsHere};
 
 use crate::output::finish;
 use crate::replying::reply_here;
 use crate::run::run_laws;
 use crate::status::Status;
 use gkr_words::{CaseCommand, Command, named_command};
-use io_edge::{OpenGate, Sink, Source};
+use io_edge::{Sink, Source};
 use std::alloc::Global;
 
 /// Runs a command on a case, as `gkr_run` does for words that name it, on the calling thread alone,
@@ -43,7 +43,7 @@ pub fn run_command<S: Source, K: Sink>(
         }) }
 {
     run_laws();
-    let made = reply_here(alloc, Some(Command::OfCase(command)), source, &OpenGate);
+    let made = reply_here(alloc, Some(Command::OfCase(command)), source);
     finish(alloc, made, sink)
 }
 
@@ -89,7 +89,7 @@ pub fn run_here<S: Source, K: Sink>(
     if !is_here(command) {
         return None;
     }
-    let made = reply_here(alloc, command, source, &OpenGate);
+    let made = reply_here(alloc, command, source);
     Some(finish(alloc, made, sink))
 }
 

@@ -5,9 +5,8 @@
 //! writes it. Its contract is the theorem of the program (`specs/Headline.antt`): status and bytes
 //! are the reply that the definitions give, and a failing source or sink is named exactly where it
 //! failed. `run_program` ends a process with the number of that status. `run_alone` runs all
-//! commands but those whose threads wait for each other, `serve` and a proof by two workers or
-//! more, and returns. `run_command` and `run_here` run the commands on a case with no handle, for a
-//! library.
+//! commands but `serve`, whose threads wait for each other, and returns. `run_command` and `run_here`
+//! run the commands on a case with no handle, for a library.
 //!
 //! ```text
 //! gkr_run(&rt, alloc, &words, &mut source, &mut sink, &OpenGate)      // Status::Done

@@ -1,10 +1,9 @@
 //! The whole program.
 
 ghost use Rattle.std.specs.Prelude.{◌≡◌, IfNone, IfSome, true, false, map, string_bytes};
-ghost use Rattle.gkr_words.specs.Commands.{HasWorkers, ReadsCase, command_of};
+ghost use Rattle.gkr_words.specs.Commands.{HasWorkers, IsService, ReadsCase, command_of};
 ghost use Rattle.gkr_cmd.specs.Headline.{KeepsPromises};
 ghost use Rattle.gkr_cmd.specs.RunLaws.{RunLaws};
-ghost use Rattle.gkr_cmd.specs.Waiting.{Waits};
 
 use crate::laws::{
     accepted_is_done, audited_is_done, converted_replies_alike, convertible_is_done, demo_is_done,
@@ -19,7 +18,7 @@ use case_prove::laws::{
     proved_is_unnamed, sound,
 };
 use case_text::laws::read_exactly;
-use gkr_words::{CaseCommand, Command, named_command};
+use gkr_words::{Command, named_command};
 use io_edge::{Gate, Sink, Source};
 use std::alloc::Global;
 use std::marker::Sync;
@@ -53,11 +52,10 @@ pub(crate) fn run_laws()
     read_exactly();
 }
 
-/// Runs the command that the words name, as `gkr_run` does, unless that may keep workers or is
-/// `serve`.
+/// Runs the command that the words name, as `gkr_run` does, unless it is `serve`.
 ///
-/// No bound lets it wait, so it returns. None is answered where the words name `prove` or `demo`
-/// with two workers or more, or `serve`, and then nothing was read or written.
+/// No bound lets it wait, so it returns. None is answered where the words name `serve`, and then
+/// nothing was read or written.
 #[tactic(auto, using(crate::proofs::InputReads::none_within))]
 pub fn run_alone<R: Threads + Sync, S: Source, K: Sink, G: Gate>(
     rt: &R,
@@ -87,7 +85,7 @@ pub fn run_alone<R: Threads + Sync, S: Source, K: Sink, G: Gate>(
     })) }
     ensures unread { ¬ ReadsCase (command_of (map string_bytes words.now))
         → source.new ≡ source.old }
-    ensures waits { IfNone result (Waits (command_of (map string_bytes words.now))) }
+    ensures service { IfNone result (IsService (command_of (map string_bytes words.now))) }
     ensures untaken { IfNone result (source.new ≡ source.old) }
     ensures unwritten { IfNone result (sink.new ≡ sink.old) }
 {
@@ -95,28 +93,26 @@ pub fn run_alone<R: Threads + Sync, S: Source, K: Sink, G: Gate>(
     let Ok(command) = named_command(alloc, words) else {
         return Some(Status::Memory);
     };
-    if waits(command) {
+    if is_service(command) {
         return None;
     }
     let made = reply_alone(rt, alloc, command, source, gate);
     Some(finish(alloc, made, sink))
 }
 
-/// Whether a command may keep workers, or is `serve`.
-fn waits(command: Option<Command>) -> bool
-    ensures waits { result ≡ true → Waits command }
-    ensures alone { result ≡ false → ¬ Waits command }
+/// Whether a command is `serve`.
+fn is_service(command: Option<Command>) -> bool
+    ensures service { result ≡ true → IsService command }
+    ensures alone { result ≡ false → ¬ IsService command }
 {
     match command {
-        None | Some(Command::Session { .. }) => false,
-        Some(Command::OfCase(CaseCommand::Prove { workers, .. })) => workers > 1,
-        Some(Command::OfCase(_)) => false,
-        Some(Command::Demo { workers, .. }) => workers > 1,
+        None | Some(Command::OfCase(_)) => false,
+        Some(Command::Demo { .. } | Command::Session { .. }) => false,
         Some(Command::Serve { .. } | Command::ServeHistory { .. }) => true,
     }
 }
 
-/// Runs the command that the words name, which may keep workers or is `serve`.
+/// Runs `serve`, which the words name.
 #[tactic(auto, using(crate::proofs::InputReads::none_within))]
 fn run_waiting<R: Threads + Wait + Sync, S: Source, K: Sink, G: Gate>(
     rt: &R,
@@ -126,7 +122,7 @@ fn run_waiting<R: Threads + Wait + Sync, S: Source, K: Sink, G: Gate>(
     sink: &mut K,
     gate: &G,
 ) -> Status
-    requires waits { Waits (command_of (map string_bytes words.now)) }
+    requires service { IsService (command_of (map string_bytes words.now)) }
     ensures run { KeepsPromises (record {
       words = map string_bytes words.now;
       before = record {
@@ -158,8 +154,8 @@ fn run_waiting<R: Threads + Wait + Sync, S: Source, K: Sink, G: Gate>(
 
 /// Runs the command that the words name: reads the whole input, makes the whole reply, writes it.
 ///
-/// Workers that are kept wait for each other, and so do the threads of `serve`. All other commands
-/// are run by `run_alone`, which returns.
+/// The threads of `serve` wait for each other. All other commands are run by `run_alone`, which
+/// returns.
 pub fn gkr_run<R: Threads + Wait + Sync, S: Source, K: Sink, G: Gate>(
     rt: &R,
     alloc: Global,

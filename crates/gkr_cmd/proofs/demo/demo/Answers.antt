@@ -22,8 +22,8 @@ prove_laid_out-requires-clause-compiled g c = search rules
 pub prove_laid_out-requires-clause-counted : goal.prove_laid_out-requires-clause-counted
 prove_laid_out-requires-clause-counted g c = search rules
 
-pub prove_laid_out-requires-clause-ready : goal.prove_laid_out-requires-clause-ready
-prove_laid_out-requires-clause-ready g c = search rules
+pub prove_laid_out-requires-clause-workers : goal.prove_laid_out-requires-clause-workers
+prove_laid_out-requires-clause-workers g c = search rules
 
 pub returns-in_err-proved-clause-reply : goal.returns-in_err-proved-clause-reply
 returns-in_err-proved-clause-reply g c = search rules

@@ -14,65 +14,23 @@ unreachable-requires g c = search rules
 pub unreachable-unreachable : goal.unreachable-unreachable
 unreachable-unreachable g c = search rules
 
-pub returns-in-Some-OfCase-Prove-clause-reply : goal.returns-in-Some-OfCase-Prove-clause-reply
-returns-in-Some-OfCase-Prove-clause-reply g c = search rules
+pub returns-clause-reply : goal.returns-clause-reply
+returns-clause-reply g c = search rules
 
-pub returns-in-Some-OfCase-Prove-clause-usage : goal.returns-in-Some-OfCase-Prove-clause-usage
-returns-in-Some-OfCase-Prove-clause-usage g c = search rules
+pub returns-clause-usage : goal.returns-clause-usage
+returns-clause-usage g c = search rules
 
-pub returns-in-Some-OfCase-Prove-clause-read : goal.returns-in-Some-OfCase-Prove-clause-read
-returns-in-Some-OfCase-Prove-clause-read g c = search rules
+pub returns-clause-read : goal.returns-clause-read
+returns-clause-read g c = search rules
 
-pub returns-in-Some-OfCase-Prove-clause-within : goal.returns-in-Some-OfCase-Prove-clause-within
-returns-in-Some-OfCase-Prove-clause-within g c = grind (arith, elements)
+pub returns-clause-within : goal.returns-clause-within
+returns-clause-within g c = grind (arith, elements)
 
-pub returns-in-Some-OfCase-Prove-clause-unread : goal.returns-in-Some-OfCase-Prove-clause-unread
-returns-in-Some-OfCase-Prove-clause-unread g c = search rules
+pub returns-clause-unread : goal.returns-clause-unread
+returns-clause-unread g c = search rules
 
-pub returns-in-Some-OfCase-Prove-clause-fault : goal.returns-in-Some-OfCase-Prove-clause-fault
-returns-in-Some-OfCase-Prove-clause-fault g c = search rules
+pub returns-clause-fault : goal.returns-clause-fault
+returns-clause-fault g c = search rules
 
-pub returns-in-Some-OfCase-Prove-clause-no_fault : goal.returns-in-Some-OfCase-Prove-clause-no_fault
-returns-in-Some-OfCase-Prove-clause-no_fault g c = search rules
-
-pub returns-in-Some-Demo-clause-reply : goal.returns-in-Some-Demo-clause-reply
-returns-in-Some-Demo-clause-reply g c = search rules
-
-pub returns-in-Some-Demo-clause-usage : goal.returns-in-Some-Demo-clause-usage
-returns-in-Some-Demo-clause-usage g c = search rules
-
-pub returns-in-Some-Demo-clause-read : goal.returns-in-Some-Demo-clause-read
-returns-in-Some-Demo-clause-read g c = search rules
-
-pub returns-in-Some-Demo-clause-within : goal.returns-in-Some-Demo-clause-within
-returns-in-Some-Demo-clause-within g c = search rules
-
-pub returns-in-Some-Demo-clause-unread : goal.returns-in-Some-Demo-clause-unread
-returns-in-Some-Demo-clause-unread g c = search rules
-
-pub returns-in-Some-Demo-clause-fault : goal.returns-in-Some-Demo-clause-fault
-returns-in-Some-Demo-clause-fault g c = search rules
-
-pub returns-in-Some-Demo-clause-no_fault : goal.returns-in-Some-Demo-clause-no_fault
-returns-in-Some-Demo-clause-no_fault g c = search rules
-
-pub returns-in-Some-Serve-clause-reply : goal.returns-in-Some-Serve-clause-reply
-returns-in-Some-Serve-clause-reply g c = search rules
-
-pub returns-in-Some-Serve-clause-usage : goal.returns-in-Some-Serve-clause-usage
-returns-in-Some-Serve-clause-usage g c = search rules
-
-pub returns-in-Some-Serve-clause-read : goal.returns-in-Some-Serve-clause-read
-returns-in-Some-Serve-clause-read g c = search rules
-
-pub returns-in-Some-Serve-clause-within : goal.returns-in-Some-Serve-clause-within
-returns-in-Some-Serve-clause-within g c = grind (arith, elements)
-
-pub returns-in-Some-Serve-clause-unread : goal.returns-in-Some-Serve-clause-unread
-returns-in-Some-Serve-clause-unread g c = search rules
-
-pub returns-in-Some-Serve-clause-fault : goal.returns-in-Some-Serve-clause-fault
-returns-in-Some-Serve-clause-fault g c = search rules
-
-pub returns-in-Some-Serve-clause-no_fault : goal.returns-in-Some-Serve-clause-no_fault
-returns-in-Some-Serve-clause-no_fault g c = search rules
+pub returns-clause-no_fault : goal.returns-clause-no_fault
+returns-clause-no_fault g c = search rules

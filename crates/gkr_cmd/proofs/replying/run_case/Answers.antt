@@ -51,8 +51,8 @@ returns-then-is_too_long-clause-fault g c = search rules
 pub returns-then-is_too_long-clause-no_fault : goal.returns-then-is_too_long-clause-no_fault
 returns-then-is_too_long-clause-no_fault g c = search rules
 
-pub answer-requires-clause-limit : goal.answer-requires-clause-limit
-answer-requires-clause-limit g c = search rules
+pub answer-requires : goal.answer-requires
+answer-requires g c = search rules
 
 pub returns-clause-named : goal.returns-clause-named
 returns-clause-named g c = search rules

@@ -1,8 +1,8 @@
 use Rattle.std.proofs.Common.{rules}
 use Rattle.gkr_cmd.proofs.run.gkr_run.Goals as goal
 
-pub run_waiting-requires-clause-waits : goal.run_waiting-requires-clause-waits
-run_waiting-requires-clause-waits g c = search rules
+pub run_waiting-requires-clause-service : goal.run_waiting-requires-clause-service
+run_waiting-requires-clause-service g c = search rules
 
 pub returns-in-Some-clause-run : goal.returns-in-Some-clause-run
 returns-in-Some-clause-run g c = search rules

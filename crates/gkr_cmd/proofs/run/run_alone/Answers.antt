@@ -33,8 +33,8 @@ returns-in_default-clause-run g c = search rules
 pub returns-in_default-clause-unread : goal.returns-in_default-clause-unread
 returns-in_default-clause-unread g c = search rules
 
-pub returns-in_default-clause-waits : goal.returns-in_default-clause-waits
-returns-in_default-clause-waits g c = search rules
+pub returns-in_default-clause-service : goal.returns-in_default-clause-service
+returns-in_default-clause-service g c = search rules
 
 pub returns-in_default-clause-untaken : goal.returns-in_default-clause-untaken
 returns-in_default-clause-untaken g c = search rules
@@ -54,8 +54,8 @@ reply_alone-made-requires-clause-alone g c = search rules
 pub returns-clause-unread : goal.returns-clause-unread
 returns-clause-unread g c = search rules
 
-pub returns-clause-waits : goal.returns-clause-waits
-returns-clause-waits g c = search rules
+pub returns-clause-service : goal.returns-clause-service
+returns-clause-service g c = search rules
 
 pub returns-clause-untaken : goal.returns-clause-untaken
 returns-clause-untaken g c = search rules

@@ -36,8 +36,8 @@ returns-in_default-clause-unread g c = search rules
 pub reply_waiting-made-requires-clause-workers : goal.reply_waiting-made-requires-clause-workers
 reply_waiting-made-requires-clause-workers g c = search rules
 
-pub reply_waiting-made-requires-clause-waits : goal.reply_waiting-made-requires-clause-waits
-reply_waiting-made-requires-clause-waits g c = search rules
+pub reply_waiting-made-requires-clause-service : goal.reply_waiting-made-requires-clause-service
+reply_waiting-made-requires-clause-service g c = search rules
 
 pub returns-clause-unread : goal.returns-clause-unread
 returns-clause-unread g c = search rules
