@@ -14,12 +14,11 @@ use circuit_eval::Values;
 use field_ext::Fp;
 use std::io;
 use std::marker::Sync;
-use std::sync::Wait;
 use std::thread::Threads;
 use std::time::Instant;
 
 /// How many nanoseconds a proof by so many workers took.
-fn time_proof<R: Threads + Wait + Sync>(
+fn time_proof<R: Threads + Sync>(
     rt: &HostRuntime,
     threads: &R,
     circuit: &Circuit,
@@ -37,7 +36,7 @@ fn time_proof<R: Threads + Wait + Sync>(
 }
 
 /// The least of forty times for each of one to four workers in nanoseconds, which take turns, so that they meet the same load.
-fn least_times<R: Threads + Wait + Sync>(
+fn least_times<R: Threads + Sync>(
     rt: &HostRuntime,
     threads: &R,
     circuit: &Circuit,
@@ -76,7 +75,7 @@ fn print_time(
 }
 
 /// Prints what a proof of these outputs takes with one to four workers.
-fn print_times<R: Threads + Wait + Sync>(
+fn print_times<R: Threads + Sync>(
     rt: &HostRuntime,
     threads: &R,
     circuit: &Circuit,
@@ -95,7 +94,7 @@ fn print_times<R: Threads + Wait + Sync>(
 }
 
 /// Prints what a proof of a circuit takes with one to four workers, where it has outputs.
-fn print_circuit<R: Threads + Wait + Sync>(
+fn print_circuit<R: Threads + Sync>(
     rt: &HostRuntime,
     threads: &R,
     circuit: &Circuit,
@@ -109,7 +108,7 @@ fn print_circuit<R: Threads + Wait + Sync>(
 
 /// Prints what a proof of eight layers of `2^k` random gates takes with one to four workers, each as nanoseconds a gate and as a
 /// ratio to one worker, both with two digits.
-pub fn layers<R: Threads + Wait + Sync>(rt: &HostRuntime, threads: &R, k: u32) -> io::Result<()> {
+pub fn layers<R: Threads + Sync>(rt: &HostRuntime, threads: &R, k: u32) -> io::Result<()> {
     match tangled(rt.alloc(), k)? {
         Some(circuit) => print_circuit(rt, threads, &circuit, k),
         None => println!(rt; "workers: no layers of that size"),

@@ -11,14 +11,13 @@ use pair_reduce::encode_pair;
 use proof_wire::{ProofForm, encode};
 use std::marker::Sync;
 use std::process::Abort;
-use std::sync::Wait;
 use std::test::Fail;
 use std::thread::Threads;
 use test_circuits::{copy, numbers, product};
 use transcript_fs::{Challenges, Given};
 
 /// The bytes of the proof by lines with these challenges.
-fn proved<R: Abort + AllocGlobal + Threads + Wait + Sync>(
+fn proved<R: Abort + AllocGlobal + Threads + Sync>(
     rt: &R,
     circuit: &Circuit,
     inputs: &[Fp],
@@ -33,7 +32,7 @@ fn proved<R: Abort + AllocGlobal + Threads + Wait + Sync>(
 }
 
 /// Sees the proof by lines with these challenges.
-fn proves<R: Abort + AllocGlobal + Threads + Wait + Sync>(
+fn proves<R: Abort + AllocGlobal + Threads + Sync>(
     rt: &R,
     circuit: &Circuit,
     inputs: &[Fp],
@@ -76,7 +75,7 @@ fn proves_a_product(rt: HostRuntime) -> Result<(), Fail> {
 }
 
 /// The bytes of the proof by pairs with these challenges.
-fn proved_by_pairs<R: Abort + AllocGlobal + Threads + Wait + Sync>(
+fn proved_by_pairs<R: Abort + AllocGlobal + Threads + Sync>(
     rt: &R,
     circuit: &Circuit,
     inputs: &[Fp],
@@ -91,7 +90,7 @@ fn proved_by_pairs<R: Abort + AllocGlobal + Threads + Wait + Sync>(
 }
 
 /// Sees the proof by pairs with these challenges.
-fn proves_by_pairs<R: Abort + AllocGlobal + Threads + Wait + Sync>(
+fn proves_by_pairs<R: Abort + AllocGlobal + Threads + Sync>(
     rt: &R,
     circuit: &Circuit,
     inputs: &[Fp],

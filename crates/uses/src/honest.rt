@@ -14,14 +14,13 @@ use gkr_prove::prove;
 use io_edge::OpenGate;
 use std::alloc::{AllocError, Global};
 use std::marker::Sync;
-use std::sync::Wait;
 use std::thread::Threads;
 use transcript_fs::laws::always_has;
 use transcript_fs::{Statement, Transcript};
 
 /// Proves by so many workers what a statement says of a circuit, and checks the proof with challenges of the same transcript.
 /// Where the statement's outputs are the circuit's, it is accepted.
-pub fn prove_and_check<R: Threads + Wait + Sync>(
+pub fn prove_and_check<R: Threads + Sync>(
     rt: &R,
     alloc: Global,
     circuit: &Circuit,
