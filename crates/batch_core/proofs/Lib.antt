@@ -1,0 +1,6 @@
+pub mod api
+mod AtField
+mod BatchTables
+mod Inputs
+mod OneInstance
+mod Worked

@@ -1,0 +1,5 @@
+pub mod Copies
+pub mod CopiedWiring
+pub mod CopiedValues
+pub mod BatchClaim
+pub mod Examples
