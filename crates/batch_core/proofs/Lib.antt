@@ -1,6 +1,8 @@
 pub mod api
 mod AtField
 mod BatchTables
+mod FilledWeights
+mod WholePoints
 mod Inputs
 mod OneInstance
 mod Worked

@@ -11,5 +11,12 @@
 //! ```
 #![tactic(auto)]
 
+mod copied_wiring;
+mod copies;
 pub mod examples;
 pub mod laws;
+mod weights;
+
+pub use copied_wiring::{same_copy, wiring_of_copies};
+pub use copies::copy_exponent;
+pub use weights::fill_weights;
