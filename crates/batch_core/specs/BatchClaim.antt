@@ -8,7 +8,8 @@ use Rattle.gkr_layers.specs.Layers.{layers_of}
 use Rattle.gkr_layers.specs.Acceptance.{CircuitClaim, claim_in}
 use Rattle.batch_core.specs.Copies.{copies_table, copied_layers, copy_exponent, instance_of}
 
--- an instance: its own inputs, which come after the shared ones, and the outputs that are claimed for it
+-- an instance: its own inputs, which come after the shared ones, and the outputs that are claimed
+-- for it
 pub record Instance : Type 0 where
   pub own : List F
   pub outputs : List F
@@ -28,8 +29,9 @@ abbrev pub copy_claim : ProofForm → Parts → List F → List Instance → ℕ
 copy_claim form p shared instances c =
     instance_claim form p shared instances (instance_of (length instances) c)
 
--- That a circuit on the inputs of each instance, of which there is one at least, has the outputs of that instance: the claim on the
--- circuit's copies. There are as many copies as the least power of two that is no less than the number of instances.
+-- That a circuit on the inputs of each instance, of which there is one at least, has the outputs
+-- of that instance: the claim on the circuit's copies. There are as many copies as the least power
+-- of two that is no less than the number of instances.
 abbrev pub claim_of_batch : ProofForm → Parts → List F → List Instance → CircuitClaim
 claim_of_batch form p shared instances =
     let n = copy_exponent (length instances) in

@@ -1,5 +1,7 @@
--- Gates, layers and tables of many copies of one circuit, side by side. The copy's bits are the high bits of a position.
-use Rattle.std.specs.Prelude.{ℕ, zero, suc, ◌+◌, ◌-◌, ◌*◌, ◌^◌, min, List, [], ◌++◌, map, nat_lt, if◌then◌else◌}
+-- Gates, layers and tables of many copies of one circuit, side by side. The copy's bits are the
+-- high bits of a position.
+use Rattle.std.specs.Prelude.{ℕ, zero, suc, ◌+◌, ◌-◌, ◌*◌, ◌^◌, min, nat_lt, if◌then◌else◌}
+use Rattle.std.specs.Prelude.{List, [], ◌++◌, map}
 use Rattle.circuit_core.specs.declared.gate.CircuitGate.{CircuitGate}
 use Rattle.gkr_layers.specs.Layers.{GateLayer}
 
@@ -16,7 +18,8 @@ copies_table n table = joined (2 ^ n) table
 abbrev pub moved : ℕ → CircuitGate → CircuitGate
 moved by gate = record { kind = gate.kind; left = by + gate.left; right = by + gate.right }
 
--- the gates of a layer over 2 ^ k positions in 2 ^ n copies: those of copy c have operands from c * 2 ^ k on
+-- the gates of a layer over 2 ^ k positions in 2 ^ n copies: those of copy c have operands from
+-- c * 2 ^ k on
 abbrev pub copies : ℕ → ℕ → List CircuitGate → List CircuitGate
 copies n k gates = copies_table n (λ c. map (moved (c * 2 ^ k)) gates)
 
@@ -35,6 +38,7 @@ powers_below (suc m) number = powers_below m number + (if nat_lt (2 ^ m) number 
 abbrev pub copy_exponent : ℕ → ℕ
 copy_exponent count = powers_below count count
 
--- the instance that copy c stands for, of so many: the copies past the last instance are copies of the last
+-- the instance that copy c stands for, of so many: the copies past the last instance are copies of
+-- the last
 abbrev pub instance_of : ℕ → ℕ → ℕ
 instance_of count c = min c (count - 1)
