@@ -11,7 +11,7 @@
 //! a `&mut usize` a pointer. No export has a condition on its values. Numbers of kinds and versions
 //! are those of `choices`; what a number that is answered says is in `docs/commands.md`, and 7
 //! never comes, since memory doesn't fail to be read. 8 comes where no memory was found for the
-//! reply's bytes when the reply had been made; then nothing of it is handed out.
+//! bytes of the reply; then what is handed out is a prefix of it, which may be empty.
 //!
 //! ```text
 //! size_t needed;
