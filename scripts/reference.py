@@ -10,11 +10,16 @@
     scripts/reference.py audit     reads one with a proof by lines, and writes what an audit finds
     scripts/reference.py convert --to 2     reads one with a proof by lines, and writes it with that proof in version 2, or 1
     scripts/reference.py vector    reads such a case, and writes its statement's bytes, sizes and first challenges
+    scripts/reference.py eval-many      reads a batch without outputs and proof, and writes the outputs of each instance
+    scripts/reference.py prove-many     writes it with them and a proof by lines; with --proof 2 or --proof pair another one
+    scripts/reference.py verify-many    reads a batch with outputs and a proof, and writes the verdict
 
 It is written for reading and not for speed, in Python's standard library alone, shares nothing with gkr but the documents, and is
-proved by nobody. A program that gkr refuses it refuses too, or runs on: it knows no kinds, no places and no limits.
+proved by nobody. A program that gkr refuses it refuses too, or runs on: it knows no kinds and no places in one. Of a case it knows
+no limits either; of a batch it writes each other refusal as it is due.
 """
 
+import collections
 import hashlib
 import re
 import sys
@@ -381,6 +386,7 @@ class Circuit:
         rows.append([None] + outputs)
         width = lambda row: max(2, 1 << (len(row) - 1).bit_length())
         self.inputs, self.outputs = made.inputs, len(outputs)
+        self.positions = [len(row) for row in rows]
         self.leaves = [nodes[at] for at in rows[0][1:]]
         self.widths = [width(row) for row in reversed(rows)]
         self.gates = []
@@ -401,13 +407,41 @@ class Circuit:
         values = [inputs[what] if word == "input" else what for word, what in self.leaves]
         return padded([0] + values, self.widths[-1])
 
-    def tables(self, inputs):
-        """Returns the values of all layers, the output layer's first."""
-        tables = [self.input_table(inputs)]
-        for gates in reversed(self.gates):
-            below = tables[0]
-            tables.insert(0, [(add if word == "add" else mul)(below[left], below[right]) for word, left, right in gates])
-        return tables
+    def values(self, inputs):
+        """Returns the outputs."""
+        return [x for x, _ in tables_over(self.gates, self.input_table(inputs))[0][1 : self.outputs + 1]]
+
+    def claim(self, inputs, outputs):
+        return Claim(self.gates, self.exponents, self.input_table(inputs), padded([0] + outputs, self.widths[0]))
+
+
+def tables_over(gates, input_table):
+    """Returns the values of all layers, the output layer's first."""
+    tables = [input_table]
+    for layer in reversed(gates):
+        below = tables[0]
+        tables.insert(0, [(add if word == "add" else mul)(below[left], below[right]) for word, left, right in layer])
+    return tables
+
+
+class Claim:
+    """That layers of gates over an input table have this output table."""
+
+    def __init__(self, gates, exponents, input_table, output_table):
+        self.gates, self.exponents, self.input_table, self.output_table = gates, exponents, input_table, output_table
+
+    def outputs_at(self, place):
+        return value_over(self.output_table, place)
+
+    def inputs_at(self, place):
+        return value_over(self.input_table, place)
+
+    def wiring_at(self, layer, place, left, right):
+        """Returns the layer's wiring polynomials, that of its add gates and that of its multiply gates."""
+        sums = {"add": ZERO, "mul": ZERO}
+        for at, (word, u, v) in enumerate(self.gates[layer]):
+            sums[word] = add(sums[word], mul(eq_over(place, at), mul(eq(left, u), eq(right, v))))
+        return sums["add"], sums["mul"]
 
 
 def padded(numbers, width):
@@ -453,9 +487,8 @@ def eq(point, index):
 
 
 class Transcript:
-    def __init__(self, program, inputs, outputs, by_pairs):
-        name = b"gkr-transcript-p\n" if by_pairs else b"gkr-transcript-1\n"
-        self.state = hashlib.sha256(name + statement_of(program, inputs, outputs)).digest()
+    def __init__(self, name, statement):
+        self.state = hashlib.sha256(name + b"\n" + statement).digest()
         self.start, self.drawn = self.state, []
 
     def absorb(self, elements):
@@ -467,9 +500,20 @@ class Transcript:
         return self.drawn[-1]
 
 
+def words_of(numbers):
+    return b"".join(one.to_bytes(4, "little") for one in numbers)
+
+
+def listed(numbers):
+    return words_of([len(numbers), *numbers])
+
+
 def statement_of(program, inputs, outputs):
-    words = lambda numbers: b"".join(one.to_bytes(4, "little") for one in [len(numbers), *numbers])
-    return len(program).to_bytes(4, "little") + program + words(inputs) + words(outputs)
+    return words_of([len(program)]) + program + listed(inputs) + listed(outputs)
+
+
+def transcript_of(program, inputs, outputs, by_pairs):
+    return Transcript(b"gkr-transcript-p" if by_pairs else b"gkr-transcript-1", statement_of(program, inputs, outputs))
 
 
 # The prover.
@@ -477,16 +521,20 @@ def statement_of(program, inputs, outputs):
 
 def prove(lang, program, inputs, kind="1"):
     """Returns the outputs and the proof's bytes, by lines in version 1 or 2, or by pairs."""
-    by_pairs = kind == "pair"
     circuit = Circuit(lang, program.decode())
     if len(inputs) != circuit.inputs:
         raise ValueError("inputs")
-    tables = circuit.tables(inputs)
-    outputs = [x for x, _ in tables[0][1 : circuit.outputs + 1]]
-    transcript = Transcript(program, inputs, outputs, by_pairs)
-    place = [([transcript.challenge() for _ in range(circuit.exponents[0])], ONE)]
+    outputs = circuit.values(inputs)
+    return outputs, honest_proof(circuit.claim(inputs, outputs), transcript_of(program, inputs, outputs, kind == "pair"), kind)
+
+
+def honest_proof(claim, transcript, kind):
+    """Returns the proof's bytes of a claim that is true."""
+    by_pairs = kind == "pair"
+    tables = tables_over(claim.gates, claim.input_table)
+    place = [([transcript.challenge() for _ in range(claim.exponents[0])], ONE)]
     proof = b"GKRP" if by_pairs else b"GKR" + kind.encode()
-    for gates, below, k in zip(circuit.gates, tables[1:], circuit.exponents[1:]):
+    for gates, below, k in zip(claim.gates, tables[1:], claim.exponents[1:]):
         weights = [eq_over(place, at) for at in range(len(gates))]
         drawn = []
         for done in range(2 * k):
@@ -499,7 +547,7 @@ def prove(lang, program, inputs, kind="1"):
         proof += b"".join(bytes_of(one) for one in message)
         transcript.absorb(message)
         place = place_below(left, right, transcript.challenge(), by_pairs)
-    return outputs, proof
+    return proof
 
 
 def round_message(gates, weights, below, k, drawn, done):
@@ -567,52 +615,82 @@ def printed(x):
 def verify(lang, program, inputs, outputs, proof):
     """Returns the lines on the equations that fail, the circuit, the transcript and the messages, which version 2 has filled in."""
     circuit = Circuit(lang, program.decode())
-    by_pairs, short = proof[3:4] == b"P", proof[3:4] == b"2"
-    transcript = Transcript(program, inputs, outputs, by_pairs)
     if len(inputs) != circuit.inputs or len(outputs) != circuit.outputs:
         raise ValueError("counts")
-    last = lambda k: 2 if by_pairs else k + 1
+    transcript = transcript_of(program, inputs, outputs, proof[3:4] == b"P")
+    failing, messages = judged(circuit.claim(inputs, outputs), transcript, proof)
+    return failing, circuit, transcript, messages
+
+
+def length_of(exponents, kind):
+    """Returns the bytes of a proof in version 1 or 2, or by pairs."""
+    each, last = {"1": (56, 8), "2": (40, 8), "pair": (48, 16)}[kind]
+    return 4 + sum(each * k + last for k in exponents[1:])
+
+
+def draws_of(exponents):
+    return exponents[0] + sum(2 * k + 1 for k in exponents[1:])
+
+
+def bound_of(exponents, kind):
+    """Returns how many values of all challenges are exceptional at most."""
+    return exponents[0] + sum(4 * k + 1 if kind == "pair" else 5 * k for k in exponents[1:])
+
+
+def trouble_of(proof, exponents):
+    """Returns why bytes are no proof, or None."""
+    kind = {b"P": "pair", b"2": "2"}.get(proof[3:4], "1")
+    magic = b"GKRP" if kind == "pair" else b"GKR" + kind.encode()
+    length = length_of(exponents, kind)
+    for at, (had, want) in enumerate(zip(proof, magic)):
+        if had != want:
+            return f"magic {at}"
+    for at in range(4, length, 8):
+        if len(proof) < at + 8:
+            return f"short {len(proof)} {length}"
+        if any(int.from_bytes(proof[half : half + 4], "little") >= P for half in (at, at + 4)):
+            return f"range {at}"
+    return f"long {len(proof) - length}" if len(proof) > length else None
+
+
+def judged(claim, transcript, proof):
+    """Returns the lines on the equations that fail, and the messages, which version 2 has filled in."""
+    by_pairs, short = proof[3:4] == b"P", proof[3:4] == b"2"
+    if trouble_of(proof, claim.exponents):
+        raise Refused(6, "proof " + trouble_of(proof, claim.exponents))
+    elements = [tuple(int.from_bytes(proof[half : half + 4], "little") for half in (at, at + 4)) for at in range(4, len(proof), 8)]
     each = 2 if short else 3
-    length = 4 + sum(16 * each * k + 8 * last(k) for k in circuit.exponents[1:])
-    if proof[:4] not in (b"GKR1", b"GKR2", b"GKRP") or len(proof) != length:
-        raise ValueError("proof")
-    elements = [
-        tuple(int.from_bytes(proof[at + half : at + half + 4], "little") for half in (0, 4)) for at in range(4, length, 8)
-    ]
-    if any(half >= P for one in elements for half in one):
-        raise ValueError("proof")
-    place = [([transcript.challenge() for _ in range(circuit.exponents[0])], ONE)]
-    claim = value_over(padded([0] + outputs, circuit.widths[0]), place)
+    place = [([transcript.challenge() for _ in range(claim.exponents[0])], ONE)]
+    value = claim.outputs_at(place)
     failing, messages = [], []
-    for layer, (gates, k) in enumerate(zip(circuit.gates, circuit.exponents[1:])):
+    for layer, k in enumerate(claim.exponents[1:]):
         drawn = []
         for number in range(2 * k):
             message, elements = elements[:each], elements[each:]
-            message = filled(message, claim) if short else message
+            message = filled(message, value) if short else message
             had = add(value_at(message, ZERO), value_at(message, ONE))
-            if had != claim:
-                failing.append(f"rejected sum {layer} {number + 1} {printed(had)} {printed(claim)}")
+            if had != value:
+                failing.append(f"rejected sum {layer} {number + 1} {printed(had)} {printed(value)}")
             messages.append(message)
             transcript.absorb(message)
             drawn.append(transcript.challenge())
-            claim = value_at(message, drawn[-1])
-        message, elements = elements[: last(k)], elements[last(k) :]
+            value = value_at(message, drawn[-1])
+        last = 2 if by_pairs else k + 1
+        message, elements = elements[:last], elements[last:]
         left, right = drawn[:k], drawn[k:]
         low, high = message if by_pairs else (value_at(message, ZERO), value_at(message, ONE))
-        want = ZERO
-        for at, (word, u, v) in enumerate(gates):
-            factor = mul(eq_over(place, at), mul(eq(left, u), eq(right, v)))
-            want = add(want, mul(factor, (add if word == "add" else mul)(low, high)))
-        if want != claim:
-            failing.append(f"rejected end {layer} {printed(claim)} {printed(want)}")
+        adds, products = claim.wiring_at(layer, place, left, right)
+        want = add(mul(adds, add(low, high)), mul(products, mul(low, high)))
+        if want != value:
+            failing.append(f"rejected end {layer} {printed(value)} {printed(want)}")
         messages.append(message)
         transcript.absorb(message)
         t = transcript.challenge()
-        place, claim = place_below(left, right, t, by_pairs), value_at(message, t)
-    want = value_over(circuit.input_table(inputs), place)
-    if want != claim:
-        failing.append(f"rejected input {printed(claim)} {printed(want)}")
-    return failing, circuit, transcript, messages
+        place, value = place_below(left, right, t, by_pairs), value_at(message, t)
+    want = claim.inputs_at(place)
+    if want != value:
+        failing.append(f"rejected input {printed(value)} {printed(want)}")
+    return failing, messages
 
 
 def verdict_of(failing):
@@ -644,17 +722,32 @@ def audit(lang, program, inputs, outputs, proof):
     failing, circuit, transcript, messages = verify(lang, program, inputs, outputs, proof)
     if proof[3:4] == b"P":
         raise ValueError("proof")
-    tables = circuit.tables(inputs)
-    k = circuit.exponents[0]
-    point, behind = transcript.drawn[:k], transcript.drawn[k:]
-    claimed, differs, exceptional = padded([0] + outputs, circuit.widths[0]), [], []
-    difference = [sub(x, y) for x, y in zip(claimed, tables[0])]
+    differs, exceptional = findings(circuit.claim(inputs, outputs), transcript.drawn, messages)
+    first = exceptional[0] if exceptional else None
+    return "".join(
+        line + "\n"
+        for line in (
+            verdict_of(failing),
+            "meaning same" if outputs == circuit.values(inputs) else "meaning differs",
+            "message " + (differs[0] if differs else "none"),
+            f"challenge {first[0]} {printed(first[1])}" if first else "challenge none",
+        )
+    )
+
+
+def findings(claim, challenges, messages):
+    """Returns the places of the messages by lines that aren't the true ones, and the challenges that are exceptional with their numbers."""
+    tables = tables_over(claim.gates, claim.input_table)
+    k = claim.exponents[0]
+    point, behind = challenges[:k], challenges[k:]
+    differs, exceptional, messages = [], [], list(messages)
+    difference = [sub(x, y) for x, y in zip(claim.output_table, tables[0])]
     for number, x in enumerate(point):
         before, difference = difference, folded(difference, x)
         if any(one != ZERO for one in before) and all(one == ZERO for one in difference):
             exceptional.append((number, x))
     place = [(point, ONE)]
-    for layer, (gates, below, k) in enumerate(zip(circuit.gates, tables[1:], circuit.exponents[1:])):
+    for layer, (gates, below, k) in enumerate(zip(claim.gates, tables[1:], claim.exponents[1:])):
         weights = [eq_over(place, at) for at in range(len(gates))]
         drawn, behind = behind[: 2 * k + 1], behind[2 * k + 1 :]
         left, right, t = drawn[:k], drawn[k : 2 * k], drawn[2 * k]
@@ -664,18 +757,99 @@ def audit(lang, program, inputs, outputs, proof):
             if message != truth:
                 differs.append(f"{layer} line" if done == 2 * k else f"{layer} {done + 1}")
                 if value_at(message, drawn[done]) == value_at(truth, drawn[done]):
-                    exceptional.append((len(transcript.drawn) - len(behind) - 2 * k - 1 + done, drawn[done]))
+                    exceptional.append((len(challenges) - len(behind) - 2 * k - 1 + done, drawn[done]))
         place = place_below(left, right, t, False)
-    first = exceptional[0] if exceptional else None
-    return "".join(
-        line + "\n"
-        for line in (
-            verdict_of(failing),
-            "meaning same" if claimed == tables[0] else "meaning differs",
-            "message " + (differs[0] if differs else "none"),
-            f"challenge {first[0]} {printed(first[1])}" if first else "challenge none",
-        )
-    )
+    return differs, exceptional
+
+
+# Texts.
+
+
+class Refused(ValueError):
+    """A reply that begins with `refused`, and its exit status."""
+
+    def __init__(self, status, words):
+        super().__init__(words)
+        self.status, self.reply = status, f"refused {words}\n"
+
+
+class Reader:
+    """Takes a text from the left part by part, and refuses it at the first byte that isn't due."""
+
+    def __init__(self, text):
+        self.text, self.at = text, 0
+
+    def refuse(self, kind):
+        raise Refused(3, f"case {kind if self.at < len(self.text) else 'end'} {self.at}")
+
+    def next(self):
+        """Returns the next byte, which isn't taken yet, or no byte at the end."""
+        return self.text[self.at : self.at + 1]
+
+    def fixed(self, *choices, kind="section"):
+        """Takes one of some texts of one length, and returns its place among them."""
+        for at in range(len(choices[0])):
+            choices = [one for one in choices if one[at : at + 1] == self.next()] or self.refuse(kind)
+            self.at += 1
+        return choices[0]
+
+    def number(self, limit, over, after, low=0):
+        """Takes a decimal, and the byte that `after` gives for its value."""
+        value, digits = 0, 0
+        while not digits or self.next() != after(value):
+            if not self.next().isdigit() or (digits and not value):
+                self.refuse("number")
+            value = 10 * value + int(self.next())
+            if not low <= value <= limit:
+                self.refuse(over)
+            self.at, digits = self.at + 1, digits + 1
+        self.at += 1
+        return value
+
+    def counted(self, count):
+        """Takes so many bytes of any value."""
+        taken = self.text[self.at : self.at + count]
+        self.at += len(taken)
+        return taken if len(taken) == count else self.refuse("end")
+
+    def values(self, word, limit):
+        """Takes a line of this word, a count and so many numbers."""
+        self.fixed(word + b" ")
+        count = self.number(limit, "length", lambda value: b" " if value else b"\n")
+        return [self.number(P - 1, "range", lambda _: b" " if more else b"\n") for more in reversed(range(count))]
+
+    def program(self):
+        self.fixed(b"program ")
+        program = self.counted(self.number(PROGRAM, "length", lambda _: b"\n"))
+        self.fixed(b"\n")
+        return program
+
+    def proof(self):
+        self.fixed(b"proof ")
+        count, begun = 2 * self.number(PROOF, "length", lambda _: b"\n"), self.at
+        while self.at < begun + count:
+            if not re.match(rb"[0-9a-fA-F]", self.next()):
+                self.refuse("hex")
+            self.at += 1
+        self.fixed(b"\n", kind="hex")
+        return bytes.fromhex(self.text[begun : begun + count].decode())
+
+    def end(self):
+        self.fixed(b"end\n")
+        if self.next():
+            self.refuse("rest")
+
+
+# The most bytes of a program and of a proof, and the most values of a line.
+PROGRAM, PROOF, LINE = 65_536, 2_000_000, 262_144
+
+
+def line_of(word, numbers):
+    return b" ".join([word, *(b"%d" % one for one in [len(numbers), *numbers])]) + b"\n"
+
+
+def proof_line(proof):
+    return b"proof %d\n%s\n" % (len(proof), proof.hex().encode())
 
 
 # Cases.
@@ -683,25 +857,18 @@ def audit(lang, program, inputs, outputs, proof):
 
 def parts_of(case):
     """Returns a case's language, program, inputs, outputs and proof; None for what isn't there."""
-    header, length, rest = case.split(b"\n", 2)
-    if header not in (b"gkr case 1", b"gkr case 2"):
-        raise ValueError("case")
-    size = int(length.split()[1])
-    program, lines = rest[:size], rest[size + 1 :].split(b"\n")
-    if lines[-2:] != [b"end", b""]:
-        raise ValueError("case")
-    found = {line.split(b" ")[0]: line for line in lines[:-2]}
-    numbers = lambda word: [int(one) for one in found[word].split()[2:]] if word in found else None
-    proof = bytes.fromhex(lines[-3].decode()) if b"proof" in found else None
-    return int(header[9:]), program, numbers(b"input"), numbers(b"output"), proof
+    text = Reader(case)
+    lang = int(text.fixed(b"gkr case 1\n", b"gkr case 2\n", kind="header")[9:])
+    program, inputs = text.program(), text.values(b"input", LINE)
+    outputs = text.values(b"output", LINE) if text.next() == b"o" else None
+    proof = text.proof() if text.next() == b"p" else None
+    text.end()
+    return lang, program, inputs, outputs, proof
 
 
 def case_of(lang, program, inputs, outputs=None, proof=None):
-    line = lambda word, numbers: b"".join([word, b" %d" % len(numbers), *(b" %d" % one for one in numbers), b"\n"])
-    text = b"gkr case %d\nprogram %d\n%s\n%s" % (lang, len(program), program, line(b"input", inputs))
-    if outputs is not None:
-        text += line(b"output", outputs) + b"proof %d\n%s\n" % (len(proof), proof.hex().encode())
-    return text + b"end\n"
+    text = b"gkr case %d\nprogram %d\n%s\n%s" % (lang, len(program), program, line_of(b"input", inputs))
+    return text + (b"" if outputs is None else line_of(b"output", outputs) + proof_line(proof)) + b"end\n"
 
 
 def converted(case, version):
@@ -721,8 +888,7 @@ def evaluated(case):
     circuit = Circuit(lang, program.decode())
     if len(inputs) != circuit.inputs:
         raise ValueError("inputs")
-    outputs = [x for x, _ in circuit.tables(inputs)[0][1 : circuit.outputs + 1]]
-    return " ".join(["output", str(len(outputs)), *map(str, outputs)]) + "\n"
+    return line_of(b"output", circuit.values(inputs)).decode()
 
 
 def sizes(case):
@@ -731,11 +897,11 @@ def sizes(case):
     circuit = Circuit(lang, program.decode())
     if len(inputs) != circuit.inputs:
         raise ValueError("inputs")
-    first, rest = circuit.exponents[0], circuit.exponents[1:]
     products = [sum(word == "mul" for word, _, _ in gates) for gates in circuit.gates] + [0]
-    lines = [f"circuit {len(rest)}"]
+    lines = [f"circuit {len(circuit.gates)}"]
     lines += [f"layer {layer} {width} {count}" for layer, (width, count) in enumerate(zip(circuit.widths, products))]
-    lines += [f"proof {4 + sum(56 * k + 8 for k in rest)}", f"challenges {first + sum(2 * k + 1 for k in rest)}", f"bound {first + 5 * sum(rest)}"]
+    k = circuit.exponents
+    lines += [f"proof {length_of(k, '1')}", f"challenges {draws_of(k)}", f"bound {bound_of(k, '1')}"]
     return "".join(line + "\n" for line in lines)
 
 
@@ -755,14 +921,152 @@ def vector(case):
     return "".join(line + "\n" for line in lines)
 
 
+# Batches: one program on the inputs of many instances (Thaler 2013, "Time-Optimal Interactive Proofs for Circuit Evaluation"). The
+# circuit of a batch is that of copies of the program's circuit side by side, laid out whole and proved and verified as any other.
+
+Batch = collections.namedtuple("Batch", "lang program shared inputs outputs proof", defaults=(None, None))
+
+# The most bytes and values of a batch, the most copies, and the greatest exponent of a layer.
+BATCH, VALUES, COPIES, EXPONENT = 67_108_864, 4_194_304, 65_536, 24
+# The most layers above the inputs, and positions of one, by language.
+LIMITS = {1: (256, 65_536), 2: (1_024, 1_048_576)}
+
+
+def batch_of(text, is_full):
+    """Reads a batch with outputs and a proof, or without both."""
+    if len(text) > BATCH:
+        raise Refused(10, f"long {BATCH}")
+    text, left = Reader(text), VALUES
+
+    def values(word):
+        nonlocal left
+        found = text.values(word, min(LINE, left))
+        left -= len(found)
+        return found
+
+    lang = int(text.fixed(b"gkr batch 1\n", b"gkr batch 2\n", kind="header")[10:])
+    program, shared = text.program(), values(b"shared")
+    text.fixed(b"batch ")
+    copies = range(text.number(COPIES, "length", lambda _: b"\n", low=1))
+    inputs = [values(b"input") for _ in copies]
+    outputs = [values(b"output") for _ in copies] if is_full else None
+    proof = text.proof() if is_full else None
+    text.end()
+    return Batch(lang, program, shared, inputs, outputs, proof)
+
+
+def batch_text(batch):
+    text = b"gkr batch %d\nprogram %d\n%s\n" % (batch.lang, len(batch.program), batch.program)
+    text += line_of(b"shared", batch.shared) + b"batch %d\n" % len(batch.inputs)
+    text += b"".join(line_of(b"input", one) for one in batch.inputs)
+    if batch.outputs is not None:
+        text += b"".join(line_of(b"output", one) for one in batch.outputs) + proof_line(batch.proof)
+    return text + b"end\n"
+
+
+def circuit_of(batch, is_laid_out):
+    """Returns the circuit of one copy, where the program and all counts are right. Only what is proved or verified is laid out."""
+    try:
+        circuit = Circuit(batch.lang, batch.program.decode())
+    except (ValueError, LookupError, TypeError, RecursionError):
+        raise Refused(4, "program") from None
+    layers, positions = LIMITS[batch.lang]
+    if is_laid_out and len(circuit.gates) > layers:
+        raise Refused(4, f"program deep {len(circuit.gates)}")
+    for height, count in enumerate(circuit.positions if is_laid_out else []):
+        if count > positions:
+            raise Refused(4, f"program wide {height} {count}")
+    shared, copies, most = len(batch.shared), len(batch.inputs), 1 << EXPONENT - min(EXPONENT, max(circuit.exponents))
+    if shared > circuit.inputs:
+        raise Refused(5, f"count shared {shared} {circuit.inputs}")
+    if is_laid_out and copies > most:
+        raise Refused(5, f"count copies {copies} {most}")
+    own = circuit.inputs - shared
+    for copy, values in enumerate(batch.inputs):
+        if len(values) != own:
+            raise Refused(5, f"count input {copy} {len(values)} {own}")
+    if shared + copies * (own + circuit.outputs) > VALUES:
+        raise Refused(5, f"count values {shared + copies * (own + circuit.outputs)} {VALUES}")
+    for copy, values in enumerate(batch.outputs or []):
+        if len(values) != circuit.outputs:
+            raise Refused(5, f"count output {copy} {len(values)} {circuit.outputs}")
+    return circuit
+
+
+def batch_outputs(batch, circuit):
+    return [circuit.values(batch.shared + own) for own in batch.inputs]
+
+
+def batch_claim(batch, circuit):
+    """Copy c of position g is at c * 2^k + g. The copies past the last instance are copies of the last."""
+    last = len(batch.inputs) - 1
+    n = last.bit_length()
+    copies = range(1 << n)
+    gates = []
+    for layer, k in zip(circuit.gates, circuit.exponents[1:]):
+        gates.append([(word, (copy << k) + u, (copy << k) + v) for copy in copies for word, u, v in layer])
+    inputs, outputs = [], []
+    for copy in copies:
+        one = circuit.claim(batch.shared + batch.inputs[min(copy, last)], batch.outputs[min(copy, last)])
+        inputs += one.input_table
+        outputs += one.output_table
+    return Claim(gates, [k + n for k in circuit.exponents], inputs, outputs)
+
+
+def batch_statement(batch):
+    statement = words_of([len(batch.program)]) + batch.program + listed(batch.shared)
+    statement += words_of([len(batch.inputs), len(batch.inputs[0]), len(batch.outputs[0])])
+    for own, outputs in zip(batch.inputs, batch.outputs):
+        statement += hashlib.sha256(words_of(own + outputs)).digest()
+    return statement
+
+
+def batch_transcript(batch, by_pairs):
+    return Transcript(b"gkr-transcript-q" if by_pairs else b"gkr-transcript-b", batch_statement(batch))
+
+
+def eval_many(text):
+    batch = batch_of(text, False)
+    return b"".join(line_of(b"output", one) for one in batch_outputs(batch, circuit_of(batch, False)))
+
+
+def prove_many(text, kind="1"):
+    batch = batch_of(text, False)
+    circuit = circuit_of(batch, True)
+    batch = batch._replace(outputs=batch_outputs(batch, circuit))
+    proof = honest_proof(batch_claim(batch, circuit), batch_transcript(batch, kind == "pair"), kind)
+    return batch_text(batch._replace(proof=proof))
+
+
+def verify_many(text):
+    batch = batch_of(text, True)
+    claim = batch_claim(batch, circuit_of(batch, True))
+    return verdict_of(judged(claim, batch_transcript(batch, batch.proof[3:4] == b"P"), batch.proof)[0]).encode() + b"\n"
+
+
+def run_many(words, text):
+    """Returns the status and the reply of a command on batches."""
+    command, kind = words[0], words[2] if words[1:] else "1"
+    try:
+        reply = {"eval-many": eval_many, "verify-many": verify_many}[command](text) if command != "prove-many" else prove_many(text, kind)
+    except Refused as refused:
+        return refused.status, refused.reply.encode()
+    return int(reply.startswith(b"rejected")), reply
+
+
 def main(words):
     kind = words[2] if words[:2] == ["prove", "--proof"] and words[2:] in (["1"], ["2"], ["pair"]) else "1" if words == ["prove"] else None
     version = words[2] if words[:2] == ["convert", "--to"] and words[2:] in (["1"], ["2"]) else None
     shown = {"eval": evaluated, "circuit": sizes, "vector": vector}
-    if words not in (["verify"], ["audit"], *([word] for word in shown)) and not kind and not version:
+    many = words in (["eval-many"], ["prove-many"], ["verify-many"], *(["prove-many", "--proof", one] for one in ("1", "2", "pair")))
+    if words not in (["verify"], ["audit"], *([word] for word in shown)) and not kind and not version and not many:
         print(__doc__.strip(), file=sys.stderr)
         return 2
     case = sys.stdin.buffer.read()
+    if many:
+        status, reply = run_many(words, case)
+        sys.stdout.buffer.write(reply)
+        return status
     if words[0] == "prove":
         asked = parts_of(case)[:3]
         sys.stdout.buffer.write(case_of(*asked, *prove(*asked, kind)))
