@@ -14,6 +14,12 @@ with commas between them. Each indented line is a row, whose cells stand between
     filled      byte | count | reply: so many of this byte
     nested      front | open | count | inner | close | end | inputs | reply: a program that opens and closes so many times
     words       words: behind the colon stands the reply, and the rows are command lines, with the case of `input a; output a;` on 5
+    batches [in language N]   program | shared | inputs | reply: the batch of this program, these words of its line of shared values, and, with
+                ` / ` between them, of its lines of inputs; `N x WORDS` are N such lines
+    claimed_batches     program | shared | inputs | outputs | proof | reply: a batch with these outputs and this proof
+    proved_batches      program | shared | inputs | outputs | bytes of its proof by lines in version 1, in version 2, and by pairs
+    other_proofs        program | shared | inputs | outputs | shared | inputs | reply: the first batch with these outputs, and with the proof by
+                lines of the second
 
 Cells have the escapes of bytes in Python; in a program none is needed. In a reply ` / ` stands between lines, and the last one ends. The exit
 status of each command must be that of its reply, and nothing may be written to standard error.
@@ -30,6 +36,8 @@ P = 2**31 - 1
 COPY = "input a; output a;"
 PRODUCT = "input a; input b; output a*b;"
 COUNTS = ("1", "2", "3", "64")
+# Whether the program has the commands on batches. Until then scripts/check-batches tries their rows on scripts/reference.py alone.
+HAS_BATCHES = False
 
 
 def raw(cell):
@@ -58,6 +66,39 @@ def proof_of(cell):
 
 def claim_of(program, inputs, outputs, proof):
     return opened(program, inputs) + b"output %s\nproof %d\n%s\nend\n" % (outputs.encode(), len(proof), proof.hex().encode())
+
+
+def many_lines(word, cell):
+    """Returns a line of this word for each group of words in a cell, of which one may be there many times."""
+    lines = b""
+    for words in cell.split(" / "):
+        times, _, one = words.rpartition(" x ")
+        lines += b"%s %s\n" % (word, raw(one)) * int(times or 1)
+    return lines
+
+
+def opened_batch(program, shared, inputs, language=1):
+    """Returns the text of a batch up to its last line."""
+    lines = many_lines(b"input", inputs)
+    front = b"gkr batch %d\nprogram %d\n%s\nshared %s\n" % (language, len(program), program.encode(), raw(shared))
+    return front + b"batch %d\n" % lines.count(b"\n") + lines
+
+
+def batch_of(program, shared, inputs, language=1):
+    return opened_batch(program, shared, inputs, language) + b"end\n"
+
+
+def proved_lines(proof):
+    return b"proof %d\n%s\nend\n" % (len(proof), proof.hex().encode())
+
+
+def claimed_batch(program, shared, inputs, outputs, proof):
+    return opened_batch(program, shared, inputs) + many_lines(b"output", outputs) + proved_lines(proof)
+
+
+def proof_in(text):
+    """Returns the bytes of the proof in a text."""
+    return bytes.fromhex(text.split(b"\n")[-3].decode())
 
 
 def tables(path):
@@ -172,6 +213,34 @@ class Rows:
         for words in commands:
             self.sees(at, words, case_of(program, inputs), lines_of(reply))
 
+    def batches(self, at, commands, cells, language=1):
+        program, shared, inputs, reply = cells
+        for words in commands:
+            self.sees(at, words, batch_of(program, shared, inputs, language), lines_of(reply))
+
+    def claimed_batches(self, at, commands, cells):
+        *batch, proof, reply = cells
+        for words in commands:
+            self.sees(at, words, claimed_batch(*batch, proof_of(proof)), lines_of(reply))
+
+    def proved_batches(self, at, commands, cells):
+        program, shared, inputs, outputs, sizes = cells
+        batch = batch_of(program, shared, inputs)
+        for words in commands:
+            for kind, size in zip(("1", "2", "pair"), sizes.split()):
+                front = batch[:-4] + many_lines(b"output", outputs) + b"proof %s\n" % size.encode()
+                is_right = lambda text, front=front, size=size: text.startswith(front) and len(text) == len(front) + 2 * int(size) + 5
+                text = self.written(at, [*words, "--proof", kind], batch, is_right)
+                self.sees(at, ["verify-many"], text, b"accepted\n")
+                self.sees(at, [*words, "--workers", "3", f"--proof={kind}"], batch, text)
+
+    def other_proofs(self, at, commands, cells):
+        program, shared, inputs, outputs, *others, reply = cells
+        other = batch_of(program, *others)
+        proved = self.written(at, ["prove-many"], other, lambda text: text.startswith(other[:-4]))
+        for words in commands:
+            self.sees(at, words, claimed_batch(program, shared, inputs, outputs, proof_in(proved)), lines_of(reply))
+
     def table(self, path, head, rows):
         kind, rest = head.split(":", 1)
         kind, _, language = kind.partition(" in language ")
@@ -277,7 +346,7 @@ def generated_cases(rows):
     program = "input a[2][2]; input b[2][2]; output sum(matmul(a,b));"
     for number, inputs, output in (("0", "8 1 2 3 4 5 6 7 8", "134"), ("4294967295", "8 2 3 4 5 6 7 8 9", "214")):
         text = rows.one_proof(at, ["prove"], case_of(program, inputs), f"1 {output}", 828)
-        digest = hashlib.sha256(bytes.fromhex(text.split(b"\n")[-3].decode())).hexdigest()
+        digest = hashlib.sha256(proof_in(text)).hexdigest()
         reply = f"demo {number} / size 2 / output {output} / layers 5 / proof 828 / digest {digest} / accepted"
         rows.sees(at, ["demo", number], b"", lines_of(reply))
     for number in range(15):
@@ -363,10 +432,65 @@ def scripts(rows):
     rows.sees(at, ["serve"], text, b"refused case number 2949167\n")
 
 
+def begun_batch(name, shared, instances):
+    """Returns the state that a transcript of this name begins in, for COPY on a batch of such inputs and one output each."""
+    spelt = lambda *numbers: b"".join(number.to_bytes(4, "little") for number in numbers)
+    data = spelt(len(COPY)) + COPY.encode() + spelt(len(shared), *shared, len(instances), 1 - len(shared), 1)
+    return hashed(name + b"\n" + data + b"".join(hashed(spelt(*own, output)) for own, output in instances))
+
+
+def false_batches(rows):
+    """Verdicts that have a challenge in them, by SHA-256 alone: where all messages are zeros, the claim before the first sum is left over. Of
+    three instances one has the output 1, the first or the last, which stands for the copies 2 and 3: those with the high bit."""
+    at = "false batches"
+    rest = lambda x: ((1 - x[0]) % P, -x[1] % P)
+    first, last = lambda low, high: times(rest(low), rest(high)), lambda low, high: high
+    for shared, own in (([], [0]), ([0], [])):
+        for outputs, weight in (((1, 0, 0), first), ((0, 0, 1), last)):
+            cells = [" ".join(map(str, [len(shared), *shared])), "3 x " + " ".join(map(str, [len(own), *own])), " / ".join(f"1 {one}" for one in outputs)]
+            for name, proof in ((b"gkr-transcript-b", "GKR1 176"), (b"gkr-transcript-q", "GKRP 160")):
+                state, drawn = begun_batch(name, shared, [(own, output) for output in outputs]), []
+                for _ in range(3):
+                    state = hashed(state, b"\x02")
+                    drawn.append(challenge(state))
+                reply = "rejected sum 0 1 0,0 %d,%d" % times(drawn[0], weight(*drawn[1:]))
+                rows.sees(at, ["verify-many"], claimed_batch(COPY, *cells, proof_of(proof)), lines_of(reply))
+
+
+def wide_batches(rows):
+    """As many copies, bytes and values as a batch may have, and more."""
+    at = "wide batches"
+    rows.sees(at, ["eval-many"], batch_of(COPY, "0", "65536 x 1 5"), b"output 1 5\n" * 65_536)
+    rows.sees(at, ["eval-many"], batch_of(COPY, "0", "65537 x 1 5"), b"refused case length 61\n")
+    # Sixteen lines have all but one of the values that there may be.
+    line, less = b"262144" + b" 0" * 262_144 + b"\n", b"262143" + b" 0" * 262_143 + b"\n"
+    front = b"gkr batch 1\nprogram 18\n" + COPY.encode() + b"\nshared " + line + b"batch 16\n" + (b"input " + line) * 14 + b"input " + less
+    rows.sees(at, ["eval-many"], front + b"input 1 0\nend\n", b"refused count shared 262144 1\n")
+    rows.sees(at, ["eval-many"], front + b"input 2 0\nend\n", b"refused case length %d\n" % (len(front) + 6))
+
+
+def tables_in(top, wanted):
+    """Returns the tables of these files of tests/, each with its path."""
+    found = []
+    for path in sorted(glob.glob(f"{top}/tests/*.rows")):
+        if wanted(os.path.basename(path)):
+            found += [(os.path.relpath(path, top), *one) for one in tables(path)]
+    return found
+
+
+def run_batches(rows, top):
+    """What there is on batches."""
+    for one in tables_in(top, lambda name: name == "many.rows"):
+        rows.table(*one)
+    for part in (false_batches, wide_batches):
+        part(rows)
+
+
 def run(top, gkr, tell, status_of):
     rows = Rows(gkr, tell, status_of)
-    for path in sorted(glob.glob(f"{top}/tests/*.rows")):
-        for head, table in tables(path):
-            rows.table(os.path.relpath(path, top), head, table)
+    for one in tables_in(top, lambda name: name != "many.rows"):
+        rows.table(*one)
     for part in (false_claims, heights, chains, digits_of_proofs, generated_cases, many_workers, scripts):
         part(rows)
+    if HAS_BATCHES:
+        run_batches(rows, top)
