@@ -1,11 +1,13 @@
 #!/usr/bin/env python3
-"""The runs of examples/vectors/all.jsonl. `scripts/check-program` compares each with the program and with scripts/reference.py.
+"""The runs of examples/vectors/all.jsonl and batches.jsonl. `scripts/check-program` compares each with the program and with
+scripts/reference.py, and `scripts/check-batches` those on batches with the reference alone.
 
     scripts/vectors.py COMMAND.. < INPUT     prints the line of a run, once program and reference agree on it
 
 A line is an object with `args`, the words after the program's name; `input`, `reply`, what is read and what is written, where each
-character is the byte of its number; and `status`. The reference knows no refusals but these by their words: of a refusal only the
-program is asked here, and what is in the file was worked out by hand from the documents.
+character is the byte of its number; and `status`. The reference knows no refusals but these by their words, and those of batches: of
+another only the program is asked here, and what is in the file was worked out by hand from the documents. A line on batches is the
+reference's until the program has their commands.
 """
 
 import json
@@ -17,14 +19,17 @@ sys.path.insert(0, os.path.dirname(os.path.abspath(__file__)))
 sys.dont_write_bytecode = True
 
 import reference
+import rows
 
 TOP = os.path.realpath(os.path.join(os.path.dirname(os.path.abspath(__file__)), ".."))
-FILE = "examples/vectors/all.jsonl"
+CASES, BATCHES = "examples/vectors/all.jsonl", "examples/vectors/batches.jsonl"
 
 
 def computed(args, text):
-    """Returns the status and the reply by the reference, of runs that it can do and that aren't refused."""
+    """Returns the status and the reply by the reference, of runs that it can do and that aren't refused, or are on batches."""
     command, *options = args
+    if command.endswith("-many"):
+        return reference.run_many(args, text)
     if command == "eval":
         return 0, reference.evaluated(text).encode()
     if command == "circuit":
@@ -53,21 +58,30 @@ def faults(gkr, args, text, status, reply):
     found = []
     if (ran.returncode, ran.stdout, ran.stderr) != (status, reply, b""):
         found.append(f"gkr ends with {ran.returncode} and writes {ran.stdout[:200]!r} {ran.stderr[:200]!r}")
-    if status in (0, 1):
+    if status in (0, 1) or args[0].endswith("-many"):
         own = computed(args, text)
         if own and own != (status, reply):
             found.append(f"the reference says {own[0]} and {own[1][:200]!r}")
     return found
 
 
+def runs_of(top, file):
+    """Returns the runs of a file: where each is, its words, what is read, and the status and the reply."""
+    with open(os.path.join(top, file), encoding="ascii") as it:
+        runs = [json.loads(line) for line in it.read().split("\n")[:-1]]
+    bytes_of = lambda text: text.encode("latin-1")
+    return [
+        (f"{file}:{number}: {' '.join(run['args'])}", run["args"], bytes_of(run["input"]), run["status"], bytes_of(run["reply"]))
+        for number, run in enumerate(runs, 1)
+    ]
+
+
 def check(top, gkr, tell):
-    with open(os.path.join(top, FILE), encoding="ascii") as it:
-        lines = it.read().split("\n")[:-1]
-    for number, line in enumerate(lines, 1):
-        run = json.loads(line)
-        wrong = faults(gkr, run["args"], run["input"].encode("latin-1"), run["status"], run["reply"].encode("latin-1"))
-        tell(not wrong, f"{FILE}:{number}: {' '.join(run['args'])}: {'; '.join(wrong)}")
-    tell(len(lines) >= 100, f"{FILE} has fewer than a hundred runs")
+    runs = runs_of(top, CASES)
+    tell(len(runs) >= 100, f"{CASES} has fewer than a hundred runs")
+    for at, *run in runs + (runs_of(top, BATCHES) if rows.HAS_BATCHES else []):
+        wrong = faults(gkr, *run)
+        tell(not wrong, f"{at}: {'; '.join(wrong)}")
 
 
 def main(words):
@@ -76,12 +90,16 @@ def main(words):
         return 2
     gkr = os.path.realpath(os.environ.get("GKR") or os.path.join(TOP, "crates", "gkr", "out", "gkr"))
     text = sys.stdin.buffer.read()
-    ran = subprocess.run([gkr, *words], input=text, stdout=subprocess.PIPE, check=False)
-    wrong = faults(gkr, words, text, ran.returncode, ran.stdout)
-    if wrong:
-        print("; ".join(wrong), file=sys.stderr)
-        return 1
-    run = {"args": words, "input": text.decode("latin-1"), "reply": ran.stdout.decode("latin-1"), "status": ran.returncode}
+    if words[0].endswith("-many") and not rows.HAS_BATCHES:
+        status, reply = computed(words, text)
+    else:
+        ran = subprocess.run([gkr, *words], input=text, stdout=subprocess.PIPE, check=False)
+        status, reply = ran.returncode, ran.stdout
+        wrong = faults(gkr, words, text, status, reply)
+        if wrong:
+            print("; ".join(wrong), file=sys.stderr)
+            return 1
+    run = {"args": words, "input": text.decode("latin-1"), "reply": reply.decode("latin-1"), "status": status}
     print(json.dumps(run))
     return 0
 
