@@ -69,7 +69,7 @@ module _ {A : Type 0} (o : Ops A) (l : Laws A o) (z : List A) where
       ((var 0 ⊕ var 1) ⊗ var 2 ⊕ (var 3 ⊕ var 4)) (var 0 ⊗ var 2 ⊕ var 3 ⊕ (var 1 ⊗ var 2 ⊕ var 4)) refl
 
   -- what is the same in all instances is there once
-  shared_once : (count : ℕ) (y : List A) (x : A) (f : ℕ → A) → 1 ≤ count →
+  pub shared_once : (count : ℕ) (y : List A) (x : A) (f : ℕ → A) → 1 ≤ count →
       sum_below o count (λ m. o.mul (instance_weight o y count m) (o.add x (f m))) ≡ o.add x (sum_below o count (λ m. o.mul (instance_weight o y count m) (f m)))
   shared_once count y x f some =
       sum_below-same o l count _ _ (λ m u. l.mul_add (instance_weight o y count m) x (f m))

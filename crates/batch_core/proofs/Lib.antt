@@ -4,5 +4,8 @@ mod BatchTables
 mod FilledWeights
 mod WholePoints
 mod Inputs
+mod WeightedSums
+mod ListedTables
+mod ListedValues
 mod OneInstance
 mod Worked

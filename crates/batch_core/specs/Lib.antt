@@ -3,3 +3,4 @@ pub mod CopiedWiring
 pub mod CopiedValues
 pub mod BatchClaim
 pub mod Examples
+pub mod ListedInstances

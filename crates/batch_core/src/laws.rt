@@ -11,10 +11,12 @@ ghost use Rattle.wiring_poly.specs.Wiring.{wiring_add, wiring_mul};
 ghost use Rattle.proof_wire.specs.declared.form.ProofForm.{ProofForm};
 ghost use Rattle.gkr_layers.specs.Layers.{FitTogether, layers_of, values_over};
 ghost use Rattle.gkr_layers.specs.Acceptance.{claim_in, true_table};
-ghost use Rattle.batch_core.specs.Copies.{copies, copies_table, copied_layers, copy_exponent, instance_of};
+ghost use Rattle.batch_core.specs.declared.instances.Instances.{Instances};
+ghost use Rattle.batch_core.specs.Copies.{joined, copies, copies_table, copied_layers, copy_exponent, instance_of};
 ghost use Rattle.batch_core.specs.CopiedWiring.{same_copy, same_bits};
 ghost use Rattle.batch_core.specs.CopiedValues.{instance_weight, shared_part, own_part};
 ghost use Rattle.batch_core.specs.BatchClaim.{Instance, instance_at, claim_of_batch, HaveOutputs, AreTrue};
+ghost use Rattle.batch_core.specs.ListedInstances.{instances_of, AreInstancesOf};
 
 /// The copies' exponent is the least with a copy for each instance.
 pub fn least_exponent()
@@ -111,4 +113,19 @@ pub fn weights()
     ensures last { (last : ℕ) (y : List K) → last < 2 ^ length y
         → instance_weight k_ops y (last + 1) last ≡ sum_below k_ops (2 ^ length y - last)
         (λ c. eq_poly k_ops y (last + c)) }
+{}
+
+/// Instances that are listed are as many as is said, and one after another have the values of the lists, each as many outputs as the
+/// circuit.
+pub fn listed_instances()
+    ensures count { (p : Parts) (listed : Instances)
+        → length (instances_of p listed) ≡ listed.count }
+    ensures own { (p : Parts) (listed : Instances) → AreInstancesOf p listed
+        → joined listed.count (λ m. (instance_at (instances_of p listed) m).own)
+        ≡ listed.own.now }
+    ensures outputs { (p : Parts) (listed : Instances) → AreInstancesOf p listed
+        → joined listed.count (λ m. (instance_at (instances_of p listed) m).outputs)
+        ≡ listed.outputs.now }
+    ensures as_many { (p : Parts) (listed : Instances) → AreInstancesOf p listed
+        → HaveOutputs p (instances_of p listed) }
 {}

@@ -14,9 +14,13 @@
 mod copied_wiring;
 mod copies;
 pub mod examples;
+mod instances;
 pub mod laws;
+mod sums;
+mod value_weights;
 mod weights;
 
 pub use copied_wiring::{same_copy, wiring_of_copies};
 pub use copies::copy_exponent;
+pub use instances::{Instances, claimed_extension, input_extension};
 pub use weights::fill_weights;
