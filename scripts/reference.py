@@ -816,6 +816,12 @@ class Reader:
         """Takes a line of this word, a count and so many numbers."""
         self.fixed(word + b" ")
         count = self.number(limit, "length", lambda value: b" " if value else b"\n")
+        # A line of many numbers that are right is taken at once; any other is read byte by byte, for the place.
+        found = NUMBERS.match(self.text, self.at) if count else None
+        numbers = [int(one) for one in found[1].split(b" ")] if found else []
+        if found and len(numbers) == count and max(numbers) < P:
+            self.at = found.end()
+            return numbers
         return [self.number(P - 1, "range", lambda _: b" " if more else b"\n") for more in reversed(range(count))]
 
     def program(self):
@@ -840,6 +846,7 @@ class Reader:
             self.refuse("rest")
 
 
+NUMBERS = re.compile(rb"((?:0|[1-9][0-9]{0,9})(?: (?:0|[1-9][0-9]{0,9}))*)\n")
 # The most bytes of a program and of a proof, and the most values of a line.
 PROGRAM, PROOF, LINE = 65_536, 2_000_000, 262_144
 
@@ -1046,9 +1053,15 @@ def verify_many(text):
 
 def run_many(words, text):
     """Returns the status and the reply of a command on batches."""
-    command, kind = words[0], words[2] if words[1:] else "1"
     try:
-        reply = {"eval-many": eval_many, "verify-many": verify_many}[command](text) if command != "prove-many" else prove_many(text, kind)
+        if words[0] == "prove-many" and words[1:] in ([], ["--proof", "1"], ["--proof", "2"], ["--proof", "pair"]):
+            reply = prove_many(text, (words[2:] or ["1"])[0])
+        elif words == ["eval-many"]:
+            reply = eval_many(text)
+        elif words == ["verify-many"]:
+            reply = verify_many(text)
+        else:
+            raise Refused(2, "usage")
     except Refused as refused:
         return refused.status, refused.reply.encode()
     return int(reply.startswith(b"rejected")), reply
@@ -1058,7 +1071,7 @@ def main(words):
     kind = words[2] if words[:2] == ["prove", "--proof"] and words[2:] in (["1"], ["2"], ["pair"]) else "1" if words == ["prove"] else None
     version = words[2] if words[:2] == ["convert", "--to"] and words[2:] in (["1"], ["2"]) else None
     shown = {"eval": evaluated, "circuit": sizes, "vector": vector}
-    many = words in (["eval-many"], ["prove-many"], ["verify-many"], *(["prove-many", "--proof", one] for one in ("1", "2", "pair")))
+    many = words and words[0].endswith("-many")
     if words not in (["verify"], ["audit"], *([word] for word in shown)) and not kind and not version and not many:
         print(__doc__.strip(), file=sys.stderr)
         return 2

@@ -230,9 +230,10 @@ class Rows:
             for kind, size in zip(("1", "2", "pair"), sizes.split()):
                 front = batch[:-4] + many_lines(b"output", outputs) + b"proof %s\n" % size.encode()
                 is_right = lambda text, front=front, size=size: text.startswith(front) and len(text) == len(front) + 2 * int(size) + 5
-                text = self.written(at, [*words, "--proof", kind], batch, is_right)
+                option = [] if kind == "1" else [f"--proof={kind}"]
+                text = self.written(at, [*words, *option], batch, is_right)
                 self.sees(at, ["verify-many"], text, b"accepted\n")
-                self.sees(at, [*words, "--workers", "3", f"--proof={kind}"], batch, text)
+                self.sees(at, [*words, "--workers", "3", *option], batch, text)
 
     def other_proofs(self, at, commands, cells):
         program, shared, inputs, outputs, *others, reply = cells
