@@ -74,11 +74,15 @@ def layer_name(at, count):
 
 def legend(y, layers, wrong=()):
     """The categories that layers have, in words, and the mark of an output that is claimed as another value."""
-    parts, x = [], 130
+    parts = []
     words = [(one + " box", f"{SIGNS.get(one, '')} {WORDS[one]}".strip()) for one in layout.CATEGORIES if any(it.counts[one] for it in layers)]
-    for kind, word in words + ([("carried wrong", "claimed as another value")] if wrong else []):
+    words += [("carried wrong", "claimed as another value")] if wrong else []
+    wide_of = lambda word: 32 + 6.2 * len(word)
+    # Below the layers where it fits there, and else as far to the left as it has to.
+    x = max(8, min(130, WIDE - sum(wide_of(word) for _, word in words)))
+    for kind, word in words:
         parts += [rect(x, y - 9, 12, 11, kind), told(x + 17, y, word, "n")]
-        x += 32 + 6.2 * len(word)
+        x += wide_of(word)
     return parts
 
 
